@@ -1,0 +1,6 @@
+-- The count of faults of an edge: a `u64` that never falls, and stands still at its greatest value.
+use Rattle.std.specs.Prelude.{◌≡◌, ◌⊎◌, ◌-◌, ◌<◌, ◌^◌, ℕ}
+
+-- the count rose, or stands at the end of its type
+abbrev pub Rose : ℕ → ℕ → Type 0
+Rose old new = (old < new) ⊎ (new ≡ 2 ^ 64 - 1)

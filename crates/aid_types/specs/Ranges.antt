@@ -1,0 +1,33 @@
+-- The ranges of the numbers that filings hold.
+use Rattle.std.specs.Prelude.{ℕ, ◌≤◌, ℤ, pos, neg_ℤ, ◌≤ℤ◌, List, slice_index_or}
+
+-- low to high
+abbrev pub IsBetween : ℕ → ℕ → ℕ → Type 0
+IsBetween low high n = (low ≤ n) × (n ≤ high)
+
+-- the same for a number that may be negative
+abbrev pub IsWithin : ℤ → ℤ → ℤ → Type 0
+IsWithin low high z = (low ≤ℤ z) × (z ≤ℤ high)
+
+-- an amount of a household or of a book, in dollars
+abbrev pub IsAmount : ℤ → Type 0
+IsAmount z = IsWithin (pos 0) (pos 99999999) z
+
+-- an amount that may be negative, as an adjusted gross income
+abbrev pub IsSignedAmount : ℤ → Type 0
+IsSignedAmount z = IsWithin (neg_ℤ (pos 99999999)) (pos 99999999) z
+
+-- an amount of a book that is at most 0
+abbrev pub IsFloor : ℤ → Type 0
+IsFloor z = IsWithin (neg_ℤ (pos 999999)) (pos 0) z
+
+-- a rate in ten-thousandths, and a percent
+abbrev pub IsRate : ℤ → Type 0
+IsRate z = IsWithin (pos 0) (pos 10000) z
+
+abbrev pub IsPercent : ℤ → Type 0
+IsPercent z = IsWithin (pos 1) (pos 9999) z
+
+-- each of a list of amounts
+abbrev pub EachIsAmount : List ℤ → Type 0
+EachIsAmount zs = (k : ℕ) → IsAmount (slice_index_or zs k (pos 0))

@@ -1,0 +1,62 @@
+//! The numbers that name years, students and schools.
+use std::marker::Model;
+
+/// An award year, by the first of its two calendar years: 2000 to 2099.
+#[derive(Clone, Copy, PartialEq, Eq, PartialOrd, Ord, Debug)]
+pub struct Year(pub u16);
+
+impl Model for Year {
+    ghost use Rattle.std.specs.Prelude.{ℕ};
+    ghost use Rattle.aid_types.specs.Ranges.{IsBetween};
+
+    ghost Value = { ℕ };
+
+    ghost view = { λ y. y.0 };
+
+    ghost invariant = { λ y. IsBetween 2000 2099 y.0 };
+
+    ghost inverse = { λ n. record { 0 = n } };
+}
+
+/// A student's number: 1 to 999,999,999,999.
+#[derive(Clone, Copy, PartialEq, Eq, PartialOrd, Ord, Debug)]
+pub struct Student(pub u64);
+
+impl Model for Student {
+    ghost use Rattle.std.specs.Prelude.{ℕ};
+    ghost use Rattle.aid_types.specs.Ranges.{IsBetween};
+
+    ghost Value = { ℕ };
+
+    ghost view = { λ s. s.0 };
+
+    ghost invariant = { λ s. IsBetween 1 999999999999 s.0 };
+
+    ghost inverse = { λ n. record { 0 = n } };
+}
+
+/// A school's code: 0, the office's own desk, to 999,999.
+#[derive(Clone, Copy, PartialEq, Eq, PartialOrd, Ord, Debug)]
+pub struct School(pub u32);
+
+impl Model for School {
+    ghost use Rattle.std.specs.Prelude.{ℕ, ◌≤◌};
+
+    ghost Value = { ℕ };
+
+    ghost view = { λ s. s.0 };
+
+    ghost invariant = { λ s. s.0 ≤ 999999 };
+
+    ghost inverse = { λ n. record { 0 = n } };
+}
+
+ghost use Rattle.aid_types.specs.Ranges.{IsBetween};
+
+/// What names a filing: its school and a number that the school gives it, 1 to 999,999,999,999.
+#[derive(Clone, Copy, PartialEq, Eq, Debug)]
+pub struct Key {
+    pub school: School,
+    pub number: u64,
+    pub ghost in_range: { IsBetween 1 999999999999 number },
+}
