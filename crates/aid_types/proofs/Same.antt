@@ -1,25 +1,36 @@
 -- The derived `==` of these types is equality.
-use Rattle.std.proofs.Common.{◌≡◌, ℕ, ℤ, Bool, true, false, ◌&&◌, List, [], ◌∷◌, ◌≤◌, ◌≤ℤ◌, refl, sym, ap, subst, ◌∙◌, arith}
+use Rattle.std.proofs.Common.{◌≡◌, ℕ, ℤ, Bool, true, false, ◌&&◌, ◌≤ℤ◌, refl, ap, subst, arith, sym, ◌∙◌, Decides}
 use Rattle.std.specs.Prelude.{nat_eq, T}
 use Rattle.std.specs.Ordering.{int_eq}
 use Rattle.std.specs.Coded.{×_prop, le_prop}
 use Rattle.std.proofs.Common.{rules}
-use Rattle.std.proofs.lemmas.Bool.{and_parts, and_from, eqb-true, eq-eqb}
+use Rattle.std.proofs.lemmas.Bool.{and_parts, and_from, eqb-true, eq-eqb, true≢false}
 use Rattle.std.proofs.lemmas.Bool.Decides.{Decides-int_eq}
 use Rattle.std.proofs.lemmas.Cmp.{int_eq_equiv}
 use Rattle.std.proofs.lemmas.Int.{ints}
 use Rattle.aid_types.specs.Ranges.{IsAmount, IsBetween, IsSignedAmount}
-use Rattle.aid_types.specs.declared.number.Year.{Year}
 use Rattle.aid_types.specs.declared.number.Key.{Key}
 use Rattle.aid_types.specs.declared.application.Side.{Side}
-use Rattle.aid_types.specs.contracts.number.YearPartialEq.TheImpl.{eq-value as year_eq}
-use Rattle.aid_types.specs.contracts.number.KeyPartialEq.TheImpl.{eq-value as key_eq}
+use Rattle.aid_types.specs.declared.filing.Filing.{Filing}
+use Rattle.aid_types.specs.declared.filing.PriorFacts.{PriorFacts}
+use Rattle.aid_types.specs.declared.filing.SchoolFacts.{SchoolFacts}
+use Rattle.aid_types.specs.declared.filing.What.{What}
+use Rattle.aid_types.specs.declared.filing.What.TheVariants.{School, Prior}
+use Rattle.aid_types.specs.contracts.filing.FilingPartialEq.TheImpl.{eq-value as filing_eq, ghosts as filing_ghosts}
+use Rattle.aid_types.specs.contracts.filing.PriorFactsPartialEq.TheImpl.{eq-value as prior_facts_eq}
+use Rattle.aid_types.specs.contracts.filing.SchoolFactsPartialEq.TheImpl.{eq-value as school_facts_eq}
+use Rattle.aid_types.specs.contracts.filing.WhatPartialEq.TheImpl.{eq-value as what_eq}
+use Rattle.aid_types.specs.contracts.number.KeyPartialEq.TheImpl.{eq-value as key_eq, ghosts as key_ghosts}
 use Rattle.aid_types.specs.contracts.application.SidePartialEq.TheImpl.{eq-value as side_eq}
 
 -- a test tells its values apart, and only those
 pub record Tells {A : Type 0} (test : A → A → Bool) : Type 0 where
   pub same : (a b : A) → test a b ≡ true → a ≡ b
   pub told : (a : A) → test a a ≡ true
+
+-- so an answer of the test decides equality
+pub decides : {A : Type 0} {test : A → A → Bool} → Tells test → (a b : A) (r : Bool) → r ≡ test a b → Decides r (a ≡ b)
+decides {A} {test} t a b r e = (λ h. t.same a b (sym e ∙ h), λ k. e ∙ subst (λ (x : A). test a x ≡ true) k (t.told a))
 
 -- the test of a pair
 pub tells_pair : {A B : Type 0} {p : A → A → Bool} {q : B → B → Bool} → Tells p → Tells q → Tells (λ (x y : A × B). p x.0 y.0 && q x.1 y.1)
@@ -43,17 +54,17 @@ same_with_fact {A} {B} P make prop b c p q e =
     subst (λ (d : B). (r : P d) → make b p ≡ make d r) e (λ r. ap (make b) (prop b p r)) q
 
 -- ---- numbers, and the newtypes that contracts see as numbers
-tells_ℕ : Tells nat_eq
+pub tells_ℕ : Tells nat_eq
 tells_ℕ = record { same = eqb-true; told = λ x. eq-eqb x x refl }
 
-tells_ℤ : Tells int_eq
+pub tells_ℤ : Tells int_eq
 tells_ℤ = record { same = λ x y h. first_of (search (rules, Decides-int_eq), grind (arith, ints)); told = int_eq_equiv.refl }
 
 T-prop : (b : Bool) → IsProp (T b)
 T-prop true = λ x y. refl
 T-prop false = λ x y. absurd x
 
-le_ℤ-prop : (a b : ℤ) → IsProp (a ≤ℤ b)
+pub le_ℤ-prop : (a b : ℤ) → IsProp (a ≤ℤ b)
 le_ℤ-prop a b = hlevel (T-prop)
 
 -- ---- structs
@@ -90,3 +101,59 @@ side_whole x y e =
 pub tells_side : Tells side_eq.it
 unfolding side_parts
 tells_side = tells_by side_parts side_whole (tells_pair tells_ℤ (tells_pair tells_ℤ (tells_pair tells_ℤ (tells_pair tells_ℤ (tells_pair tells_ℤ (tells_pair tells_ℤ (tells_pair tells_ℤ (tells_pair tells_ℤ (tells_pair tells_ℤ (tells_pair tells_ℤ (tells_pair tells_ℤ (tells_pair tells_ℤ (tells_pair tells_ℤ (tells_pair tells_ℤ (tells_pair tells_ℤ tells_ℤ)))))))))))))))
+
+-- ---- filings
+school_facts_parts : SchoolFacts → ℕ × (ℕ × ℕ)
+school_facts_parts s = (s.code, (s.terms, s.full))
+
+school_facts_whole : (x y : SchoolFacts) → school_facts_parts x ≡ school_facts_parts y → x ≡ y
+unfolding school_facts_parts
+school_facts_whole x y e =
+    let P : ℕ × (ℕ × ℕ) → Type 0 = λ b. IsBetween 1 999999 b.0 × IsBetween 2 3 b.1.0 × IsBetween 1 40 b.1.1 in
+    let make : (b : ℕ × (ℕ × ℕ)) → P b → SchoolFacts = λ b p. record { code = b.0; terms = b.1.0; full = b.1.1; in_range = p } in
+    same_with_fact P make (λ b. hlevel (le_prop)) (school_facts_parts x) (school_facts_parts y) x.in_range y.in_range e
+
+pub tells_school_facts : Tells school_facts_eq.it
+unfolding school_facts_parts
+tells_school_facts = tells_by school_facts_parts school_facts_whole (tells_pair tells_ℕ (tells_pair tells_ℕ tells_ℕ))
+
+prior_facts_parts : PriorFacts → ℕ × ℕ
+prior_facts_parts p = (p.student, p.units)
+
+prior_facts_whole : (x y : PriorFacts) → prior_facts_parts x ≡ prior_facts_parts y → x ≡ y
+unfolding prior_facts_parts
+prior_facts_whole x y e = let make : ℕ × ℕ → PriorFacts = λ b. record { student = b.0; units = b.1 } in ap make e
+
+pub tells_prior_facts : Tells prior_facts_eq.it
+unfolding prior_facts_parts
+tells_prior_facts = tells_by prior_facts_parts prior_facts_whole (tells_pair tells_ℕ tells_ℕ)
+
+pub tells_what : Tells what_eq.it
+tells_what = record { same = same; told = told } where
+  same : (x y : What) → what_eq.it x y ≡ true → x ≡ y
+  same (School x) (School y) h = ap School (tells_school_facts.same x y h)
+  same (Prior x) (Prior y) h = ap Prior (tells_prior_facts.same x y h)
+  same (School x) (Prior y) h = absurd (true≢false (sym h))
+  same (Prior x) (School y) h = absurd (true≢false (sym h))
+
+  told : (x : What) → what_eq.it x x ≡ true
+  told (School x) = tells_school_facts.told x
+  told (Prior x) = tells_prior_facts.told x
+
+filing_parts : Filing → Key × What
+filing_parts f = (f.key, f.what)
+
+filing_whole : (x y : Filing) → filing_parts x ≡ filing_parts y → x ≡ y
+unfolding filing_parts
+filing_whole x y e = let make : Key × What → Filing = λ b. record { key = b.0; what = b.1 } in ap make e
+
+pub tells_filing : Tells filing_eq.it
+unfolding filing_parts
+tells_filing = tells_by filing_parts filing_whole (tells_pair tells_key tells_what)
+
+-- what a derive above compares by
+pub key_eq-Decides : (a b : Key) → Decides (key_ghosts.eq a b) (a ≡ b)
+key_eq-Decides a b = decides tells_key a b (key_ghosts.eq a b) refl
+
+pub filing_eq-Decides : (a b : Filing) → Decides (filing_ghosts.eq a b) (a ≡ b)
+filing_eq-Decides a b = decides tells_filing a b (filing_ghosts.eq a b) refl

@@ -1,5 +1,6 @@
 -- The ranges of the numbers that filings hold.
-use Rattle.std.specs.Prelude.{ℕ, ◌≤◌, ℤ, pos, neg_ℤ, ◌≤ℤ◌, List, slice_index_or}
+use Rattle.std.specs.Prelude.{ℕ, ◌≤◌, ℤ, pos, neg_ℤ, ◌≤ℤ◌, int_le, Bool, ◌&&◌, List, IsTrue}
+use Rattle.std.specs.List.{list_all}
 
 -- low to high
 abbrev pub IsBetween : ℕ → ℕ → ℕ → Type 0
@@ -28,6 +29,10 @@ IsRate z = IsWithin (pos 0) (pos 10000) z
 abbrev pub IsPercent : ℤ → Type 0
 IsPercent z = IsWithin (pos 1) (pos 9999) z
 
--- each of a list of amounts
+-- the test of an amount
+abbrev pub is_amount : ℤ → Bool
+is_amount z = int_le (pos 0) z && int_le z (pos 99999999)
+
+-- each of a list is an amount: a test, so that it computes at a literal
 abbrev pub EachIsAmount : List ℤ → Type 0
-EachIsAmount zs = (k : ℕ) → IsAmount (slice_index_or zs k (pos 0))
+EachIsAmount zs = IsTrue (list_all is_amount zs)

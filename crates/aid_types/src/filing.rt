@@ -1,4 +1,5 @@
 //! What a desk files.
+ghost use Rattle.std.specs.Prelude.{◌≡◌, ◌↔◌, IsTrue};
 ghost use Rattle.aid_types.specs.Ranges.{IsBetween};
 
 use crate::number::{Key, Student};
@@ -31,4 +32,31 @@ pub enum What {
 pub struct Filing {
     pub key: Key,
     pub what: What,
+}
+
+impl SchoolFacts {
+    /// Whether two schools' facts are equal.
+    pub fn is_same(&self, other: &SchoolFacts) -> bool
+        ensures { IsTrue result ↔ (self.now ≡ other.now) }
+    {
+        *self == *other
+    }
+}
+
+impl PriorFacts {
+    /// Whether two prior uses are equal.
+    pub fn is_same(&self, other: &PriorFacts) -> bool
+        ensures { IsTrue result ↔ (self.now ≡ other.now) }
+    {
+        *self == *other
+    }
+}
+
+impl Filing {
+    /// Whether two filings are equal.
+    pub fn is_same(&self, other: &Filing) -> bool
+        ensures { IsTrue result ↔ (self.now ≡ other.now) }
+    {
+        *self == *other
+    }
 }

@@ -5,11 +5,17 @@ mod ages;
 mod application;
 mod book;
 mod boxed;
+mod day;
+mod fields;
 mod filing;
 mod marginal;
 mod name;
 mod number;
+mod numbers;
 mod reply;
+mod term;
+#[cfg(test)]
+mod tests;
 
 pub use ages::{AgeRow, Ages};
 pub use application::{Application, Region, Side};
@@ -18,8 +24,12 @@ pub use book::{
     Protection, Schedule,
 };
 pub use boxed::BoxedBook;
+pub use day::Day;
+pub use fields::{Field, Kind, PRIOR_FIELDS, SCHOOL_FIELDS, Width};
 pub use filing::{Filing, PriorFacts, SchoolFacts, What};
 pub use marginal::{Bracket, Brackets};
 pub use name::Name;
-pub use number::{Key, School, Student, Year};
+pub use number::{Key, Program, School, Student, Year};
+pub use numbers::Numbers;
 pub use reply::{Ask, Formula, Outcome, Refusal, Reply, Verdict, Way};
+pub use term::{Breaks, Term};

@@ -51,6 +51,18 @@ impl Model for School {
     ghost inverse = { λ n. record { 0 = n } };
 }
 
+ghost use Rattle.std.specs.Prelude.{◌≡◌, ◌↔◌, IsTrue};
+/// A program of aid under Title IV, in the order of returns (34 CFR 668.22(i)).
+#[derive(Clone, Copy, PartialEq, Eq, PartialOrd, Ord, Debug)]
+pub enum Program {
+    Unsub,
+    Sub,
+    Plus,
+    Pell,
+    Fseog,
+    Teach,
+}
+
 ghost use Rattle.aid_types.specs.Ranges.{IsBetween};
 
 /// What names a filing: its school and a number that the school gives it, 1 to 999,999,999,999.
@@ -59,4 +71,23 @@ pub struct Key {
     pub school: School,
     pub number: u64,
     pub ghost in_range: { IsBetween 1 999999999999 number },
+}
+
+impl Key {
+    /// Whether two keys are equal.
+    pub fn is_same(&self, other: &Key) -> bool
+        ensures { IsTrue result ↔ (self.now ≡ other.now) }
+    {
+        *self == *other
+    }
+}
+
+impl Year {
+    /// The first of the award year's two calendar years.
+    pub fn number(self) -> u16
+        ensures value { result ≡ self }
+        ensures in_range { IsBetween 2000 2099 self }
+    {
+        self.0
+    }
 }
