@@ -1,1 +1,4 @@
 pub mod Faults
+pub mod Kept
+pub mod Moved
+pub mod Whole

@@ -1,0 +1,127 @@
+//! A whole input, and a whole text.
+ghost use Rattle.std.specs.Prelude.{◌≡◌, ◌≢◌, ◌<◌, ◌≤◌, ◌+◌, ◌++◌, ◌^◌, [], ℕ, Ok, Err, IsTrue, IfOk, OnOk, OnErr, length};
+ghost use Rattle.aid_edges.specs.Faults.{Rose};
+ghost use Rattle.aid_edges.specs.Whole.{IsTaken, IsCutShort};
+
+use crate::{Failed, Sink, Source};
+use std::alloc::{AllocError, Global};
+
+/// Why an input wasn't read to its end.
+#[derive(Clone, Copy, PartialEq, Eq, Debug)]
+pub enum ReadError {
+    /// A read failed.
+    Failed,
+    /// The input has more bytes than may be read.
+    TooLong,
+    /// There is no memory for it.
+    NoMemory,
+}
+
+const PIECE: usize = 4096;
+
+/// Reads a source to its end, where it has at most `limit` bytes, and one byte more than that where it has more.
+pub fn read_to_limit<S: Source>(
+    alloc: Global,
+    source: &mut S,
+    limit: usize,
+) -> Result<Vec<u8>, ReadError>
+    requires { limit < 2 ^ 62 }
+    ensures honest { S.honest source.new ≡ S.honest source.old }
+    ensures short { IfOk result (λ bytes. length bytes.items ≤ limit) }
+    ensures bytes { IsTrue (S.honest source.old) → IfOk result (λ bytes. bytes.items ≡ S.left source.old) }
+    ensures end { IsTrue (S.honest source.old) → OnOk result (S.left source.new ≡ []) }
+    ensures too_long { IsTrue (S.honest source.old) → result ≡ Err ReadError.TooLong
+        → length (S.left source.old) ≡ limit + 1 + length (S.left source.new) }
+    ensures within { IsTrue (S.honest source.old) → result ≡ Err ReadError.Failed
+        → length (S.left source.old) ≤ limit + length (S.left source.new) }
+    ensures taken { IsTrue (S.honest source.old) → IsTaken (S.left source.old) (S.left source.new) }
+    ensures later { S.faults source.old ≤ S.faults source.new }
+    ensures cause { result ≡ Err ReadError.Failed → Rose (S.faults source.old) (S.faults source.new) }
+{
+    let mut bytes = Vec::new(alloc);
+    let mut piece = [0; PIECE];
+    while bytes.len() <= limit {
+        let room = usize::min(PIECE, limit + 1 - bytes.len());
+        let Ok(count) = source.read(&mut piece[..room]) else {
+            return Err(ReadError::Failed);
+        };
+        if count == 0 {
+            return Ok(bytes);
+        }
+        if bytes.extend_from_slice(&piece[..count]).is_err() {
+            return Err(ReadError::NoMemory);
+        }
+    }
+    Err(ReadError::TooLong)
+}
+
+/// Writes all the bytes to a sink.
+pub fn write_whole<K: Sink>(sink: &mut K, bytes: &[u8]) -> Result<(), Failed>
+    ensures honest { K.honest sink.new ≡ K.honest sink.old }
+    ensures written { IsTrue (K.honest sink.old) → OnOk result (K.text sink.new ≡ K.text sink.old ++ bytes.now) }
+    ensures failed { IsTrue (K.honest sink.old) → OnErr result (IsCutShort bytes.now (K.text sink.old) (K.text sink.new)) }
+    ensures later { K.faults sink.old ≤ K.faults sink.new }
+    ensures cause { OnErr result (Rose (K.faults sink.old) (K.faults sink.new)) }
+{
+    let mut done = 0;
+    while done < bytes.len() {
+        done += sink.write(&bytes[done..])?;
+    }
+    Ok(())
+}
+
+#[cfg(test)]
+mod tests {
+    use super::*;
+    use crate::{MemorySink, MemorySource, ReadEdge, SteadySource, WriteEdge};
+    use std::test::Fail;
+
+    #[test]
+    fn reads_up_to_the_limit(rt: HostRuntime) -> Result<(), Fail> {
+        let alloc = rt.alloc();
+        let rows: [(&[u8], u64, Result<&[u8], ReadError>); 6] = [
+            (b"", 0, Ok(b"")),
+            (b"abc", 0, Ok(b"abc")),
+            (b"abcd", 0, Err(ReadError::TooLong)),
+            (b"abc", 1, Err(ReadError::Failed)),
+            (b"abc", 2, Err(ReadError::Failed)),
+            (b"abc", 3, Ok(b"abc")),
+        ];
+        for (text, failing, want) in rows {
+            let failing = vec![in alloc; failing]?;
+            let mut source = MemorySource::new(text.to_vec(alloc)?, failing);
+            let read = read_to_limit(alloc, &mut source, 3);
+            match (read, want) {
+                (Ok(bytes), Ok(want)) => assert_eq!(rt; bytes.as_slice(), want),
+                (read, want) => assert_eq!(rt; read.err(), want.err()),
+            }
+        }
+        let mut steady = SteadySource::new(b"abc".to_vec(alloc)?);
+        assert_eq!(rt;
+            read_to_limit(alloc, &mut steady, 3).ok(),
+            Some(b"abc".to_vec(alloc)?)
+        );
+        let mut edge = ReadEdge::new(b"abc".as_slice());
+        assert_eq!(rt;
+            read_to_limit(alloc, &mut edge, 3).ok(),
+            Some(b"abc".to_vec(alloc)?)
+        );
+        Ok(())
+    }
+
+    #[test]
+    fn writes_whole_texts(rt: HostRuntime) -> Result<(), Fail> {
+        let alloc = rt.alloc();
+        let mut sink = MemorySink::new(alloc, vec![in alloc; 2]?);
+        assert_eq!(rt; write_whole(&mut sink, b"one"), Ok(()));
+        assert_eq!(rt; write_whole(&mut sink, b"two"), Err(Failed));
+        assert_eq!(rt; write_whole(&mut sink, b"three"), Ok(()));
+        assert_eq!(rt; sink.text(), b"onethree".as_slice());
+        let mut room = [0; 4];
+        let mut edge = WriteEdge::new(room.as_mut_slice());
+        assert_eq!(rt; write_whole(&mut edge, b"abc"), Ok(()));
+        assert_eq!(rt; write_whole(&mut edge, b"de"), Err(Failed));
+        assert_eq!(rt; room.as_slice(), b"abcd".as_slice());
+        Ok(())
+    }
+}
