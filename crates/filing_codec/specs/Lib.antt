@@ -1,0 +1,3 @@
+pub use Rattle.aid_types.specs.Fields
+pub mod Spelling
+pub mod Taking

@@ -1,0 +1,27 @@
+-- The one spelling of a filing: its kind's code, and its numbers in the order of the kind's fields, each at its
+-- field's width with the lowest byte first.
+use Rattle.std.specs.Prelude.{◌≡◌, ℕ, ℤ, List, [], ◌∷◌, ◌++◌, take}
+use Rattle.std.specs.Int.{w64, to_le_bytes, cast_unsigned}
+use Rattle.aid_types.specs.declared.fields.Width.{Width}
+use Rattle.aid_types.specs.declared.fields.Field.{Field}
+use Rattle.aid_types.specs.declared.filing.Filing.{Filing}
+use Rattle.aid_types.specs.Fields.{width_of, code_of, kind_of, fields_of, numbers_of}
+
+-- the lowest bytes of a number, the lowest first
+abbrev pub number_bytes : Width → ℤ → List ℕ
+number_bytes width z = take (width_of width) (to_le_bytes w64 (cast_unsigned w64 z))
+
+-- the bytes of numbers, one after the other
+abbrev pub numbers_bytes : List Field → List ℤ → List ℕ
+numbers_bytes [] zs = []
+numbers_bytes (f ∷ fs) [] = []
+numbers_bytes (f ∷ fs) (z ∷ zs) = number_bytes f.width z ++ numbers_bytes fs zs
+
+-- the bytes of a filing
+abbrev pub spelling : Filing → List ℕ
+spelling filing = code_of (kind_of filing.what) ∷ numbers_bytes (fields_of (kind_of filing.what)) (numbers_of filing)
+
+-- a spelling that begins another is that other, of the same filing
+pub record IsAlone (filing other : Filing) (rest : List ℕ) : Type 0 where
+  pub same : filing ≡ other
+  pub nothing : rest ≡ []

@@ -1,0 +1,9 @@
+pub mod Bytes
+pub mod Exits
+pub mod Fates
+pub mod Fills
+pub mod Gates
+pub mod Gathered
+pub mod States
+pub mod Steps
+pub mod Unique

@@ -1,0 +1,16 @@
+use Rattle.std.proofs.Common.{IsTrue, sym, subst}
+use Rattle.disk_model.specs.Telling.{IsKept}
+use Rattle.disk_model.proofs.Moments.{weaken, join}
+use Rattle.filing_journal.specs.Founded.{UnbornOrEmpty}
+use Rattle.filing_journal.proofs.founding.begin.Goals as goal
+
+pub returns-clause-moments : goal.returns-clause-moments
+returns-clause-moments g c honest each =
+    let old = g.D.Disk.tells c.args.disk.now in
+    let mid = g.D.Disk.tells c.sync_kept.new.disk in
+    let new = g.D.Disk.tells c.lay_from.new.disk in
+    let after = subst IsTrue (sym c.sync_kept.ensures.honest) honest in
+    let kept : IsKept old.reads mid = c.in_ok-sync_kept.ensures.done honest in
+    join old mid new UnbornOrEmpty
+    (weaken old mid old.image UnbornOrEmpty each (c.sync_kept.ensures.told honest).moments)
+    (c.lay_from.ensures.moments after kept.quiet)

@@ -1,0 +1,5 @@
+use Rattle.filing_journal.proofs.Unique.{once}
+use Rattle.filing_journal.proofs.laws.once.Goals as goal
+
+pub returns : goal.returns
+returns c file one other stands also = once file one other stands also

@@ -1,0 +1,9 @@
+pub use Rattle.disk_model.specs.Faults
+pub use Rattle.disk_model.specs.Telling
+pub mod Founded
+pub mod Head
+pub mod Journal
+pub mod Lives
+pub mod Opening
+pub mod Record
+pub mod Stands
