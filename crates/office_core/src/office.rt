@@ -1,0 +1,130 @@
+//! The office over a list of filings.
+ghost use Rattle.std.specs.Prelude.{◌≡◌, ◌≢◌, ◌↔◌, ◌+◌, ◌≤◌, ◌∷◌, [], ℕ, Some, None, max, length, IsTrue, IsOk, IsSome, IfSome, OnOk, OnErr};
+ghost use Rattle.std.specs.List.{AllPairs};
+ghost use Rattle.std.specs.Option.{option_copied};
+ghost use Rattle.aid_types.specs.declared.filing.Filing.{Filing as Filed};
+ghost use Rattle.aid_types.specs.declared.reply.Ask.TheVariants.{File as FileAsked};
+ghost use Rattle.aid_types.specs.declared.reply.Verdict.TheVariants.{Admit, Again};
+ghost use Rattle.office_history.specs.Answer.{breaks, outcome_of, outcome_at, answer_of, answer_to, is_admit, IsLegal};
+ghost use Rattle.office_history.specs.Past.{key_at};
+ghost use Rattle.office_core.specs.Register.{filing_in};
+
+use crate::steps::Steps;
+use aid_types::{Ask, Filing, Outcome, Verdict};
+use office_history::{answer, outcome, past_outcome};
+use std::alloc::{AllocError, Global};
+use std::marker::Model;
+use std::sync::ledger::Ledger;
+
+/// An office: the filings that were admitted, and room for more. A contract sees its history, the newest filing first,
+/// and its spare room. The history of every office is legal.
+#[derive(Drop)]
+pub struct Office {
+    filings: Vec<Filing>,
+    spare: u32,
+}
+
+impl Model for Office {
+    ghost use Rattle.std.specs.Prelude.{◌+◌, ◌≤◌, reverse, vec_len, vec_capacity};
+    ghost use Rattle.office_history.specs.Answer.{IsLegal};
+    ghost use Rattle.office_core.specs.Register.{Register};
+
+    ghost Value = { Register };
+
+    ghost view = { λ o. record { history = reverse o.filings.items; spare = o.spare } };
+
+    ghost invariant = { λ o. IsLegal (reverse o.filings.items) × (vec_len o.filings + o.spare ≤ vec_capacity o.filings) };
+}
+
+impl Office {
+    /// An office with no filing.
+    pub fn new(alloc: Global) -> Self
+        ensures history { result.history ≡ [] }
+        ensures spare { result.spare ≡ 0 }
+    {
+        Office {
+            filings: Vec::new(alloc),
+            spare: 0,
+        }
+    }
+
+    /// Makes room for `n` filings in all. An `Err` is want of memory, and leaves the office as it was.
+    pub fn reserve(&mut self, n: u32) -> Result<(), AllocError>
+        ensures history { self.new.history ≡ self.old.history }
+        ensures room { OnOk result (self.new.spare ≡ max self.old.spare n) }
+        ensures succeeds { n ≤ self.old.spare → IsOk result }
+        ensures err { OnErr result (self.new ≡ self.old) }
+    {
+        if self.spare < n {
+            self.filings.reserve(n as usize)?;
+            self.spare = n;
+        }
+        Ok(())
+    }
+
+    /// The number of filings.
+    pub fn front(&self) -> u32
+        ensures value { result ≡ length self.now.history }
+        ensures legal { IsLegal self.now.history }
+        ensures few { result ≤ 200000 }
+        ensures keys { AllPairs (λ f g. f.key ≢ g.key) self.now.history }
+    {
+        self.filings.as_slice().len() as u32
+    }
+
+    /// The filing at this position, counted from 1; `None` where there is no such position.
+    pub fn filing(&self, position: u32) -> Option<&Filing>
+        ensures value { option_copied result ≡ filing_in self.now.history position }
+        ensures stands { IsSome result ↔ (1 ≤ position) × (position ≤ length self.now.history) }
+    {
+        if position == 0 {
+            return None;
+        }
+        self.filings.as_slice().get(position as usize - 1)
+    }
+
+    /// The outcome with which the filing at this position was admitted; `None` where there is no such position.
+    pub fn outcome(&self, position: u32) -> Option<Outcome>
+        ensures value { IfSome result (λ o. o ≡ outcome_at self.now.history position) }
+        ensures stands { IsSome result ↔ (1 ≤ position) × (position ≤ length self.now.history) }
+    {
+        if position == 0 || position > self.front() {
+            return None;
+        }
+        Some(past_outcome(self.filings.as_slice(), position))
+    }
+
+    /// The verdict on an ask. It changes nothing and takes no memory. `steps` counts the looks at rows of an index, of
+    /// which there is none.
+    pub fn ask<L: Ledger>(&self, ask: &Ask, steps: &mut Steps<L>) -> Verdict
+        ensures answer { result ≡ answer_to self.now.history ask.now }
+
+        // A filing that stands is answered by its position and the outcome of its admission.
+        ensures again { (filing : Filed) → (position : ℕ) → ask.now ≡ FileAsked filing → filing_in self.now.history position ≡ Some filing
+            → result ≡ Again position (outcome_at self.now.history position) }
+
+        // A filing with a new key that breaks no rule is admitted.
+        ensures accepts { (filing : Filed) → ask.now ≡ FileAsked filing → key_at filing.key self.now.history ≡ 0
+            → breaks self.now.history filing ≡ None → result ≡ Admit (outcome_of self.now.history filing) }
+        ensures counted { steps.new ≡ steps.old }
+    {
+        match ask {
+            Ask::File(filing) => answer(self.filings.as_slice(), filing),
+        }
+    }
+
+    /// Appends a filing that the office admits, and answers its outcome. It takes no memory, but one of the places of
+    /// `reserve`.
+    pub fn admit(&mut self, filing: Filing) -> Outcome
+        requires admitted { IsTrue (is_admit (answer_of self.old.history filing)) }
+        requires room { 1 ≤ self.old.spare }
+        ensures history { self.new.history ≡ filing ∷ self.old.history }
+        ensures outcome { answer_of self.old.history filing ≡ Admit result }
+        ensures spare { self.new.spare + 1 ≡ self.old.spare }
+    {
+        let outcome = outcome(self.filings.as_slice(), &filing);
+        self.filings.push_reserved(filing);
+        self.spare -= 1;
+        outcome
+    }
+}

@@ -1,0 +1,4 @@
+pub mod Cases
+pub mod Legal
+pub mod Oldest
+pub mod Recorded

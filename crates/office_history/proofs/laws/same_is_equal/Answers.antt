@@ -1,0 +1,11 @@
+use Rattle.std.proofs.Common.{◌≡◌, true, subst}
+use Rattle.aid_types.specs.declared.filing.Filing.{Filing}
+use Rattle.office_history.specs.Past.{same_filing}
+use Rattle.aid_types.proofs.Same.{tells_filing}
+use Rattle.office_history.proofs.laws.same_is_equal.Goals as goal
+
+pub returns : goal.returns
+returns c =
+    let f = c.args.filing.now in
+    let g = c.args.other.now in
+    (λ h. tells_filing.same f g h, λ e. subst (λ (x : Filing). same_filing f x ≡ true) e (tells_filing.told f))
