@@ -1,0 +1,5 @@
+pub mod FilingsLemmas
+pub mod NumbersLemmas
+pub mod ReadingLemmas
+pub mod RecordsLemmas
+pub mod RowsLemmas

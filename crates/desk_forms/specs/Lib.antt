@@ -1,0 +1,6 @@
+pub mod Filings
+pub mod Lines
+pub mod Numbers
+pub mod Rows
+pub use Rattle.aid_num.specs.Whole
+pub use Rattle.aid_types.specs.Fields

@@ -1,0 +1,13 @@
+//! The texts of the desks: the rows that they file, and the line that answers each.
+#![tactic(auto)]
+
+mod error;
+mod lines;
+mod row;
+mod rows;
+#[cfg(test)]
+mod tests;
+
+pub use error::RowError;
+pub use lines::{put_error, put_line};
+pub use rows::{Rows, rows_of};

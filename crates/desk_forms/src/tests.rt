@@ -1,0 +1,160 @@
+//! What rows say and how lines are written.
+use super::*;
+use aid_types::{Outcome, Refusal, Reply};
+use itoa::Buffer;
+use std::alloc::Global;
+use std::process::Abort;
+use std::test::Fail;
+
+// What the rows of a text say: the numbers of each filing, or the line of its error.
+fn told(rt: &impl Abort, alloc: Global, text: &[u8]) -> Result<Vec<u8>, Fail> {
+    assert!(rt; text.len() <= 16_777_216);
+    let mut out = Vec::new(alloc);
+    for row in rows_of(alloc, text)?.into_rows() {
+        match row {
+            Ok(filing) => {
+                for number in filing.numbers().as_slice() {
+                    let mut digits = Buffer::new();
+                    out.extend_from_slice(digits.format(*number).as_bytes())?;
+                    out.push(b' ')?;
+                }
+                out.push(b'\n')?;
+            }
+            Err(error) => put_error(&error, &mut out)?,
+        }
+    }
+    Ok(out)
+}
+
+#[test]
+fn rows_are_read(rt: HostRuntime) -> Result<(), Fail> {
+    let cases: [(&[u8], &[u8]); 34] = [
+        (
+            b"school,0,1,110,2,12\nprior,0,2,5001,550000\n",
+            b"0 1 110 2 12 \n0 2 5001 550000 \n",
+        ),
+        (
+            b"school,999999,999999999999,999999,3,40",
+            b"999999 999999999999 999999 3 40 \n",
+        ),
+        (
+            b"prior,0,1,999999999999,4294967295",
+            b"0 1 999999999999 4294967295 \n",
+        ),
+        (b"", b""),
+        (b"prior,0,x,5001,1", b"1 error 3 3\n"),
+        (b"loan,0,9", b"1 error 1 1\n"),
+        (
+            b"book,0,1\nPrior,0,2,5001,1\n prior,0,2,5001,1\n",
+            b"1 error 1 1\n2 error 1 1\n3 error 1 1\n",
+        ),
+        (b"\"prior\",0,\"2\",5001,\"1\"", b"0 2 5001 1 \n"),
+        (b"prior,0,2,5001,\"1\nprior,0,3,5001,1", b"1 error 5 3\n"),
+        (
+            b"prior,0,1,5001,1\r\nloan\r\n",
+            b"0 1 5001 1 \n2 error 1 1\n",
+        ),
+        (
+            b"\n\nloan\n\n\r\nprior,0,2\n",
+            b"1 error 1 1\n2 error 0 2\n",
+        ),
+        (b"loan\rloan", b"1 error 1 1\n2 error 1 1\n"),
+        (b"\"\"\n", b"1 error 1 1\n"),
+        (
+            b"\xff\xfe,1\nprior,0,\xff,5001,1\n",
+            b"1 error 1 1\n2 error 3 3\n",
+        ),
+        (b"\xef\xbb\xbfprior,0,2,5001,1", b"0 2 5001 1 \n"),
+        (
+            b"\xef\xbb\xbf\xef\xbb\xbfprior,0,2,5001,1",
+            b"1 error 1 1\n",
+        ),
+        (b"prior,0,2,5001", b"1 error 0 2\n"),
+        (b"prior,0,2,5001,1,", b"1 error 0 2\n"),
+        (b"prior,0,-2,5001,1", b"1 error 3 4\n"),
+        (b"prior,-0,2,5001,1", b"1 error 2 3\n"),
+        (b"prior,0,+2,5001,1", b"1 error 3 3\n"),
+        (b"prior,00,2,5001,1", b"1 error 2 3\n"),
+        (b"prior,0,02,5001,1", b"1 error 3 3\n"),
+        (b"prior,0,,5001,1", b"1 error 3 3\n"),
+        (b"prior,0, 2,5001,1", b"1 error 3 3\n"),
+        (b"prior,x,0,5001,1", b"1 error 2 3\n"),
+        (b"prior,0,0,x,1", b"1 error 3 4\n"),
+        (b"prior,1000000,1,1,1", b"1 error 2 4\n"),
+        (b"prior,0,1000000000000,1,1", b"1 error 3 4\n"),
+        (b"prior,0,1,99999999999999999999999999,1", b"1 error 4 4\n"),
+        (b"prior,0,1,5001,4294967296", b"1 error 5 4\n"),
+        (b"school,0,1,0,2,41", b"1 error 4 4\n"),
+        (b"school,0,1,110,4,12", b"1 error 5 4\n"),
+        (b"school,0,1,110,2,1.5", b"1 error 6 3\n"),
+    ];
+    for (text, lines) in cases.iter() {
+        let told = told(&rt, rt.alloc(), text)?;
+        assert_eq!(rt; told.as_slice(), *lines);
+    }
+    Ok(())
+}
+
+#[test]
+fn lines_are_written(rt: HostRuntime) -> Result<(), Fail> {
+    let mut out = Vec::with_capacity(rt.alloc(), 4)?;
+    let outcome = Outcome::Noted;
+    put_line(
+        1,
+        &Reply::Accepted {
+            position: 1,
+            front: 0,
+            outcome,
+        },
+        &mut out,
+    )?;
+    put_line(
+        7,
+        &Reply::Again {
+            position: 1,
+            front: 2,
+            outcome,
+        },
+        &mut out,
+    )?;
+    let refusal = Refusal {
+        rule: 15,
+        kept: 2,
+        bound: 2,
+    };
+    put_line(1, &Reply::Refused { refusal, front: 2 }, &mut out)?;
+    put_error(
+        &RowError {
+            row: 3,
+            field: 0,
+            cause: 2,
+        },
+        &mut out,
+    )?;
+    let lines = b"1 0 accepted 1 noted\n7 2 again 1 noted\n1 2 refused 15 2 2\n3 error 0 2\n";
+    assert_eq!(rt; out.as_slice(), lines.as_slice());
+    Ok(())
+}
+
+// The longest line.
+#[test]
+fn longest_line(rt: HostRuntime) -> Result<(), Fail> {
+    let refusal = Refusal {
+        rule: u16::MAX,
+        kept: u64::MAX,
+        bound: u64::MAX,
+    };
+    let mut out = Vec::with_capacity(rt.alloc(), 160)?;
+    put_line(
+        u32::MAX,
+        &Reply::Refused {
+            refusal,
+            front: u32::MAX,
+        },
+        &mut out,
+    )?;
+    let line = b"4294967295 4294967295 refused 65535 18446744073709551615 18446744073709551615\n";
+    assert_eq!(rt; out.as_slice(), line.as_slice());
+    assert_eq!(rt; out.capacity(), 160);
+    Ok(())
+}
