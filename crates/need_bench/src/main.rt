@@ -1,0 +1,45 @@
+//! Sums the awards of a fixed sequence of applications, for `bench/need`: 1,000 applications, 1,000 times over.
+#![tactic(auto)]
+
+mod sequence;
+
+use crate::sequence::Sequence;
+use aid_types::{Application, Book};
+use pell_schedule::decide;
+use sai_index::index;
+use specimen::specimen_book;
+use std::alloc::{AllocError, Global};
+use std::io;
+
+fn main(rt: HostRuntime) -> io::Result<()> {
+    let book = specimen_book();
+    let applications = applications(rt.alloc(), 1000)?;
+    let mut total: u64 = 0;
+    for _ in 0..1000 {
+        total = total.wrapping_add(sum_of_awards(&book, applications.as_slice()));
+    }
+    println!(rt; "{total}")?;
+    Ok(())
+}
+
+// The first applications of the sequence.
+fn applications(alloc: Global, count: u32) -> Result<Vec<Application>, AllocError> {
+    let mut sequence = Sequence::new();
+    let mut applications = Vec::new(alloc);
+    for _ in 0..count {
+        applications.push(sequence.application())?;
+    }
+    Ok(applications)
+}
+
+// The sum of their Scheduled Awards and final indexes, in a number that wraps.
+fn sum_of_awards(book: &Book, applications: &[Application]) -> u64 {
+    let mut total: u64 = 0;
+    for a in applications {
+        let decision = decide(book, a, index(book, a).index);
+        total = total
+            .wrapping_add(u64::from(decision.scheduled))
+            .wrapping_add(u64::from(decision.sai.unsigned_abs()));
+    }
+    total
+}

@@ -1,0 +1,124 @@
+-- The award of an application with an index (HEA 401(b); SAI and Pell Grant Eligibility Guide).
+use Rattle.std.specs.Prelude.{◌≡◌, ◌⊎◌, ◌<ℤ◌, ◌≤ℤ◌, IsFalse, IsTrue, ℕ, ◌||◌, ◌&&◌, Bool, false, not, if◌then◌else◌, ℤ, pos, neg_ℤ, ◌-ℤ◌, ◌*ℤ◌, int_le, int_lt, unsigned_abs}
+use Rattle.std.specs.Int.{int_max, int_min}
+use Rattle.aid_num.specs.Nearest.{to5}
+use Rattle.aid_types.specs.declared.application.Application.{Application}
+use Rattle.aid_types.specs.declared.application.Region.{Region}
+use Rattle.aid_types.specs.declared.application.Region.TheVariants.{Contiguous, Alaska, Hawaii}
+use Rattle.aid_types.specs.declared.book.Book.{Book}
+use Rattle.aid_types.specs.declared.book.Guideline.{Guideline}
+use Rattle.aid_types.specs.Ranges.{IsWithin}
+use Rattle.aid_types.specs.declared.book.PellFigures.{PellFigures}
+use Rattle.aid_types.specs.declared.book.Percents.{Percents}
+use Rattle.aid_types.specs.declared.book.Poverty.{Poverty}
+use Rattle.aid_types.specs.declared.reply.Formula.{Formula}
+use Rattle.aid_types.specs.declared.reply.Formula.TheVariants.{A, B, C}
+use Rattle.aid_types.specs.declared.reply.Way.{Way}
+use Rattle.aid_types.specs.declared.reply.Way.TheVariants.{Maximum, Calculated, Minimum, Nothing}
+use Rattle.sai_parent.specs.Household.{by_size}
+use Rattle.sai_index.specs.Formulas.{formula}
+use Rattle.sai_index.specs.Index.{index_lines}
+use Rattle.pell_schedule.specs.declared.Decision.{Decision}
+
+-- the household whose income decides: the parents' for a dependent student, the student's for others (HEA 401(b)(1))
+abbrev pub income : Formula → Application → ℤ
+income A a = a.parents.agi
+income B a = a.own.agi
+income C a = a.own.agi
+
+-- whether that household was required to file a return (HEA 401(b)(1))
+abbrev pub must_file : Formula → Application → Bool
+must_file A a = a.parents_file
+must_file B a = a.student_file
+must_file C a = a.student_file
+
+-- a single parent: the unmarried parent of a dependent student, or an unmarried student with dependents
+-- (HEA 401(b)(1))
+abbrev pub is_single_parent : Formula → Application → Bool
+is_single_parent A a = not a.parents_married
+is_single_parent B a = false
+is_single_parent C a = not a.married
+
+-- the poverty guideline of a region by size of family (42 U.S.C. 9902(2))
+abbrev pub guideline_of : Poverty → Region → Guideline
+guideline_of p Contiguous = p.contiguous
+guideline_of p Alaska = p.alaska
+guideline_of p Hawaii = p.hawaii
+
+abbrev pub guideline : Book → Application → ℤ
+guideline book a =
+    let g = guideline_of book.poverty a.region in
+    by_size 1 8 g.sizes g.extra a.family
+
+-- the percents of the guideline up to which an award is a Maximum or a Minimum (HEA 401(b)(1))
+abbrev pub maximum_percent : Percents → Formula → Application → ℤ
+maximum_percent p f a = if is_single_parent f a then p.maximum_single else p.maximum_other
+
+abbrev pub minimum_percent : Percents → Formula → Application → ℤ
+minimum_percent p A a = if a.parents_married then p.minimum_dependent_other else p.minimum_dependent_single
+minimum_percent p B a = p.minimum_no_dependents
+minimum_percent p C a = if a.married then p.minimum_parent else p.minimum_single_parent
+
+-- whether an income is at most so many percent of the guideline (HEA 401(b)(1))
+abbrev pub is_within : ℤ → ℤ → ℤ → Bool
+is_within agi percent g = int_le (pos 100 *ℤ agi) (percent *ℤ g)
+
+-- a graduate student or holder of a bachelor's degree, who has no award (HEA 401(c))
+abbrev pub is_barred : Application → Bool
+is_barred a = a.graduate || a.bachelor
+
+-- an income above 0 and at most so much of the guideline that the award is a Maximum (HEA 401(b)(1))
+unfoldable pub is_maximum : Book → Formula → Application → Bool
+is_maximum book f a = int_lt (pos 0) (income f a) && is_within (income f a) (maximum_percent book.percent f a) (guideline book a)
+
+-- an income at most so much of it that the award is at least a Minimum (HEA 401(b)(1))
+unfoldable pub is_minimum : Book → Formula → Application → Bool
+is_minimum book f a = is_within (income f a) (minimum_percent book.percent f a) (guideline book a)
+
+-- the award that the index leaves of the greatest, rounded to five dollars (HEA 401(b)(1); own: the rounding)
+unfoldable pub calculated : Book → ℤ → ℤ
+calculated book index = to5 (book.pell.maximum -ℤ int_max index (pos 0))
+
+-- a way, an award of so many dollars, and the final index
+abbrev pub awarded : Way → ℤ → ℤ → Decision
+awarded way dollars sai = record { way = way; scheduled = unsigned_abs dollars; sai = sai }
+
+-- the five cases under a formula, the first that holds (HEA 401(b)(1); own: the final index of a Maximum)
+abbrev pub decision_under : Formula → Book → Application → ℤ → Decision
+decision_under f book a index =
+    if is_barred a then awarded Nothing (pos 0) index
+    else (if must_file f a
+    then (if is_maximum book f a then awarded Maximum book.pell.maximum (int_min index (pos 0))
+    else (if int_le book.pell.minimum (calculated book index) then awarded Calculated (calculated book index) index
+    else (if is_minimum book f a then awarded Minimum book.pell.minimum index
+    else awarded Nothing (pos 0) index)))
+    else awarded Maximum book.pell.maximum (neg_ℤ (pos 1500)))
+
+-- the decision on an application with an index: way, Scheduled Award and final index (HEA 401(b))
+abbrev pub decision : Book → Application → ℤ → Decision
+decision book a index = decision_under (formula book a) book a index
+
+-- the decision on an application under a book, by its own index
+abbrev pub decision_of : Book → Application → Decision
+decision_of book a = decision book a (index_lines book a).index
+
+-- what each case says where those before it don't hold
+pub record IsDecidedByCase (f : Formula) (book : Book) (a : Application) (index : ℤ) (d : Decision) : Type 0 where
+  pub barred : IsTrue (is_barred a) → d ≡ awarded Nothing (pos 0) index
+  pub not_required : IsFalse (is_barred a) → IsFalse (must_file f a) → d ≡ awarded Maximum book.pell.maximum (neg_ℤ (pos 1500))
+  pub maximum : IsFalse (is_barred a) → IsTrue (must_file f a) → IsTrue (is_maximum book f a)
+      → d ≡ awarded Maximum book.pell.maximum (int_min index (pos 0))
+  pub by_index : IsFalse (is_barred a) → IsTrue (must_file f a) → IsFalse (is_maximum book f a)
+      → book.pell.minimum ≤ℤ calculated book index → d ≡ awarded Calculated (calculated book index) index
+  pub minimum : IsFalse (is_barred a) → IsTrue (must_file f a) → IsFalse (is_maximum book f a)
+      → calculated book index <ℤ book.pell.minimum → IsTrue (is_minimum book f a) → d ≡ awarded Minimum book.pell.minimum index
+  pub nothing : IsFalse (is_barred a) → IsTrue (must_file f a) → IsFalse (is_maximum book f a)
+      → calculated book index <ℤ book.pell.minimum → IsFalse (is_minimum book f a) → d ≡ awarded Nothing (pos 0) index
+
+-- own: the greatest award there is: the maximum, or the multiple of five nearest to it if that is above it, by at most two dollars
+abbrev pub greatest_award : PellFigures → ℤ
+greatest_award pell = int_max pell.maximum (to5 pell.maximum)
+
+-- a Scheduled Award is 0, or from the minimum to the greatest award
+abbrev pub IsScheduledAward : PellFigures → ℕ → Type 0
+IsScheduledAward pell n = (n ≡ 0) ⊎ IsWithin pell.minimum (greatest_award pell) (pos n)

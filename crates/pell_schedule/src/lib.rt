@@ -1,0 +1,245 @@
+//! The award of an application with an index (HEA 401(b)).
+#![tactic(auto)]
+
+ghost use Rattle.std.specs.Prelude.{◌≡◌, ◌≤◌, ◌≤ℤ◌, ℤ, unsigned_abs, pos, neg_ℤ};
+ghost use Rattle.aid_types.specs.Ranges.{IsPercent, IsWithin};
+ghost use Rattle.aid_types.specs.declared.application.Application.{Application as AnyApplication};
+ghost use Rattle.sai_parent.specs.Household.{IsRisingSchedule};
+ghost use Rattle.sai_index.specs.Formulas.{formula as formula_at};
+ghost use Rattle.sai_index.specs.Income.{IsRicher};
+ghost use Rattle.sai_index.specs.Index.{index_lines};
+ghost use Rattle.pell_schedule.specs.Award.{
+  awarded as awarded_of,
+  calculated as calculated_of,
+  IsDecidedByCase,
+  IsScheduledAward,
+  decision,
+  decision_under,
+  is_barred as is_barred_of,
+  is_maximum as is_maximum_of,
+  is_minimum as is_minimum_of,
+  guideline as guideline_at,
+  income as income_of,
+  is_single_parent as is_single_parent_of,
+  is_within as is_within_of,
+  maximum_percent as maximum_percent_of,
+  minimum_percent as minimum_percent_of,
+  must_file as must_file_of,
+};
+
+use aid_num::to5;
+use aid_types::{Application, Book, Formula, Percents, Region, Way};
+use sai_index::formula_of;
+use sai_parent::by_size;
+
+/// What is awarded: the way to it, the Scheduled Award in dollars, and the final index.
+#[derive(Clone, Copy, PartialEq, Eq, Debug)]
+pub struct Decision {
+    pub way: Way,
+    pub scheduled: u32,
+    pub sai: i32,
+}
+
+/// The award of an application with this index (HEA 401(b)).
+pub fn decide(book: &Book, a: &Application, index: i32) -> Decision
+    requires { IsWithin (neg_ℤ (pos 1500)) (pos 999999) index }
+    ensures value { result ≡ decision book.now a.now index }
+    ensures by_case { IsDecidedByCase (formula_at book.now a.now) book.now a.now index result }
+    ensures award { IsScheduledAward book.now.pell result.scheduled }
+
+    // A greater index never gives a greater Calculated award, nor does more income, all else equal.
+    ensures falls { (greater : ℤ) → index ≤ℤ greater → calculated_of book.now greater ≤ℤ calculated_of book.now index }
+    ensures falls_with_income { (richer : AnyApplication) → IsRisingSchedule book.now → IsRicher a.now richer
+        → calculated_of book.now (index_lines book.now richer).index ≤ℤ calculated_of book.now (index_lines book.now a.now).index }
+{
+    decide_under(formula_of(book, a), book, a, index)
+}
+
+// The first of the five cases that holds under a formula.
+fn decide_under(formula: Formula, book: &Book, a: &Application, index: i32) -> Decision
+    requires { IsWithin (neg_ℤ (pos 1500)) (pos 999999) index }
+    ensures { result ≡ decision_under formula book.now a.now index }
+{
+    if is_barred(a) {
+        return awarded(Way::Nothing, 0, index);
+    }
+    if !must_file(formula, a) {
+        return awarded(Way::Maximum, book.pell.maximum, -1500);
+    }
+    if is_maximum(book, formula, a) {
+        return awarded(Way::Maximum, book.pell.maximum, index.min(0));
+    }
+    let calculated = calculated(book, index);
+    if calculated >= book.pell.minimum {
+        return awarded(Way::Calculated, calculated, index);
+    }
+    if is_minimum(book, formula, a) {
+        return awarded(Way::Minimum, book.pell.minimum, index);
+    }
+    awarded(Way::Nothing, 0, index)
+}
+
+// Whether a student has no award.
+fn is_barred(a: &Application) -> bool
+    ensures { result ≡ is_barred_of a.now }
+{
+    a.graduate || a.bachelor
+}
+
+// Whether the household's income makes the award a Maximum.
+#[tactic(auto, unfolding(crate::specs::Award::is_maximum))]
+fn is_maximum(book: &Book, formula: Formula, a: &Application) -> bool
+    ensures { result ≡ is_maximum_of book.now formula a.now }
+{
+    let agi = income(formula, a);
+    agi > 0
+        && is_within(
+            agi,
+            maximum_percent(&book.percent, formula, a),
+            guideline(book, a),
+        )
+}
+
+// Whether it makes the award at least a Minimum.
+#[tactic(auto, unfolding(crate::specs::Award::is_minimum))]
+fn is_minimum(book: &Book, formula: Formula, a: &Application) -> bool
+    ensures { result ≡ is_minimum_of book.now formula a.now }
+{
+    is_within(
+        income(formula, a),
+        minimum_percent(&book.percent, formula, a),
+        guideline(book, a),
+    )
+}
+
+// A decision.
+fn awarded(way: Way, scheduled: i64, sai: i32) -> Decision
+    requires { IsWithin (pos 0) (pos 999999) scheduled }
+    ensures { result ≡ awarded_of way scheduled sai }
+{
+    Decision {
+        way,
+        scheduled: scheduled as u32,
+        sai,
+    }
+}
+
+// The income that decides.
+fn income(formula: Formula, a: &Application) -> i64
+    ensures value { result ≡ income_of formula a.now }
+    ensures in_range { unsigned_abs result ≤ 99999999 }
+{
+    match formula {
+        Formula::A => a.parents.agi,
+        Formula::B => a.own.agi,
+        Formula::C => a.own.agi,
+    }
+}
+
+// Whether the household was required to file a return.
+fn must_file(formula: Formula, a: &Application) -> bool
+    ensures { result ≡ must_file_of formula a.now }
+{
+    match formula {
+        Formula::A => a.parents_file,
+        Formula::B => a.student_file,
+        Formula::C => a.student_file,
+    }
+}
+
+// Whether there is a single parent.
+fn is_single_parent(formula: Formula, a: &Application) -> bool
+    ensures { result ≡ is_single_parent_of formula a.now }
+{
+    match formula {
+        Formula::A => !a.parents_married,
+        Formula::B => false,
+        Formula::C => !a.married,
+    }
+}
+
+// The percent of the guideline up to which an award is a Maximum.
+fn maximum_percent(percents: &Percents, formula: Formula, a: &Application) -> i64
+    ensures value { result ≡ maximum_percent_of percents.now formula a.now }
+    ensures in_range { IsPercent result }
+{
+    if is_single_parent(formula, a) {
+        percents.maximum_single
+    } else {
+        percents.maximum_other
+    }
+}
+
+// The percent of the guideline up to which an award is a Minimum.
+fn minimum_percent(percents: &Percents, formula: Formula, a: &Application) -> i64
+    ensures value { result ≡ minimum_percent_of percents.now formula a.now }
+    ensures in_range { IsPercent result }
+{
+    match formula {
+        Formula::A => {
+            if a.parents_married {
+                percents.minimum_dependent_other
+            } else {
+                percents.minimum_dependent_single
+            }
+        }
+        Formula::B => percents.minimum_no_dependents,
+        Formula::C => {
+            if a.married {
+                percents.minimum_parent
+            } else {
+                percents.minimum_single_parent
+            }
+        }
+    }
+}
+
+// Whether an income is at most so many percent of the guideline.
+fn is_within(agi: i64, percent: i64, guideline: i64) -> bool
+    requires agi_in_range { unsigned_abs agi ≤ 99999999 }
+    requires percent_in_range { IsPercent percent }
+    requires guideline_in_range { unsigned_abs guideline ≤ 30000000000 }
+    ensures { result ≡ is_within_of agi percent guideline }
+{
+    100 * agi <= percent * guideline
+}
+
+// The award that the index leaves of the greatest.
+fn calculated(book: &Book, index: i32) -> i64
+    requires { IsWithin (neg_ℤ (pos 1500)) (pos 999999) index }
+    ensures value { result ≡ calculated_of book.now index }
+    ensures at_most { result ≤ℤ pos 100000 }
+    ensures in_range { unsigned_abs result ≤ 1000000 }
+{
+    to5(book.pell.maximum - i64::from(index.max(0)))
+}
+
+// The poverty guideline of a household.
+fn guideline(book: &Book, a: &Application) -> i64
+    ensures value { result ≡ guideline_at book.now a.now }
+    ensures in_range { unsigned_abs result ≤ 30000000000 }
+{
+    match a.region {
+        Region::Contiguous => by_size(
+            1,
+            8,
+            &book.poverty.contiguous.sizes,
+            book.poverty.contiguous.extra,
+            a.family,
+        ),
+        Region::Alaska => by_size(
+            1,
+            8,
+            &book.poverty.alaska.sizes,
+            book.poverty.alaska.extra,
+            a.family,
+        ),
+        Region::Hawaii => by_size(
+            1,
+            8,
+            &book.poverty.hawaii.sizes,
+            book.poverty.hawaii.extra,
+            a.family,
+        ),
+    }
+}

@@ -1,0 +1,2 @@
+pub mod IncomeLaws
+pub mod IndexLaws

@@ -1,0 +1,4 @@
+pub mod Fits
+pub mod Formulas
+pub mod Income
+pub mod Index

@@ -1,0 +1,198 @@
+//! The student's lines in each formula.
+ghost use Rattle.std.specs.Prelude.{◌≡◌, ◌≤◌, ◌+ℤ◌, pos, unsigned_abs};
+ghost use Rattle.sai_index.specs.Index.{
+  AreDependentLines,
+  age as age_of,
+  dependent_lines,
+  employment_if_married as employment_if_married_of,
+  family_lines,
+  family_protection as family_protection_of,
+  income_contribution as income_contribution_of,
+  no_lines as no_lines_of,
+  shortfall as shortfall_of,
+  single_lines,
+  single_or_married as single_or_married_of,
+};
+
+use aid_num::share;
+use aid_types::{Application, Book, Side};
+use sai_parent::{
+    ParentLines, assessed, employment_allowance, income_and_assets, payroll_allowance,
+    protection_allowance, tax_allowance, total_income,
+};
+
+/// The contribution from a student's available income (HEA 475(g), 476(b)).
+#[tactic(auto, unfolding(crate::specs::Index::income_contribution))]
+pub(crate) fn income_contribution(book: &Book, available: i64) -> i64
+    requires { unsigned_abs available ≤ 100000000000 }
+    ensures value { result ≡ income_contribution_of book.now available }
+    ensures in_range { unsigned_abs result ≤ 100000000000 }
+{
+    share(available, book.schedule.student_rate).max(book.schedule.lowest_student)
+}
+
+/// The lines of a dependent student (HEA 475(g), (h)).
+pub(crate) fn dependent(book: &Book, a: &Application, parent: &ParentLines) -> ParentLines
+    requires { unsigned_abs parent.now.adjusted ≤ 42000000000 }
+    ensures lines { AreDependentLines book.now a.now parent.now result }
+    ensures value { result ≡ dependent_lines book.now a.now parent.now }
+    ensures available_in_range { unsigned_abs result.available ≤ 44000000000 }
+    ensures assets_in_range { unsigned_abs result.from_assets ≤ 300000000 }
+{
+    let side = &a.own;
+    let total = total_income(side);
+    let tax = tax_allowance(side);
+    let payroll = payroll_allowance(&book.payroll, false, side);
+    let protection = book.protection.dependent_student;
+    let shortfall = shortfall(parent);
+    let allowances = dependent_allowances(tax, payroll, protection, shortfall);
+    let worth = assets(side);
+    ParentLines {
+        total,
+        tax,
+        payroll,
+        protection,
+        employment: 0,
+        allowances,
+        available: total - allowances,
+        business: 0,
+        worth,
+        asset_protection: 0,
+        discretionary: worth,
+        from_assets: share(worth, book.assets.dependent_rate),
+        adjusted: 0,
+        contribution: 0,
+    }
+}
+
+// What the parents' adjusted available income is below 0.
+fn shortfall(parent: &ParentLines) -> i64
+    requires { unsigned_abs parent.now.adjusted ≤ 42000000000 }
+    ensures value { result ≡ shortfall_of parent.now }
+    ensures in_range { unsigned_abs result ≤ 42000000000 }
+{
+    (-parent.adjusted).max(0)
+}
+
+// The sum of a dependent student's allowances.
+fn dependent_allowances(tax: i64, payroll: i64, protection: i64, shortfall: i64) -> i64
+    requires tax_in_range { unsigned_abs tax ≤ 100000000 }
+    requires payroll_in_range { unsigned_abs payroll ≤ 600000000 }
+    requires protection_in_range { unsigned_abs protection ≤ 100000000 }
+    requires shortfall_in_range { unsigned_abs shortfall ≤ 42000000000 }
+    ensures value { result ≡ tax +ℤ payroll +ℤ protection +ℤ shortfall }
+    ensures in_range { unsigned_abs result ≤ 43000000000 }
+{
+    tax + payroll + protection + shortfall
+}
+
+// The worth of all assets that count for a dependent student.
+fn assets(side: &Side) -> i64
+    ensures value { result ≡ side.now.cash +ℤ side.now.investments +ℤ side.now.business }
+    ensures in_range { unsigned_abs result ≤ 300000000 }
+{
+    side.cash + side.investments + side.business
+}
+
+/// The lines of an independent student without dependents (HEA 476).
+pub(crate) fn single(book: &Book, a: &Application) -> ParentLines
+    ensures value { result ≡ single_lines book.now a.now }
+    ensures available_in_range { unsigned_abs result.available ≤ 41000000000 }
+    ensures assets_in_range { unsigned_abs result.from_assets ≤ 1000000000 }
+{
+    income_and_assets(
+        book,
+        &a.own,
+        a.married,
+        age(book, a),
+        single_or_married(book, a),
+        employment_if_married(book, a),
+        book.assets.no_dependents_rate,
+    )
+}
+
+// A student's age in the award year, by years alone.
+fn age(book: &Book, a: &Application) -> i64
+    ensures value { result ≡ age_of book.now a.now }
+    ensures in_range { unsigned_abs result ≤ 3000 }
+{
+    i64::from(book.year.0) - i64::from(a.birth_year)
+}
+
+// What such a student is allowed for living.
+fn single_or_married(book: &Book, a: &Application) -> i64
+    ensures value { result ≡ single_or_married_of book.now a.now }
+    ensures in_range { unsigned_abs result ≤ 100000000 }
+{
+    if a.married {
+        book.protection.married_student
+    } else {
+        book.protection.single_student
+    }
+}
+
+// What such a student is allowed for employment.
+fn employment_if_married(book: &Book, a: &Application) -> i64
+    ensures value { result ≡ employment_if_married_of book.now a.now }
+    ensures in_range { unsigned_abs result ≤ 200000000 }
+{
+    if a.married {
+        employment_allowance(&book.employment, &a.own)
+    } else {
+        0
+    }
+}
+
+/// The lines of an independent student with dependents (HEA 477).
+pub(crate) fn family(book: &Book, a: &Application) -> ParentLines
+    ensures value { result ≡ family_lines book.now a.now }
+    ensures contribution_in_range { unsigned_abs result.contribution ≤ 42200000000 }
+{
+    let protection = family_protection(book, a);
+    let employment = employment_allowance(&book.employment, &a.own);
+    let lines = income_and_assets(
+        book,
+        &a.own,
+        a.married,
+        age(book, a),
+        protection,
+        employment,
+        book.assets.with_dependents_rate,
+    );
+    assessed(book, lines)
+}
+
+// What such a student is allowed for living.
+fn family_protection(book: &Book, a: &Application) -> i64
+    ensures value { result ≡ family_protection_of book.now a.now }
+    ensures in_range { unsigned_abs result ≤ 30000000000 }
+{
+    let allowance = if a.married {
+        &book.protection.married_parent
+    } else {
+        &book.protection.single_parent
+    };
+    protection_allowance(allowance, a.family)
+}
+
+/// Lines that a formula doesn't have.
+pub(crate) fn no_lines() -> ParentLines
+    ensures { result ≡ no_lines_of }
+{
+    ParentLines {
+        total: 0,
+        tax: 0,
+        payroll: 0,
+        protection: 0,
+        employment: 0,
+        allowances: 0,
+        available: 0,
+        business: 0,
+        worth: 0,
+        asset_protection: 0,
+        discretionary: 0,
+        from_assets: 0,
+        adjusted: 0,
+        contribution: 0,
+    }
+}

@@ -1,0 +1,3 @@
+pub mod LinesLaws
+pub mod NearestOrder
+pub mod ScheduleRises

@@ -1,0 +1,224 @@
+//! The lines that every household has.
+ghost use Rattle.std.specs.Prelude.{◌≡◌, ◌≤◌, ◌<◌, ◌+◌, ◌-◌, length, IfSome, unsigned_abs, pos, ◌+ℤ◌};
+ghost use Rattle.aid_types.specs.Ranges.{EachIsAmount, IsAmount, IsRate, IsWithin};
+ghost use Rattle.aid_types.specs.Marginal.{value_at as value_at_of};
+ghost use Rattle.sai_parent.specs.Household.{
+  asset_contribution as asset_contribution_of,
+  asset_protection as asset_protection_of,
+  business_worth as business_worth_of,
+  by_size as by_size_of,
+  earned as earned_of,
+  employment_allowance as employment_allowance_of,
+  income_offsets as income_offsets_of,
+  medicare as medicare_of,
+  medicare_threshold as medicare_threshold_of,
+  oasdi as oasdi_of,
+  payroll_allowance as payroll_allowance_of,
+  protection_allowance as protection_allowance_of,
+  schedule_value as schedule_value_of,
+  tax_allowance as tax_allowance_of,
+  total_income as total_income_of,
+  untaxed_income as untaxed_income_of,
+};
+
+use aid_num::share;
+use aid_types::{Ages, Allowance, Book, Brackets, Employment, Payroll, Side};
+
+/// Total income (HEA 480(a)).
+#[tactic(auto, unfolding(crate::specs::Household::total_income))]
+pub fn total_income(side: &Side) -> i64
+    ensures value { result ≡ total_income_of side.now }
+    ensures in_range { unsigned_abs result ≤ 1000000000 }
+{
+    side.agi + untaxed_income(side) - income_offsets(side)
+}
+
+// Untaxed income and benefits (HEA 480(b)).
+fn untaxed_income(side: &Side) -> i64
+    ensures value { result ≡ untaxed_income_of side.now }
+    ensures in_range { IsWithin (pos 0) (pos 499999995) result }
+{
+    side.ira + side.interest + side.ira_untaxed + side.pension + side.foreign
+}
+
+// What is taken off income (HEA 480(e)).
+fn income_offsets(side: &Side) -> i64
+    ensures value { result ≡ income_offsets_of side.now }
+    ensures in_range { IsWithin (pos 0) (pos 299999997) result }
+{
+    side.grants + side.credits + side.work_study
+}
+
+/// The allowance for federal income tax (HEA 475(c)(1)(A)).
+#[tactic(auto, unfolding(crate::specs::Household::tax_allowance))]
+pub fn tax_allowance(side: &Side) -> i64
+    ensures value { result ≡ tax_allowance_of side.now }
+    ensures in_range { unsigned_abs result ≤ 100000000 }
+{
+    side.tax.max(0)
+}
+
+// What both earned.
+fn earned(side: &Side) -> i64
+    ensures value { result ≡ earned_of side.now }
+    ensures in_range { IsWithin (pos 0) (pos 199999998) result }
+{
+    side.earned_first + side.earned_second
+}
+
+// The amount from which the higher Medicare rate is due.
+fn medicare_threshold(payroll: &Payroll, married: bool) -> i64
+    ensures value { result ≡ medicare_threshold_of payroll.now married }
+    ensures in_range { IsAmount result }
+{
+    if married {
+        payroll.threshold_married
+    } else {
+        payroll.threshold_single
+    }
+}
+
+/// The payroll tax allowance (HEA 478(g)).
+#[tactic(auto, unfolding(crate::specs::Household::payroll_allowance))]
+pub fn payroll_allowance(payroll: &Payroll, married: bool, side: &Side) -> i64
+    ensures value { result ≡ payroll_allowance_of payroll.now married side.now }
+    ensures in_range { unsigned_abs result ≤ 600000000 }
+{
+    let insurance = oasdi(payroll, side.earned_first) + oasdi(payroll, side.earned_second);
+    insurance + medicare(payroll, married, earned(side))
+}
+
+// The old age insurance of one earner.
+#[tactic(auto, unfolding(crate::specs::Household::oasdi))]
+fn oasdi(payroll: &Payroll, earned: i64) -> i64
+    requires { IsAmount earned }
+    ensures value { result ≡ oasdi_of payroll.now earned }
+    ensures in_range { unsigned_abs result ≤ 100000000 }
+{
+    share(earned.min(payroll.oasdi_cap), payroll.oasdi_rate)
+}
+
+// The Medicare tax of what both earned.
+#[tactic(auto, unfolding(crate::specs::Household::medicare))]
+fn medicare(payroll: &Payroll, married: bool, earned: i64) -> i64
+    requires { IsWithin (pos 0) (pos 199999998) earned }
+    ensures value { result ≡ medicare_of payroll.now married earned }
+    ensures in_range { unsigned_abs result ≤ 400000000 }
+{
+    let threshold = medicare_threshold(payroll, married);
+    share(earned.min(threshold), payroll.medicare_rate)
+        + share((earned - threshold).max(0), payroll.medicare_high)
+}
+
+/// The employment expense allowance (HEA 478(h)).
+#[tactic(auto, unfolding(crate::specs::Household::employment_allowance))]
+pub fn employment_allowance(employment: &Employment, side: &Side) -> i64
+    ensures value { result ≡ employment_allowance_of employment.now side.now }
+    ensures in_range { unsigned_abs result ≤ 200000000 }
+{
+    employment.cap.min(share(earned(side), employment.rate))
+}
+
+/// An amount by size of family, from the entries for the sizes `first` to `last` and what each further member adds.
+pub fn by_size(first: u8, last: u8, sizes: &[i64], extra: i64, family: u8) -> i64
+    requires entries { last - first < length sizes.now }
+    requires in_range { EachIsAmount sizes.now }
+    requires extra_in_range { IsAmount extra }
+    ensures value { result ≡ by_size_of first last sizes.now extra family }
+    ensures in_range { unsigned_abs result ≤ 30000000000 }
+{
+    let entry = family.min(last).saturating_sub(first) as usize;
+    let past = family.saturating_sub(last) as i64;
+    sizes[entry] + past * extra
+}
+
+/// An income protection allowance by size of family (HEA 478(b)).
+pub fn protection_allowance(allowance: &Allowance, family: u8) -> i64
+    ensures value { result ≡ protection_allowance_of allowance.now family }
+    ensures in_range { unsigned_abs result ≤ 30000000000 }
+{
+    by_size(2, 6, &allowance.sizes, allowance.extra, family)
+}
+
+/// The adjusted net worth of a business (HEA 478(c)).
+#[tactic(auto, unfolding(crate::specs::Household::business_worth))]
+pub fn business_worth(rows: &Brackets, x: i64) -> i64
+    requires { IsAmount x }
+    ensures value { result ≡ business_worth_of rows.now x }
+    ensures in_range { unsigned_abs result ≤ 300000000 }
+{
+    match value_at(rows, x) {
+        Some(value) => value,
+        None => 0,
+    }
+}
+
+/// The asset protection allowance (HEA 478(d)).
+#[tactic(auto, unfolding(crate::specs::Household::asset_protection))]
+pub fn asset_protection(rows: &Ages, married: bool, age: i64) -> i64
+    ensures value { result ≡ asset_protection_of rows.now married age }
+    ensures in_range { IsAmount result }
+{
+    match rows.as_slice().iter().rev().find(|row| row.start <= age) {
+        Some(row) => { if married { row.married } else { row.single } }
+        None => 0,
+    }
+}
+
+/// The contribution from assets.
+#[tactic(auto, unfolding(crate::specs::Household::asset_contribution))]
+pub fn asset_contribution(discretionary: i64, rate: i64) -> i64
+    requires discretionary_in_range { unsigned_abs discretionary ≤ 1000000000 }
+    requires rate_in_range { IsRate rate }
+    ensures value { result ≡ asset_contribution_of discretionary rate }
+    ensures in_range { unsigned_abs result ≤ 1000000000 }
+{
+    share(discretionary, rate).max(0)
+}
+
+/// The assessment schedule's value of an adjusted available income (HEA 475(e), 477(d)).
+#[tactic(auto, unfolding(crate::specs::Household::schedule_value))]
+pub fn schedule_value(book: &Book, x: i64) -> i64
+    requires { unsigned_abs x ≤ 100000000000 }
+    ensures value { result ≡ schedule_value_of book.now x }
+    ensures in_range { unsigned_abs result ≤ 200000000 + unsigned_abs x }
+{
+    if x < book.schedule.low_at {
+        return book.schedule.low;
+    }
+    match value_at(&book.bracket, x) {
+        Some(value) => value,
+        None => share(x, book.schedule.first_rate),
+    }
+}
+
+/// A table's value at an amount, where a row begins below it.
+pub fn value_at(rows: &Brackets, x: i64) -> Option<i64>
+    requires { unsigned_abs x ≤ 100000000000 }
+    ensures value { result ≡ value_at_of rows.now x }
+    ensures in_range { IfSome result (λ v. unsigned_abs v ≤ 200000000 + unsigned_abs x) }
+{
+    let row = rows.row_at(x)?;
+    Some(row.base + share(x - row.over, row.rate))
+}
+
+/// The sum of the four allowances.
+pub fn sum_of_allowances(tax: i64, payroll: i64, protection: i64, employment: i64) -> i64
+    requires tax_in_range { unsigned_abs tax ≤ 100000000 }
+    requires payroll_in_range { unsigned_abs payroll ≤ 600000000 }
+    requires protection_in_range { unsigned_abs protection ≤ 30000000000 }
+    requires employment_in_range { unsigned_abs employment ≤ 200000000 }
+    ensures value { result ≡ tax +ℤ payroll +ℤ protection +ℤ employment }
+    ensures in_range { unsigned_abs result ≤ 40000000000 }
+{
+    tax + payroll + protection + employment
+}
+
+/// The net worth of a household, from the adjusted net worth of its business.
+pub fn net_worth(side: &Side, business: i64) -> i64
+    requires { unsigned_abs business ≤ 300000000 }
+    ensures value { result ≡ side.now.support +ℤ side.now.cash +ℤ side.now.investments +ℤ business }
+    ensures in_range { unsigned_abs result ≤ 700000000 }
+{
+    side.support + side.cash + side.investments + business
+}

@@ -1,0 +1,58 @@
+//! The parents' lines of need analysis, and the lines that every household has (HEA 475 to 478, 480).
+#![tactic(auto)]
+
+ghost use Rattle.std.specs.Prelude.{◌≡◌, ◌≤◌, unsigned_abs};
+ghost use Rattle.sai_parent.specs.Lines.{AreParentLines, parent_lines};
+ghost use Rattle.sai_parent.specs.declared.ParentLines.{ParentLines as Lines};
+
+mod household;
+mod lines;
+
+use aid_types::{Application, Book};
+pub use household::{
+    asset_contribution, asset_protection, business_worth, by_size, employment_allowance, net_worth,
+    payroll_allowance, protection_allowance, schedule_value, sum_of_allowances, tax_allowance,
+    total_income,
+};
+pub use lines::{assessed, income_and_assets};
+
+/// The lines of one household, in dollars.
+#[derive(Clone, Copy, PartialEq, Eq, Debug)]
+pub struct ParentLines {
+    pub total: i64,
+    pub tax: i64,
+    pub payroll: i64,
+    pub protection: i64,
+    pub employment: i64,
+    pub allowances: i64,
+    pub available: i64,
+    pub business: i64,
+    pub worth: i64,
+    pub asset_protection: i64,
+    pub discretionary: i64,
+    pub from_assets: i64,
+    pub adjusted: i64,
+    pub contribution: i64,
+}
+
+/// The parents' lines (HEA 475(b) to (e)).
+pub fn parents(book: &Book, a: &Application) -> ParentLines
+    ensures lines { AreParentLines book.now a.now result }
+    ensures only { (lines : Lines) → AreParentLines book.now a.now lines → lines ≡ result }
+    ensures value { result ≡ parent_lines book.now a.now }
+    ensures adjusted_in_range { unsigned_abs result.adjusted ≤ 42000000000 }
+    ensures contribution_in_range { unsigned_abs result.contribution ≤ 42200000000 }
+{
+    let protection = protection_allowance(&book.protection.parents, a.family);
+    let employment = employment_allowance(&book.employment, &a.parents);
+    let lines = income_and_assets(
+        book,
+        &a.parents,
+        a.parents_married,
+        i64::from(a.parent_age),
+        protection,
+        employment,
+        book.assets.parents_rate,
+    );
+    assessed(book, lines)
+}
