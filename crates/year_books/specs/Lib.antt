@@ -1,0 +1,8 @@
+pub mod Errors
+pub mod Fields
+pub mod Reading
+pub mod Tables
+pub mod Unknown
+pub mod Numbers
+pub mod Book
+pub mod Text

@@ -1,0 +1,51 @@
+//! The book of an award year, read from a TOML text.
+#![tactic(auto)]
+
+mod build;
+mod error;
+mod numbers;
+mod parts;
+mod reading;
+mod table;
+mod tables;
+mod unknown;
+
+ghost use Rattle.std.specs.Prelude.{◌≡◌, ◌≢◌, Ok, Err, IfOk, IfErr};
+ghost use Rattle.toml.specs.View.{table_view};
+ghost use Rattle.year_books.specs.Book.{numbers_of};
+ghost use Rattle.year_books.specs.Text.{numbers_of_table, numbers_of_text};
+
+use crate::build::{break_of, build, rows_of};
+use crate::reading::{numbers_in_table, table_in};
+use crate::unknown::least_unknown;
+use aid_types::{Book, Name};
+pub use error::BookError;
+use std::alloc::Global;
+pub use table::{Field, Kind, Limit, fields};
+use toml::Table;
+
+// The book of a text's table.
+fn book_of_table(alloc: Global, table: &Table) -> Result<Book, BookError>
+    ensures ok { IfOk result (λ b. numbers_of_table (table_view table.now) ≡ Ok (numbers_of b)) }
+    ensures err { IfErr result (λ e. e ≢ BookError.NoMemory → numbers_of_table (table_view table.now) ≡ Err e) }
+{
+    let numbers = numbers_in_table(alloc, table)?;
+    let rows = rows_of(alloc, &numbers)?;
+    if let Some(error) = break_of(&numbers, &rows) {
+        return Err(error);
+    }
+    if let Some(key) = least_unknown(alloc, table)? {
+        return Err(BookError::Unknown(Name::new(key)));
+    }
+    Ok(build(&numbers, &rows))
+}
+
+/// The book that a text gives, or the first thing that is wrong with the text: that it is no TOML, then the fields 1 to 55
+/// in order, then the rows of the tables, then the keys that a book doesn't have, the least by its bytes.
+pub fn book_of(alloc: Global, text: &[u8]) -> Result<Book, BookError>
+    ensures book { IfOk result (λ b. numbers_of_text text.now ≡ Ok (numbers_of b)) }
+    ensures first_error { IfErr result (λ e. e ≢ BookError.NoMemory → numbers_of_text text.now ≡ Err e) }
+{
+    let table = table_in(alloc, text)?;
+    book_of_table(alloc, &table)
+}
