@@ -1,0 +1,3 @@
+pub mod CivilDays
+pub mod DayText
+pub mod Terms

@@ -1,0 +1,160 @@
+//! The worksheet of a withdrawal: what a school and a student return of Title IV funds (HEA 484B; 34 CFR 668.22).
+#![tactic(auto)]
+
+#[cfg(test)]
+mod tests;
+
+ghost use Rattle.std.specs.Prelude.{◌≡◌, ℕ, ◌+◌, ◌*◌, ◌<◌, ◌≤◌, ◌^◌, All, length, sum, slice_index};
+ghost use Rattle.aid_num.specs.Nearest.{half_up};
+ghost use Rattle.withdrawal_returns.specs.Worksheet.{IsInRange, grant_owed, owed_of, percent_earned as percent_of, remains as remains_of, spread as spread_of, worksheet_of};
+
+use aid_num::nearest_whole;
+
+/// What a worksheet is worked out from: the days of the term that were completed and all its days, without breaks of
+/// at least five days; the institutional charges in cents; by program, in the order of returns, the net disbursed in
+/// the term and what else could have been, in cents.
+#[derive(Clone, Copy, PartialEq, Eq, Debug)]
+pub struct Inputs {
+    pub completed: u32,
+    pub total: u32,
+    pub charges: u64,
+    pub net: [u64; 6],
+    pub could: [u64; 6],
+}
+
+/// The lines of a worksheet: the percent earned in tenths of a percent, all else in cents. `returned` is the school's
+/// part by program, `laid` the student's part by program and `owed` what of that the student repays; `post` is the
+/// post-withdrawal disbursement.
+#[derive(Clone, Copy, PartialEq, Eq, Debug)]
+pub struct Lines {
+    pub percent: u16,
+    pub earned: u64,
+    pub unearned: u64,
+    pub school: u64,
+    pub returned: [u64; 6],
+    pub student: u64,
+    pub laid: [u64; 6],
+    pub owed: [u64; 6],
+    pub post: u64,
+}
+
+/// The worksheet of a withdrawal (34 CFR 668.22): what was earned up to the last day, what the school and the student
+/// return of the rest, and what is still to be disbursed. All is earned past 60 percent of the days (668.22(e)(2)).
+/// Amounts are below a million dollars, and the last day lies in the term.
+pub fn worksheet(i: &Inputs) -> Lines
+    requires { IsInRange i.now }
+    ensures lines { result ≡ worksheet_of i.now.completed i.now.total i.now.charges i.now.net i.now.could }
+    ensures returned { sum result.returned ≡ result.school }
+    ensures laid { sum result.laid ≡ result.student }
+    ensures within { (p : ℕ) → slice_index result.returned p + slice_index result.laid p ≤ slice_index i.now.net p }
+{
+    worked_out(i)
+}
+
+// Every line.
+#[tactic(auto, unfolding(crate::specs::Worksheet::worksheet_of))]
+fn worked_out(i: &Inputs) -> Lines
+    requires { IsInRange i.now }
+    ensures { result ≡ worksheet_of i.now.completed i.now.total i.now.charges i.now.net i.now.could }
+{
+    let percent = percent_earned(i.completed, i.total);
+    let disbursed = total_of(&i.net);
+    let earned = part_of(disbursed + total_of(&i.could), percent);
+    let unearned = disbursed.saturating_sub(earned);
+    let school = unearned.min(part_of(i.charges, 1000 - percent));
+    let returned = spread(school, &i.net);
+    let student = unearned - school;
+    let laid = spread(student, &remains(&i.net, &returned));
+    Lines {
+        percent,
+        earned,
+        unearned,
+        school,
+        returned,
+        student,
+        laid,
+        owed: [
+            0,
+            0,
+            0,
+            owed(laid[3], i.net[3], i.could[3]),
+            owed(laid[4], i.net[4], i.could[4]),
+            owed(laid[5], i.net[5], i.could[5]),
+        ],
+        post: earned.saturating_sub(disbursed),
+    }
+}
+
+// The percent of the term that was completed.
+#[tactic(auto, unfolding(crate::specs::Worksheet::percent_earned))]
+fn percent_earned(completed: u32, total: u32) -> u16
+    requires begun { 1 ≤ completed }
+    requires inside { completed ≤ total }
+    ensures value { result ≡ percent_of completed total }
+    ensures at_most { result ≤ 1000 }
+{
+    let completed = u64::from(completed);
+    let total = u64::from(total);
+    if 10 * completed > 6 * total {
+        1000
+    } else {
+        nearest_whole(1000 * completed, total) as u16
+    }
+}
+
+// The part of an amount that tenths of a percent take.
+fn part_of(cents: u64, percent: u16) -> u64
+    requires amount { cents ≤ 10 ^ 12 }
+    requires part { percent ≤ 1000 }
+    ensures value { result ≡ half_up (cents * percent) 1000 }
+    ensures at_most { result ≤ cents }
+{
+    nearest_whole(cents * u64::from(percent), 1000)
+}
+
+// The sum of the amounts of all programs.
+fn total_of(amounts: &[u64; 6]) -> u64
+    requires { All (λ cents. cents ≤ 99999999) amounts.now }
+    ensures value { result ≡ sum amounts.now }
+    ensures at_most { result ≤ 600000000 }
+{
+    amounts[0] + amounts[1] + amounts[2] + amounts[3] + amounts[4] + amounts[5]
+}
+
+// An amount spread over the programs in their order, each up to its own.
+fn spread(left: u64, amounts: &[u64; 6]) -> [u64; 6]
+    ensures { result ≡ spread_of left amounts.now }
+{
+    let mut parts = [0; 6];
+    let mut rest = left;
+    for p in 0..6 {
+        let part = amounts[p].min(rest);
+        parts[p] = part;
+        rest -= part;
+    }
+    parts
+}
+
+// What remains of each amount.
+fn remains(amounts: &[u64; 6], taken: &[u64; 6]) -> [u64; 6]
+    ensures { result ≡ remains_of amounts.now taken.now }
+{
+    [
+        amounts[0].saturating_sub(taken[0]),
+        amounts[1].saturating_sub(taken[1]),
+        amounts[2].saturating_sub(taken[2]),
+        amounts[3].saturating_sub(taken[3]),
+        amounts[4].saturating_sub(taken[4]),
+        amounts[5].saturating_sub(taken[5]),
+    ]
+}
+
+// What the student repays of a grant.
+fn owed(laid: u64, net: u64, could: u64) -> u64
+    requires disbursed { net ≤ 99999999 }
+    requires not_disbursed { could ≤ 99999999 }
+    ensures { result ≡ grant_owed laid (half_up (net + could) 2) }
+{
+    let above_half = laid.saturating_sub(nearest_whole(net + could, 2));
+    if above_half <= 5000 { 0 } else { above_half }
+}
