@@ -1,0 +1,58 @@
+-- What a status tells of the stop.
+use Rattle.std.proofs.Common.{◌≡◌, ◌≢◌, ◌⊎◌, inl, inr, ℕ, zero, suc, ◌<◌, ◌≤◌, Result, Ok, Err, IsTrue, ap, refl, sym, ◌∙◌, ◌^◌, arith}
+use Rattle.std.specs.Prelude.{IfErr, IsOk, ◌↔◌}
+use Rattle.aid_edges.specs.Faults.{Rose}
+use Rattle.disk_model.specs.Telling.{Telling}
+use Rattle.filing_journal.specs.Head.{IsBorn, IsForeign}
+use Rattle.filing_journal.specs.Stands.{IsUnborn}
+use Rattle.kept_office.specs.Faulty.{IsFaultyAt}
+use Rattle.aid_office.specs.Words.{IsFile, IsFound}
+use Rattle.aid_office.specs.Ending.{HasReason, is_disk_fault, status_of}
+use Rattle.aid_office.specs.RowStops.{IsOfFile, IsOfFiling, IsOfFounding}
+use Rattle.aid_office.specs.declared.stop.Stop.{Stop}
+use Rattle.aid_office.specs.declared.stop.Stop.TheVariants.{Usage, Read, Write, DiskFault, NoOffice, NotJournal, Exists, Damaged, TooLong, NoMemory}
+
+-- the status of what a run came to, where the sink's count went from one number to the other
+pub record HasStatus {U : Type 0} (ended : Result U Stop) (status old new : ℕ) : Type 0 where
+  pub well : (status ≡ 0) ↔ IsOk ended
+  pub fault : IfErr ended (λ stop. (status ≡ status_of stop) ⊎ ((status ≡ 4) × Rose old new))
+
+-- a status is 0 or that of a stop
+pub is_status : {U : Type 0} (ended : Result U Stop) (status old new : ℕ) → HasStatus ended status old new → (status ≡ 0) ⊎ ((stop : Stop) × (status ≡ status_of stop))
+is_status (Ok u) status old new h = inl (h.well.1 refl)
+is_status (Err stop) status old new h = from h.fault
+  where
+    from : ((status ≡ status_of stop) ⊎ ((status ≡ 4) × Rose old new)) → (status ≡ 0) ⊎ ((stop : Stop) × (status ≡ status_of stop))
+    from (inl is) = inr (stop, is)
+    from (inr is) = inr (Write, is.0)
+
+-- a run that wasn't all done
+pub fault_of : {U : Type 0} (stop : Stop) (status old new : ℕ) → HasStatus {U = U} (Err stop) status old new → (status ≡ status_of stop) ⊎ ((status ≡ 4) × Rose old new)
+fault_of stop status old new h = h.fault
+
+pub not_done : {U : Type 0} (u : U) (status old new : ℕ) → HasStatus {U = U} (Ok u) status old new → status ≡ 0
+not_done u status old new h = h.well.1 refl
+
+split : (m n : ℕ) → m ≤ n → (m ≡ n) ⊎ (m < n)
+split zero zero le = inl refl
+split zero (suc n) le = inr (omega arith)
+split (suc m) zero le = absurd (omega arith)
+split (suc m) (suc n) le = from (split m n (omega (arith, le)))
+  where
+    from : ((m ≡ n) ⊎ (m < n)) → (suc m ≡ suc n) ⊎ (suc m < suc n)
+    from (inl same) = inl (ap suc same)
+    from (inr less) = inr (omega (arith, less))
+
+-- a count that rose after a time
+pub rose_after : (a b c : ℕ) → a ≤ b → Rose b c → Rose a c
+rose_after a b c le (inl more) = inl (omega (arith, le, more))
+rose_after a b c le (inr last) = inr last
+
+-- a count that rose before a time
+pub rose_before : (a b c : ℕ) → a ≤ b → b ≤ c → Rose a b → Rose a c
+rose_before a b c le later (inl more) = inl (omega (arith, later, more))
+rose_before a b c le later (inr last) = from (split b c later)
+  where
+    from : ((b ≡ c) ⊎ (b < c)) → Rose a c
+    from (inl same) = inr (sym same ∙ last)
+    from (inr less) = inl (omega (arith, le, less))

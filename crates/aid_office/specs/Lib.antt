@@ -1,0 +1,5 @@
+pub mod Words
+pub mod FileText
+pub mod Refusals
+pub mod Ending
+pub mod RowStops

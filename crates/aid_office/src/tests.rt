@@ -1,0 +1,176 @@
+// What no clause says: worked texts and files, that memory suffices for them, and what each fault leaves.
+use crate::session::run;
+use aid_edges::{MemorySink, SteadySource};
+use disk_model::{Fill, MemoryDisk, Stop};
+use std::alloc::Global;
+use std::test::Fail;
+
+const FIRST: &[u8] = b"school,0,1,110,2,12\nprior,0,2,5001,550000\n";
+
+const ACCEPTED: &[u8] = b"1 0 accepted 1 noted\n2 1 accepted 2 noted\n";
+
+const AGAIN: &[u8] = b"1 2 again 1 noted\n2 2 again 2 noted\n";
+
+// A founded file without filings.
+const EMPTY: &[u8] = b"\x01AIDPELL1\x01\0\0\0\0\0\0\0";
+
+// The file of the two first filings.
+const BOTH: &[u8] =
+    b"\x01AIDPELL1\x01\0\0\0\0\0\0\x01\x13\0\0\0\x02\0\0\0\0\x01\0\0\0\0\0\0\0\x6e\0\0\0\x02\x0c\x01\x19\0\0\0\x04\0\0\0\0\x02\0\0\0\0\0\0\0\x89\x13\0\0\0\0\0\0\x70\x64\x08\0\0";
+
+fn disk(
+    alloc: Global,
+    bytes: &[u8],
+    failing: &[u64],
+    stop: Option<Stop>,
+) -> Result<MemoryDisk, Fail> {
+    Ok(MemoryDisk::new(alloc, bytes.to_vec(alloc)?, failing.to_vec(alloc)?, stop)?)
+}
+
+// What a run of one word gives: its status, its text and its disk.
+fn ran(
+    alloc: Global,
+    word: &str,
+    input: &[u8],
+    disk: MemoryDisk,
+    failing: &[u64],
+) -> Result<(u8, MemorySink, MemoryDisk), Fail> {
+    let words = vec![in alloc; String::from_str(alloc, word)?]?;
+    let mut source = SteadySource::new(input.to_vec(alloc)?);
+    let mut sink = MemorySink::new(alloc, failing.to_vec(alloc)?);
+    let (status, disk) = run(alloc, &words, disk, &mut source, &mut sink);
+    Ok((status, sink, disk))
+}
+
+// Each run goes on with the file of the one before it.
+#[test]
+fn runs_follow_each_other(rt: HostRuntime) -> Result<(), Fail> {
+    let alloc = rt.alloc();
+    let rows: [(&str, &[u8], u8, &[u8], usize); 10] = [
+        ("file", FIRST, 6, b"fault no office\n", 0),
+        ("found", b"", 0, b"founded\n", 17),
+        ("file", FIRST, 0, ACCEPTED, 71),
+        ("file", b"", 0, b"", 71),
+        ("file", FIRST, 0, AGAIN, 71),
+        (
+            "file",
+            b"prior,0,2,5001,540000",
+            0,
+            b"1 2 refused 15 2 2\n",
+            71,
+        ),
+        ("file", b"prior,0,x,5001,1", 0, b"1 error 3 3\n", 71),
+        ("file", b"loan,0,9", 0, b"1 error 1 1\n", 71),
+        ("quote", b"", 2, b"fault usage\n", 71),
+        ("found", b"", 6, b"fault office exists\n", 71),
+    ];
+    let mut kept = disk(alloc, &[], &[], None)?;
+    for (word, input, want, text, size) in rows {
+        let (status, sink, next) = ran(alloc, word, input, kept, &[])?;
+        assert_eq!(rt; status, want, "{word}");
+        assert_eq!(rt; sink.text(), text, "{word}");
+        assert_eq!(rt; next.image().len(), size, "{word}");
+        kept = next;
+    }
+    assert_eq!(rt; kept.image(), BOTH);
+    Ok(())
+}
+
+#[test]
+fn answers_by_the_bytes(rt: HostRuntime) -> Result<(), Fail> {
+    let alloc = rt.alloc();
+    let rows: [(&[u8], u8, &[u8]); 4] = [
+        (b"ten bytes.", 6, b"fault no office\n"),
+        (b"seventeen letters", 6, b"fault no office\n"),
+        (b"eighteen letters..", 6, b"fault not a journal\n"),
+        (&BOTH[..60], 7, b"fault damaged 40\n"),
+    ];
+    for (bytes, want, text) in rows {
+        let (status, sink, after) = ran(alloc, "file", b"", disk(alloc, bytes, &[], None)?, &[])?;
+        assert_eq!(rt; status, want);
+        assert_eq!(rt; sink.text(), text);
+        assert_eq!(rt; after.image(), bytes);
+    }
+    Ok(())
+}
+
+// A run that ended in a fault of the disk is made again, and then all stands.
+#[test]
+fn disk_faults_end_a_run(rt: HostRuntime) -> Result<(), Fail> {
+    let alloc = rt.alloc();
+    // The first filing is put by two calls, kept by two more, and so is the second.
+    let rows: [(u64, &[u8]); 8] = [
+        (9, b"fault disk none\n"),
+        (10, b"fault disk none\n"),
+        (11, b"fault disk 3\n"),
+        (12, b"fault disk 3\n"),
+        (13, b"1 2 accepted 3 noted\nfault disk none\n"),
+        (14, b"1 2 accepted 3 noted\nfault disk none\n"),
+        (15, b"1 2 accepted 3 noted\nfault disk 4\n"),
+        (16, b"1 2 accepted 3 noted\nfault disk 4\n"),
+    ];
+    let input = b"prior,0,7,5007,1\nprior,0,8,5008,1\n".as_slice();
+    for (call, text) in rows {
+        let (status, sink, left) = ran(
+            alloc,
+            "file",
+            input,
+            disk(alloc, BOTH, &[call], None)?,
+            &[],
+        )?;
+        assert_eq!(rt; status, 5, "call {call}");
+        assert_eq!(rt; sink.text(), text, "call {call}");
+        let (status, _, _) = ran(alloc, "file", input, left, &[])?;
+        assert_eq!(rt; status, 0, "call {call}");
+    }
+    Ok(())
+}
+
+// An office of two filings, stopped in the write of the third's gate.
+#[test]
+fn a_stop_loses_nothing(rt: HostRuntime) -> Result<(), Fail> {
+    let alloc = rt.alloc();
+    let input = b"prior,0,7,5007,1\n".as_slice();
+    let rows: [(u8, &[u8]); 3] = [
+        (0, b"1 2 accepted 3 noted\n"),
+        (1, b"1 3 again 3 noted\n"),
+        (7, b"1 2 accepted 3 noted\n"),
+    ];
+    for (byte, text) in rows {
+        let stop = Some(Stop {
+            call: 11,
+            fill: Fill::With(byte),
+        });
+        let (status, sink, left) = ran(alloc, "file", input, disk(alloc, BOTH, &[], stop)?, &[])?;
+        assert_eq!(rt; (status, sink.text()), (5, b"fault disk 3\n".as_slice()));
+        let next = disk(alloc, left.image(), &[], None)?;
+        let (status, sink, _) = ran(alloc, "file", input, next, &[])?;
+        assert_eq!(rt; status, 0, "{byte}");
+        assert_eq!(rt; sink.text(), text, "{byte}");
+    }
+    Ok(())
+}
+
+#[test]
+fn write_faults_end_a_run(rt: HostRuntime) -> Result<(), Fail> {
+    let alloc = rt.alloc();
+    let rows: [(&str, &[u8], u64, &[u8], usize); 4] = [
+        ("file", EMPTY, 1, b"", 41),
+        ("file", EMPTY, 2, b"1 0 accepted 1 noted\n", 71),
+        ("found", b"", 1, b"", 17),
+        ("none", b"", 1, b"", 0),
+    ];
+    for (word, bytes, call, text, size) in rows {
+        let (status, sink, after) = ran(
+            alloc,
+            word,
+            FIRST,
+            disk(alloc, bytes, &[], None)?,
+            &[call],
+        )?;
+        assert_eq!(rt; status, 4, "{word} {call}");
+        assert_eq!(rt; sink.text(), text, "{word} {call}");
+        assert_eq!(rt; after.image().len(), size, "{word} {call}");
+    }
+    Ok(())
+}

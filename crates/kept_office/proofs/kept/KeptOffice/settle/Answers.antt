@@ -1,0 +1,25 @@
+use Rattle.std.proofs.Common.{◌≡◌, ◌≢◌, Bool, false, not, Option, Some, None, refl, ap}
+use Rattle.std.specs.Prelude.{is_some}
+use Rattle.aid_types.specs.declared.filing.Filing.{Filing}
+use Rattle.kept_office.specs.Kept.{kept_disk}
+use Rattle.kept_office.proofs.Sound.{settling_moments, still_sound}
+use Rattle.kept_office.proofs.kept.KeptOffice.settle.Goals as goal
+
+isnt_none : (o : Option Filing) (r : Bool) → is_some o ≡ not r → r ≡ false → o ≢ None
+isnt_none None r is shut none = cc (is, ap not shut)
+isnt_none (Some f) r is shut none = cc
+
+pub returns-in_err-settle-clause-sound : goal.returns-in_err-settle-clause-sound
+returns-in_err-settle-clause-sound g c honest =
+    still_sound g.D.Disk c.args.self.now _ (isnt_none c.args.self.now.pending c.is_none.result c.is_none.ensures c.if-is_none.false) (g.met.D.Disk.reads_as_image (kept_disk c.args.self.now) honest) refl refl
+    (λ b p may. c.in_err-settle.ensures.still honest b p may) (c.requires.sound honest)
+
+pub returns-in_err-settle-clause-moments : goal.returns-in_err-settle-clause-moments
+returns-in_err-settle-clause-moments g c honest =
+    settling_moments g.D.Disk c.args.self.now _ (isnt_none c.args.self.now.pending c.is_none.result c.is_none.ensures c.if-is_none.false) (g.met.D.Disk.reads_as_image (kept_disk c.args.self.now) honest)
+    (λ b p may. c.settle.ensures.moments honest b p may) (c.requires.sound honest)
+
+pub returns-in-Some-clause-moments : goal.returns-in-Some-clause-moments
+returns-in-Some-clause-moments g c honest =
+    settling_moments g.D.Disk c.args.self.now _ (isnt_none c.args.self.now.pending c.is_none.result c.is_none.ensures c.if-is_none.false) (g.met.D.Disk.reads_as_image (kept_disk c.args.self.now) honest)
+    (λ b p may. c.settle.ensures.moments honest b p may) (c.requires.sound honest)

@@ -1,0 +1,118 @@
+-- What a turn of an office makes of an ask.
+use Rattle.std.specs.Prelude.{◌≡◌, ◌⊎◌, ◌+◌, ℕ, Bool, true, false, IsTrue, List, ◌∷◌, length, Option, Some, None, IsSome}
+use Rattle.aid_types.specs.declared.filing.Filing.{Filing}
+use Rattle.aid_types.specs.declared.reply.Ask.{Ask}
+use Rattle.aid_types.specs.declared.reply.Ask.TheVariants.{File}
+use Rattle.aid_types.specs.declared.reply.Outcome.{Outcome}
+use Rattle.aid_types.specs.declared.reply.Refusal.{Refusal}
+use Rattle.aid_types.specs.declared.reply.Reply.{Reply}
+use Rattle.aid_types.specs.declared.reply.Reply.TheVariants.{Accepted, Again, Refused, DiskFault, NoMemory}
+use Rattle.aid_types.specs.declared.reply.Verdict.TheVariants as verdict
+use Rattle.office_history.specs.Answer.{answer_to, is_admit}
+use Rattle.kept_office.specs.Recovers.{Recovers}
+
+-- the history once an undecided filing is settled: it is admitted
+abbrev pub settled : Option Filing → List Filing → List Filing
+settled None history = history
+settled (Some filing) history = filing ∷ history
+
+-- the filing that is asked about
+abbrev pub asked : Ask → Option Filing
+asked (File filing) = Some filing
+
+-- the history with the filing of an ask
+abbrev pub with_asked : Ask → List Filing → List Filing
+with_asked ask past = settled (asked ask) past
+
+-- the ask's filing is admitted, at the place after those before it
+pub record IsAccepted (past : List Filing) (ask : Ask) (position front : ℕ) (outcome : Outcome) (history : List Filing) (pending : Option Filing) : Type 0 where
+  pub answer : answer_to past ask ≡ verdict.Admit outcome
+  pub seen : front ≡ length past
+  pub next : position ≡ front + 1
+  pub list : history ≡ with_asked ask past
+  pub decided : pending ≡ None
+
+-- the ask's filing stands already; nothing changes
+pub record IsAgain (past : List Filing) (ask : Ask) (position front : ℕ) (outcome : Outcome) (history : List Filing) (pending : Option Filing) : Type 0 where
+  pub answer : answer_to past ask ≡ verdict.Again position outcome
+  pub seen : front ≡ length past
+  pub list : history ≡ past
+  pub decided : pending ≡ None
+
+-- the ask's filing is refused; nothing changes
+pub record IsRefused (past : List Filing) (ask : Ask) (refusal : Refusal) (front : ℕ) (history : List Filing) (pending : Option Filing) : Type 0 where
+  pub answer : answer_to past ask ≡ verdict.Refused refusal
+  pub seen : front ≡ length past
+  pub list : history ≡ past
+  pub decided : pending ≡ None
+
+-- a filing that is to be admitted isn't kept, for good
+pub record IsNotKept (past : List Filing) (ask : Ask) (history : List Filing) (pending : Option Filing) : Type 0 where
+  pub admitted : IsTrue (is_admit (answer_to past ask))
+  pub list : history ≡ past
+  pub decided : pending ≡ None
+
+-- a filing that is to be admitted is undecided; it is named by the place after those before it
+pub record IsLeftUndecided (past : List Filing) (ask : Ask) (position : ℕ) (history : List Filing) (pending : Option Filing) : Type 0 where
+  pub admitted : IsTrue (is_admit (answer_to past ask))
+  pub list : history ≡ past
+  pub undecided : pending ≡ asked ask
+  pub next : position ≡ length past + 1
+
+-- the filing that was undecided still is, and the ask wasn't judged
+pub record IsUnsettled (old : List Filing) (was : Option Filing) (position : ℕ) (history : List Filing) (pending : Option Filing) : Type 0 where
+  pub some : IsSome was
+  pub list : history ≡ old
+  pub undecided : pending ≡ was
+  pub next : position ≡ length old + 1
+
+-- nothing changes
+pub record IsUnchanged (old : List Filing) (was : Option Filing) (history : List Filing) (pending : Option Filing) : Type 0 where
+  pub list : history ≡ old
+  pub undecided : pending ≡ was
+
+-- One ask where nothing is undecided: the history before, the ask, the reply, and the history and the undecided filing
+-- after.
+abbrev pub Answers : List Filing → Ask → Reply → List Filing → Option Filing → Type 0
+Answers past ask (Accepted position front outcome) history pending = IsAccepted past ask position front outcome history pending
+Answers past ask (Again position front outcome) history pending = IsAgain past ask position front outcome history pending
+Answers past ask (Refused refusal front) history pending = IsRefused past ask refusal front history pending
+Answers past ask (DiskFault None) history pending = IsNotKept past ask history pending
+Answers past ask (DiskFault (Some position)) history pending = IsLeftUndecided past ask position history pending
+Answers past ask NoMemory history pending = ⊥
+
+-- One turn: the history and the undecided filing before, the ask, the reply, and the same two after. What was undecided
+-- is settled first, and the ask is judged on the history with it.
+abbrev pub Turns : List Filing → Option Filing → Ask → Reply → List Filing → Option Filing → Type 0
+Turns old was ask (DiskFault (Some position)) history pending = IsUnsettled old was position history pending
+    ⊎ IsLeftUndecided (settled was old) ask position history pending
+Turns old was ask NoMemory history pending = IsUnchanged old was history pending
+Turns old was ask reply history pending = Answers (settled was old) ask reply history pending
+
+-- the ask's filing stands in the history
+abbrev pub is_acknowledged : Reply → Bool
+is_acknowledged (Accepted position front outcome) = true
+is_acknowledged (Again position front outcome) = true
+is_acknowledged (Refused refusal front) = false
+is_acknowledged (DiskFault undecided) = false
+is_acknowledged NoMemory = false
+
+abbrev pub is_accepted : Reply → Bool
+is_accepted (Accepted position front outcome) = true
+is_accepted (Again position front outcome) = false
+is_accepted (Refused refusal front) = false
+is_accepted (DiskFault undecided) = false
+is_accepted NoMemory = false
+
+abbrev pub is_fault : Reply → Bool
+is_fault (Accepted position front outcome) = false
+is_fault (Again position front outcome) = false
+is_fault (Refused refusal front) = false
+is_fault (DiskFault undecided) = true
+is_fault NoMemory = false
+
+-- A file at a moment of a turn recovers the history before, or that with the undecided filing, or that with the ask's
+-- filing too, where this is to be admitted.
+abbrev pub MayRecover : List Filing → Option Filing → Ask → List ℕ → Type 0
+MayRecover old was ask file = Recovers file old ⊎ (Recovers file (settled was old)
+    ⊎ (IsTrue (is_admit (answer_to (settled was old) ask)) × Recovers file (with_asked ask (settled was old))))

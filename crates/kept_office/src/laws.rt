@@ -1,0 +1,26 @@
+// What follows from the contracts alone, said of no call. Each of these functions does nothing.
+ghost use Rattle.std.specs.Prelude.{◌≡◌, ◌++◌, ℕ, List};
+ghost use Rattle.aid_types.specs.declared.filing.Filing.{Filing};
+ghost use Rattle.kept_office.specs.Recovers.{Recovers};
+ghost use Rattle.kept_office.specs.Faulty.{IsFaultyAt};
+ghost use Rattle.kept_office.specs.Lives.{Fate, Left, Life, MayHave};
+
+use disk_model::Disk;
+
+/// A file recovers one history at most.
+pub fn once()
+    ensures { (file : List ℕ) (one other : List Filing) → Recovers file one → Recovers file other → one ≡ other }
+{}
+
+/// A file that recovers a history has no fault at any place.
+pub fn unfaulty()
+    ensures { (file : List ℕ) (history : List Filing) (place : ℕ) → Recovers file history → IsFaultyAt file place → ⊥ }
+{}
+
+/// After any list of turns, faults, crashes and openings a file that a crash left recovers the history before, and
+/// after it each filing that was admitted, each that was uncertain at a crash or not, and no other, in the order in
+/// which they were filed. The history that it recovers is legal, so no key stands twice in it.
+pub fn lives<D: Disk>(_disk: &D)
+    ensures { (before : List Filing) (fates : List Fate) (file : List ℕ) → Life D.Disk before fates (Left file)
+        → (kept : List Filing) × MayHave fates kept × Recovers file (kept ++ before) }
+{}
