@@ -11,15 +11,6 @@ use Rattle.std.proofs.lemmas.Int.{ints}
 use Rattle.aid_types.specs.Ranges.{IsAmount, IsBetween, IsSignedAmount}
 use Rattle.aid_types.specs.declared.number.Key.{Key}
 use Rattle.aid_types.specs.declared.application.Side.{Side}
-use Rattle.aid_types.specs.declared.filing.Filing.{Filing}
-use Rattle.aid_types.specs.declared.filing.PriorFacts.{PriorFacts}
-use Rattle.aid_types.specs.declared.filing.SchoolFacts.{SchoolFacts}
-use Rattle.aid_types.specs.declared.filing.What.{What}
-use Rattle.aid_types.specs.declared.filing.What.TheVariants.{School, Prior}
-use Rattle.aid_types.specs.contracts.filing.FilingPartialEq.TheImpl.{eq-value as filing_eq, ghosts as filing_ghosts}
-use Rattle.aid_types.specs.contracts.filing.PriorFactsPartialEq.TheImpl.{eq-value as prior_facts_eq}
-use Rattle.aid_types.specs.contracts.filing.SchoolFactsPartialEq.TheImpl.{eq-value as school_facts_eq}
-use Rattle.aid_types.specs.contracts.filing.WhatPartialEq.TheImpl.{eq-value as what_eq}
 use Rattle.aid_types.specs.contracts.number.KeyPartialEq.TheImpl.{eq-value as key_eq, ghosts as key_ghosts}
 use Rattle.aid_types.specs.contracts.application.SidePartialEq.TheImpl.{eq-value as side_eq}
 
@@ -102,58 +93,6 @@ pub tells_side : Tells side_eq.it
 unfolding side_parts
 tells_side = tells_by side_parts side_whole (tells_pair tells_ℤ (tells_pair tells_ℤ (tells_pair tells_ℤ (tells_pair tells_ℤ (tells_pair tells_ℤ (tells_pair tells_ℤ (tells_pair tells_ℤ (tells_pair tells_ℤ (tells_pair tells_ℤ (tells_pair tells_ℤ (tells_pair tells_ℤ (tells_pair tells_ℤ (tells_pair tells_ℤ (tells_pair tells_ℤ (tells_pair tells_ℤ tells_ℤ)))))))))))))))
 
--- ---- filings
-school_facts_parts : SchoolFacts → ℕ × (ℕ × ℕ)
-school_facts_parts s = (s.code, (s.terms, s.full))
-
-school_facts_whole : (x y : SchoolFacts) → school_facts_parts x ≡ school_facts_parts y → x ≡ y
-unfolding school_facts_parts
-school_facts_whole x y e =
-    let P : ℕ × (ℕ × ℕ) → Type 0 = λ b. IsBetween 1 999999 b.0 × IsBetween 2 3 b.1.0 × IsBetween 1 40 b.1.1 in
-    let make : (b : ℕ × (ℕ × ℕ)) → P b → SchoolFacts = λ b p. record { code = b.0; terms = b.1.0; full = b.1.1; in_range = p } in
-    same_with_fact P make (λ b. hlevel (le_prop)) (school_facts_parts x) (school_facts_parts y) x.in_range y.in_range e
-
-pub tells_school_facts : Tells school_facts_eq.it
-unfolding school_facts_parts
-tells_school_facts = tells_by school_facts_parts school_facts_whole (tells_pair tells_ℕ (tells_pair tells_ℕ tells_ℕ))
-
-prior_facts_parts : PriorFacts → ℕ × ℕ
-prior_facts_parts p = (p.student, p.units)
-
-prior_facts_whole : (x y : PriorFacts) → prior_facts_parts x ≡ prior_facts_parts y → x ≡ y
-unfolding prior_facts_parts
-prior_facts_whole x y e = let make : ℕ × ℕ → PriorFacts = λ b. record { student = b.0; units = b.1 } in ap make e
-
-pub tells_prior_facts : Tells prior_facts_eq.it
-unfolding prior_facts_parts
-tells_prior_facts = tells_by prior_facts_parts prior_facts_whole (tells_pair tells_ℕ tells_ℕ)
-
-pub tells_what : Tells what_eq.it
-tells_what = record { same = same; told = told } where
-  same : (x y : What) → what_eq.it x y ≡ true → x ≡ y
-  same (School x) (School y) h = ap School (tells_school_facts.same x y h)
-  same (Prior x) (Prior y) h = ap Prior (tells_prior_facts.same x y h)
-  same (School x) (Prior y) h = absurd (true≢false (sym h))
-  same (Prior x) (School y) h = absurd (true≢false (sym h))
-
-  told : (x : What) → what_eq.it x x ≡ true
-  told (School x) = tells_school_facts.told x
-  told (Prior x) = tells_prior_facts.told x
-
-filing_parts : Filing → Key × What
-filing_parts f = (f.key, f.what)
-
-filing_whole : (x y : Filing) → filing_parts x ≡ filing_parts y → x ≡ y
-unfolding filing_parts
-filing_whole x y e = let make : Key × What → Filing = λ b. record { key = b.0; what = b.1 } in ap make e
-
-pub tells_filing : Tells filing_eq.it
-unfolding filing_parts
-tells_filing = tells_by filing_parts filing_whole (tells_pair tells_key tells_what)
-
 -- what a derive above compares by
 pub key_eq-Decides : (a b : Key) → Decides (key_ghosts.eq a b) (a ≡ b)
 key_eq-Decides a b = decides tells_key a b (key_ghosts.eq a b) refl
-
-pub filing_eq-Decides : (a b : Filing) → Decides (filing_ghosts.eq a b) (a ≡ b)
-filing_eq-Decides a b = decides tells_filing a b (filing_ghosts.eq a b) refl

@@ -252,7 +252,10 @@ pointwise_told : {A : Type 0} {q : A → A → Bool} → Tells q → (xs : List 
 pointwise_told t [] = refl
 pointwise_told {A} {q} t (x ∷ xs) = and_from (q x x) (pointwise q xs xs) (t.told x) (pointwise_told t xs)
 
-tells_filled : {A : Type 0} {q : A → A → Bool} (room : ℕ) (fill : A) → Tells q → Tells (λ (xs ys : List A). pointwise q (filled room fill xs) (filled room fill ys) && nat_eq (length xs) (length ys))
+pub tells_list : {A : Type 0} {q : A → A → Bool} → Tells q → Tells (λ (xs ys : List A). pointwise q xs ys)
+tells_list t = record { same = λ xs ys h. pointwise_same t xs ys h; told = λ xs. pointwise_told t xs }
+
+pub tells_filled : {A : Type 0} {q : A → A → Bool} (room : ℕ) (fill : A) → Tells q → Tells (λ (xs ys : List A). pointwise q (filled room fill xs) (filled room fill ys) && nat_eq (length xs) (length ys))
 tells_filled {A} {q} room fill t = record {
   same = λ xs ys h.
       let k = and_parts (pointwise q (filled room fill xs) (filled room fill ys)) (nat_eq (length xs) (length ys)) h in

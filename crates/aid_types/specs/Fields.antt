@@ -1,5 +1,5 @@
 -- The fields of each kind of filing, and a filing as the list of its numbers.
-use Rattle.std.specs.Prelude.{⊤, ℕ, ℤ, pos, List, [], ◌∷◌}
+use Rattle.std.specs.Prelude.{⊤, ℕ, ℤ, pos, List, [], ◌∷◌, Option, Some, None}
 use Rattle.aid_types.specs.Ranges.{IsWithin}
 use Rattle.aid_types.specs.declared.fields.Width.{Width}
 use Rattle.aid_types.specs.declared.fields.Width.TheVariants.{One, Two, Four, Eight}
@@ -42,15 +42,17 @@ abbrev pub fields_of : Kind → List Field
 fields_of kinds.School = school ∷ number ∷ field Four (pos 1) (pos 999999) ∷ field One (pos 2) (pos 3) ∷ field One (pos 1) (pos 40) ∷ []
 fields_of kinds.Prior = school ∷ number ∷ student ∷ field Four (pos 0) (pos 4294967295) ∷ []
 
--- the kind of what is filed
-abbrev pub kind_of : What → Kind
-kind_of (School facts) = kinds.School
-kind_of (Prior facts) = kinds.Prior
+-- the kind of what is filed, where filings of that kind have fields
+abbrev pub kind_of : What → Option Kind
+kind_of (School facts) = Some kinds.School
+kind_of (Prior facts) = Some kinds.Prior
+kind_of _ = None
 
 -- the numbers of what is filed, in the order of its fields
 abbrev pub facts_of : What → List ℤ
 facts_of (School facts) = pos facts.code ∷ pos facts.terms ∷ pos facts.full ∷ []
 facts_of (Prior facts) = pos facts.student ∷ pos facts.units ∷ []
+facts_of _ = []
 
 -- the numbers of a filing, those of its key first
 abbrev pub numbers_of : Filing → List ℤ
@@ -63,6 +65,11 @@ AreInRange [] (z ∷ zs) = ⊥
 AreInRange (f ∷ fs) [] = ⊥
 AreInRange (f ∷ fs) (z ∷ zs) = IsWithin f.low f.high z × AreInRange fs zs
 
--- a filing whose numbers are in their ranges, as those of each filing that a program holds
+-- numbers of a kind that has fields, in their ranges
+abbrev pub AreOfKind : Option Kind → List ℤ → Type 0
+AreOfKind None zs = ⊥
+AreOfKind (Some kind) zs = AreInRange (fields_of kind) zs
+
+-- a filing of a kind that has fields, its numbers in their ranges
 abbrev pub IsFiling : Filing → Type 0
-IsFiling filing = AreInRange (fields_of (kind_of filing.what)) (numbers_of filing)
+IsFiling filing = AreOfKind (kind_of filing.what) (numbers_of filing)

@@ -1,5 +1,5 @@
 -- The ranges of the numbers that filings hold.
-use Rattle.std.specs.Prelude.{ℕ, ◌≤◌, ℤ, pos, neg_ℤ, ◌≤ℤ◌, int_le, Bool, ◌&&◌, List, IsTrue}
+use Rattle.std.specs.Prelude.{ℕ, ◌≤◌, nat_le, ℤ, pos, neg_ℤ, ◌≤ℤ◌, int_le, Bool, ◌&&◌, List, IsTrue}
 use Rattle.std.specs.List.{list_all}
 
 -- low to high
@@ -36,3 +36,10 @@ is_amount z = int_le (pos 0) z && int_le z (pos 99999999)
 -- each of a list is an amount: a test, so that it computes at a literal
 abbrev pub EachIsAmount : List ℤ → Type 0
 EachIsAmount zs = IsTrue (list_all is_amount zs)
+
+-- cents of one filing, below a million dollars: a test of each of a list
+abbrev pub is_cents : ℕ → Bool
+is_cents n = nat_le n 99999999
+
+abbrev pub EachIsCents : List ℕ → Type 0
+EachIsCents ns = IsTrue (list_all is_cents ns)

@@ -81,7 +81,7 @@ pub const PRIOR_FIELDS: [Field; 4] = [
     },
 ];
 
-/// A kind of filing.
+/// A kind of filing that has fields: those that are filed as rows and kept as bytes.
 #[derive(Clone, Copy, PartialEq, Eq, Debug)]
 pub enum Kind {
     School,

@@ -26,10 +26,13 @@ pub use book::{
 pub use boxed::BoxedBook;
 pub use day::Day;
 pub use fields::{Field, Kind, PRIOR_FIELDS, SCHOOL_FIELDS, Width};
-pub use filing::{Filing, PriorFacts, SchoolFacts, What};
+pub use filing::{
+    Amount, CalendarFacts, EnrolFacts, Filing, OriginateFacts, PriorFacts, SchoolFacts, What,
+    WithdrawFacts,
+};
 pub use marginal::{Bracket, Brackets};
 pub use name::Name;
 pub use number::{Key, Program, School, Student, Year};
 pub use numbers::Numbers;
-pub use reply::{Ask, Formula, Outcome, Refusal, Reply, Verdict, Way};
+pub use reply::{Ask, Formula, Outcome, Refusal, Reply, StandingRow, Verdict, Way};
 pub use term::{Breaks, Term};

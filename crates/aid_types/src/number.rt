@@ -1,4 +1,7 @@
 //! The numbers that name years, students and schools.
+ghost use Rattle.std.specs.Prelude.{◌≡◌, ◌<◌, ◌↔◌, IsTrue};
+ghost use Rattle.aid_types.specs.Ranges.{IsBetween};
+
 use std::marker::Model;
 
 /// An award year, by the first of its two calendar years: 2000 to 2099.
@@ -51,7 +54,6 @@ impl Model for School {
     ghost inverse = { λ n. record { 0 = n } };
 }
 
-ghost use Rattle.std.specs.Prelude.{◌≡◌, ◌↔◌, IsTrue};
 /// A program of aid under Title IV, in the order of returns (34 CFR 668.22(i)).
 #[derive(Clone, Copy, PartialEq, Eq, PartialOrd, Ord, Debug)]
 pub enum Program {
@@ -63,7 +65,24 @@ pub enum Program {
     Teach,
 }
 
-ghost use Rattle.aid_types.specs.Ranges.{IsBetween};
+impl Program {
+    ghost use Rattle.aid_types.specs.Programs.{rank as rank_of};
+
+    /// Its place in the order of returns, from 0.
+    pub fn rank(self) -> usize
+        ensures value { result ≡ rank_of self }
+        ensures in_range { result < 6 }
+    {
+        match self {
+            Program::Unsub => 0,
+            Program::Sub => 1,
+            Program::Plus => 2,
+            Program::Pell => 3,
+            Program::Fseog => 4,
+            Program::Teach => 5,
+        }
+    }
+}
 
 /// What names a filing: its school and a number that the school gives it, 1 to 999,999,999,999.
 #[derive(Clone, Copy, PartialEq, Eq, Debug)]

@@ -1,5 +1,5 @@
 //! A filing as the list of its numbers.
-ghost use Rattle.std.specs.Prelude.{◌≡◌, ◌<◌, ◌≤◌, [], ◌∷◌, ◌++◌, length, pos};
+ghost use Rattle.std.specs.Prelude.{◌≡◌, ◌<◌, ◌≤◌, [], ◌∷◌, ◌++◌, length, pos, Some, IsSome};
 ghost use Rattle.aid_types.specs.Ranges.{IsWithin};
 ghost use Rattle.aid_types.specs.Fields.{AreInRange, IsFiling, fields_of, kind_of, numbers_of};
 ghost use Rattle.aid_types.specs.declared.filing.Filing.{Filing};
@@ -55,12 +55,14 @@ impl Numbers {
 }
 
 impl What {
-    pub fn kind(&self) -> Kind
+    /// The kind, where filings of it have fields.
+    pub fn kind(&self) -> Option<Kind>
         ensures value { result ≡ kind_of self.now }
     {
         match self {
-            What::School(_) => Kind::School,
-            What::Prior(_) => Kind::Prior,
+            What::School(_) => Some(Kind::School),
+            What::Prior(_) => Some(Kind::Prior),
+            _ => None,
         }
     }
 }
@@ -68,6 +70,7 @@ impl What {
 impl Filing {
     /// The numbers of the filing, in the order of its kind's fields.
     pub fn numbers(&self) -> Numbers
+        requires has_fields { IsSome (kind_of self.now.what) }
         ensures value { result ≡ numbers_of self.now }
         ensures in_range { IsFiling self.now }
     {
@@ -84,6 +87,7 @@ impl Filing {
                 numbers.push(facts.student.0 as i64);
                 numbers.push(facts.units as i64);
             }
+            _ => unreachable!(),
         }
         numbers
     }
@@ -91,9 +95,9 @@ impl Filing {
     /// The filing of a kind that has these numbers.
     pub fn from_numbers(kind: Kind, numbers: &[i64]) -> Filing
         requires in_range { AreInRange (fields_of kind) numbers.now }
-        ensures kind { kind_of result.what ≡ kind }
+        ensures kind { kind_of result.what ≡ Some kind }
         ensures value { numbers_of result ≡ numbers.now }
-        ensures only { (filing : Filing) → kind_of filing.what ≡ kind → numbers_of filing ≡ numbers.now → filing ≡ result }
+        ensures only { (filing : Filing) → kind_of filing.what ≡ Some kind → numbers_of filing ≡ numbers.now → filing ≡ result }
     {
         filing_of(kind, numbers)
     }
@@ -101,7 +105,7 @@ impl Filing {
 
 fn filing_of(kind: Kind, numbers: &[i64]) -> Filing
     requires in_range { AreInRange (fields_of kind) numbers.now }
-    ensures kind { kind_of result.what ≡ kind }
+    ensures kind { kind_of result.what ≡ Some kind }
     ensures value { numbers_of result ≡ numbers.now }
 {
     match (kind, numbers) {

@@ -1,4 +1,5 @@
-use Rattle.aid_types.proofs.Same.{decides, tells_prior_facts}
+use Rattle.aid_types.proofs.Same.{decides}
+use Rattle.aid_types.proofs.SameFiling.{tells_prior_facts}
 use Rattle.aid_types.proofs.filing.PriorFacts.is_same.Goals as goal
 
 pub returns : goal.returns
