@@ -1,1 +1,4 @@
+pub mod InRange
+pub mod Lines
+pub mod Quote
 pub mod Rules

@@ -1,0 +1,118 @@
+//! The limits on amounts: of a term, of a year, of a lifetime and of the cost of attendance.
+ghost use Rattle.std.specs.Prelude.{◌≡◌, ◌*◌, ◌≤◌, [], ◌∷◌};
+ghost use Rattle.aid_types.specs.Ranges.{IsBetween};
+ghost use Rattle.enrolment.specs.Terms.{intensity_of, payment_of};
+ghost use Rattle.filing_rules.specs.InRange.{IsInRange};
+ghost use Rattle.filing_rules.specs.Lines.{pell_limits};
+ghost use Rattle.filing_rules.specs.Rules.{first_broken, is_half_time_extra, past_cost, past_fseog, year_limit};
+
+use crate::facts::Facts;
+use crate::refusal::refused;
+use aid_types::Refusal;
+use enrolment::{intensity, period_pay};
+use lifetime_ledger::use_of;
+
+/// The lifetime limit of Pell Grants in units of a thousandth of a percent: six Scheduled Awards (HEA 401(d)(5)).
+pub(crate) const MOST_UNITS: u64 = 600_000;
+
+/// The greatest FSEOG award of a student in a year, 4,000 dollars in cents (HEA 413B(a)(2)).
+const MOST_FSEOG: u64 = 400_000;
+
+/// The least enrolment intensity of half-time in percent (34 CFR 668.2(b)).
+const HALF_TIME: u8 = 50;
+
+/// The rules under which the limits on Pell are told: of a term's payment, of the year and of the lifetime.
+#[derive(Clone, Copy)]
+pub(crate) struct PellRules {
+    pub term: u16,
+    pub year: u16,
+    pub lifetime: u16,
+}
+
+/// The Pell payment of one term in cents at so many credits.
+pub(crate) fn payment_at(scheduled: u32, credits: u8, full: u8, terms: u8) -> u64
+    requires award { scheduled ≤ 100000 }
+    requires credits { IsBetween 1 40 credits }
+    requires full { IsBetween 1 40 full }
+    requires terms { IsBetween 2 3 terms }
+    ensures { result ≡ 100 * payment_of scheduled (intensity_of credits full) terms }
+{
+    100 * u64::from(period_pay(scheduled, intensity(credits, full), terms))
+}
+
+/// Whether the term is one beyond the main terms, of at least half-time.
+fn is_half_time_extra_term(f: &Facts) -> bool
+    requires credits { IsBetween 1 40 f.now.credits }
+    requires full { IsBetween 1 40 f.now.full }
+    ensures { result ≡ is_half_time_extra f.now f.now.term }
+{
+    match &f.term {
+        Some(term) => term.extra && intensity(f.credits, f.full) >= HALF_TIME,
+        None => false,
+    }
+}
+
+/// The year's limit on Pell in cents: the Scheduled Award, and half as much again where the term is one beyond the main
+/// terms, of at least half-time (HEA 401(b)(8)).
+fn limit_of_year(f: &Facts) -> u64
+    requires credits { IsBetween 1 40 f.now.credits }
+    requires full { IsBetween 1 40 f.now.full }
+    ensures value { result ≡ year_limit f.now }
+    ensures at_most { result ≤ 150 * f.now.scheduled }
+{
+    if is_half_time_extra_term(f) {
+        150 * u64::from(f.scheduled)
+    } else {
+        100 * u64::from(f.scheduled)
+    }
+}
+
+/// The first limit on Pell that so many cents more pass, told under these rules: the term's payment, the year's limit,
+/// the lifetime limit.
+pub(crate) fn broken_by_pell(f: &Facts, rules: PellRules, cents: u64) -> Option<Refusal>
+    requires facts { IsInRange f.now }
+    requires on_file { f.now.school_at ≡ 0 → ⊥ }
+    requires enrolled { 1 ≤ f.now.credits }
+    requires amount { cents ≤ 99999999 }
+    ensures { result ≡ first_broken (pell_limits rules.term rules.year rules.lifetime f.now cents) }
+{
+    let payment = payment_at(f.scheduled, f.credits, f.full, f.terms);
+    if f.pell_term + cents > payment {
+        return refused(rules.term, f.pell_term + cents, payment);
+    }
+    let limit = limit_of_year(f);
+    if f.pell_year + cents > limit {
+        return refused(rules.year, f.pell_year + cents, limit);
+    }
+    let used = u64::from(f.used_else) + u64::from(use_of(f.pell_year + cents, f.scheduled));
+    if used > MOST_UNITS {
+        return refused(rules.lifetime, used, MOST_UNITS);
+    }
+    None
+}
+
+/// The refusal under this rule where so many cents of FSEOG more pass the year's limit (HEA 413B(a)(2)), one over all
+/// schools.
+pub(crate) fn broken_by_fseog(f: &Facts, rule: u16, cents: u64) -> Option<Refusal>
+    requires facts { IsInRange f.now }
+    requires amount { cents ≤ 99999999 }
+    ensures { result ≡ first_broken (past_fseog rule f.now cents ∷ []) }
+{
+    if f.fseog_year + cents > MOST_FSEOG {
+        return refused(rule, f.fseog_year + cents, MOST_FSEOG);
+    }
+    None
+}
+
+/// The refusal under this rule where so many cents more of any program pass the cost of attendance (HEA 472).
+pub(crate) fn broken_by_cost(f: &Facts, rule: u16, cents: u64) -> Option<Refusal>
+    requires facts { IsInRange f.now }
+    requires amount { cents ≤ 599999994 }
+    ensures { result ≡ first_broken (past_cost rule f.now cents ∷ []) }
+{
+    let cost = 100 * u64::from(f.cost);
+    if f.net_all + cents > cost {
+        return refused(rule, f.net_all + cents, cost);
+    }
+    None
+}

@@ -1,0 +1,4 @@
+pub mod Amounts
+pub mod Greatest
+pub mod LimitLaws
+pub mod Payable
