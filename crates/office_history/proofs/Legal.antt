@@ -1,5 +1,5 @@
 -- What a legal history is.
-use Rattle.std.proofs.Common.{◌≡◌, ◌≢◌, ℕ, zero, suc, ◌+◌, ◌<◌, ◌≤◌, refl, sym, ap, subst, ◌∙◌, arith, Bool, true, false, ◌&&◌, List, [], ◌∷◌, ◌++◌, length, reverse, take, drop, Option, Some, None, All, eqb-true, eq-eqb, cond, get_or}
+use Rattle.std.proofs.Common.{◌≡◌, ◌≢◌, ℕ, zero, suc, ◌+◌, ◌<◌, ◌≤◌, refl, sym, ap, subst, ◌∙◌, arith, Bool, true, false, List, [], ◌∷◌, ◌++◌, length, reverse, take, drop, Option, Some, None, All, eqb-true, eq-eqb, cond, get_or}
 use Rattle.std.specs.Prelude.{◌==◌, is_none, nat_le}
 use Rattle.std.specs.Bool.{Decides}
 use Rattle.std.specs.List.{AllPairs}
@@ -7,9 +7,9 @@ use Rattle.std.proofs.lemmas.Bool.Decides.{nat_tests}
 use Rattle.aid_types.specs.declared.number.Key.{Key}
 use Rattle.aid_types.specs.declared.filing.Filing.{Filing}
 use Rattle.aid_types.specs.declared.filing.What.{What}
-use Rattle.aid_types.specs.declared.filing.What.TheVariants.{School, Prior}
+use Rattle.aid_types.specs.declared.filing.What.TheVariants.{Book as BookFiled, School, Calendar, Prior, Apply, Enrol, Originate, Pay, Withdraw, Repay, Adjust}
 use Rattle.aid_types.specs.declared.reply.Refusal.{Refusal}
-use Rattle.filing_rules.specs.Rules.{first_broken, order_of}
+use Rattle.filing_rules.specs.Rules.{first_broken, lines_of}
 use Rattle.office_history.specs.Past.{same_filing, same_key, first_of_two, key_at, filing_at}
 use Rattle.office_history.specs.FactsOf.{facts_of}
 use Rattle.office_history.specs.Answer.{IsLegal, is_legal, breaks, answer_of, judged, is_admit}
@@ -17,16 +17,12 @@ use Rattle.office_history.proofs.Cases.{answer_of-new}
 use Rattle.office_history.proofs.Oldest.{reverse-at}
 use Rattle.std.proofs.lemmas.List.Kept.{AllPairs-cons}
 use Rattle.std.proofs.lemmas.List.Elements.{All-cons}
+use Rattle.std.proofs.lemmas.Bool.{and_parts}
 use Rattle.aid_types.proofs.Same.{tells_key}
-
--- the parts of a conjunction
-and_true : (a b : Bool) → (a && b) ≡ true → (a ≡ true) × (b ≡ true)
-and_true true b h = (refl, h)
-and_true false b h = cc
 
 -- the same filing has the same key
 key_of_same : (f g : Filing) → same_filing f g ≡ true → same_key f.key g.key ≡ true
-key_of_same f g h = (and_true (same_key f.key g.key) _ h).0
+key_of_same f g h = (and_parts (same_key f.key g.key) _ h).0
 
 never : (k n : ℕ) → first_of_two true k (n + 1) ≡ 0 → ⊥
 never zero n h = absurd (omega arith)
@@ -51,8 +47,8 @@ pub is_legal-Decides : (past : List Filing) → Decides (is_legal past) (IsLegal
 is_legal-Decides [] = (λ h. tt, λ h. refl)
 is_legal-Decides (f ∷ past) = let ih = is_legal-Decides past in (
   λ h.
-      let p = and_true (is_legal past) _ h in
-      let q = and_true (key_at f.key past == 0) (is_none (breaks past f)) p.1 in
+      let p = and_parts (is_legal past) _ h in
+      let q = and_parts (key_at f.key past == 0) (is_none (breaks past f)) p.1 in
       (ih.0 p.0, eqb-true (key_at f.key past) 0 q.0, is_nothing (breaks past f) q.1),
   λ h.
       let a : is_legal past ≡ true = ih.1 h.0 in
@@ -67,21 +63,30 @@ older_legal [] past h = h
 older_legal (f ∷ newer) past h = older_legal newer past h.0
 
 -- the office is not full where a filing breaks no rule
-room : (past : List Filing) (f : Filing) → breaks past f ≡ None → length past < 200000
-room past f h = by (f.what) h
+pub room_left : (past : List Filing) (f : Filing) → breaks past f ≡ None → length past < 200000
+room_left past f h = by (f.what) h
   where
     first : (b : Bool) (n : ℕ) (r : Refusal) (rest : Option Refusal) → nat_le 200000 n ≡ b → cond b (Some r) rest ≡ None → n < 200000
     first true n r rest e h = cc
     first false n r rest e h = grind (arith, nat_tests)
 
-    by : (what : What) → first_broken (order_of (facts_of past f.key what) f.key what) ≡ None → length past < 200000
-    by (School s) h = first (nat_le 200000 (length past)) (length past) _ _ refl h
-    by (Prior p) h = first (nat_le 200000 (length past)) (length past) _ _ refl h
+    by : (what : What) → first_broken (lines_of (facts_of past f.key what) f.key.school what) ≡ None → length past < 200000
+    by (BookFiled x) h = first (nat_le 200000 (length past)) (length past) _ _ refl h
+    by (School x) h = first (nat_le 200000 (length past)) (length past) _ _ refl h
+    by (Calendar x) h = first (nat_le 200000 (length past)) (length past) _ _ refl h
+    by (Prior x) h = first (nat_le 200000 (length past)) (length past) _ _ refl h
+    by (Apply x) h = first (nat_le 200000 (length past)) (length past) _ _ refl h
+    by (Enrol x) h = first (nat_le 200000 (length past)) (length past) _ _ refl h
+    by (Originate x) h = first (nat_le 200000 (length past)) (length past) _ _ refl h
+    by (Pay x) h = first (nat_le 200000 (length past)) (length past) _ _ refl h
+    by (Withdraw x) h = first (nat_le 200000 (length past)) (length past) _ _ refl h
+    by (Repay x) h = first (nat_le 200000 (length past)) (length past) _ _ refl h
+    by (Adjust x) h = first (nat_le 200000 (length past)) (length past) _ _ refl h
 
 -- a legal history has at most 200,000 filings
 pub legal_is_short : (past : List Filing) → IsLegal past → length past ≤ 200000
 legal_is_short [] h = omega arith
-legal_is_short (f ∷ past) h = omega (arith, room past f h.2)
+legal_is_short (f ∷ past) h = omega (arith, room_left past f h.2)
 
 -- a key that stands nowhere is no filing's key
 new_apart : (past : List Filing) (key : Key) → key_at key past ≡ 0 → All (λ g. key ≢ g.key) past

@@ -1,18 +1,28 @@
 -- What the office answers on a history.
-use Rattle.std.specs.Prelude.{◌≡◌, ℕ, zero, suc, ◌-◌, ◌==◌, ◌&&◌, Bool, true, false, List, [], ◌∷◌, length, drop, Option, Some, None, is_none}
+use Rattle.std.specs.Prelude.{◌≡◌, ℕ, zero, suc, ◌-◌, ◌==◌, ◌&&◌, Bool, true, false, List, [], ◌∷◌, length, drop, sum, pos, Option, Some, None, is_none}
+use Rattle.aid_types.specs.Programs.{rank}
+use Rattle.aid_types.specs.declared.book.Book.{Book}
+use Rattle.aid_types.specs.declared.application.Application.{Application}
 use Rattle.aid_types.specs.declared.filing.Filing.{Filing}
 use Rattle.aid_types.specs.declared.filing.What.{What}
-use Rattle.aid_types.specs.declared.filing.What.TheVariants.{School, Prior}
+use Rattle.aid_types.specs.declared.filing.What.TheVariants.{Apply, Pay, Withdraw}
 use Rattle.aid_types.specs.declared.reply.Ask.{Ask}
-use Rattle.aid_types.specs.declared.reply.Ask.TheVariants.{File}
+use Rattle.aid_types.specs.declared.reply.Ask.TheVariants.{File, Quote, Standing as StandingAsked}
+use Rattle.aid_types.specs.declared.reply.Formula.TheVariants.{A}
+use Rattle.aid_types.specs.declared.reply.Way.TheVariants.{Nothing}
 use Rattle.aid_types.specs.declared.reply.Refusal.{Refusal}
 use Rattle.aid_types.specs.declared.reply.Outcome.{Outcome}
-use Rattle.aid_types.specs.declared.reply.Outcome.TheVariants.{Noted}
+use Rattle.aid_types.specs.declared.reply.Outcome.TheVariants.{Noted, Indexed, Paid, Returned}
+use Rattle.aid_types.specs.declared.reply.StandingRow.{StandingRow}
 use Rattle.aid_types.specs.declared.reply.Verdict.{Verdict}
-use Rattle.aid_types.specs.declared.reply.Verdict.TheVariants.{Again, Refused, Admit}
+use Rattle.aid_types.specs.declared.reply.Verdict.TheVariants.{Again, Refused, Admit, Quoted, Standing}
+use Rattle.sai_index.specs.Formulas.{formula}
+use Rattle.filing_rules.specs.Quote.{greatest_payment}
 use Rattle.filing_rules.specs.Rules.{broken_of}
-use Rattle.office_history.specs.Past.{key_at, filing_at}
-use Rattle.office_history.specs.FactsOf.{facts_of}
+use Rattle.office_history.specs.Past.{key_at, filing_at, the_book, application}
+use Rattle.pell_schedule.specs.Award.{decision_of}
+use Rattle.office_history.specs.Net.{net, in_year, pell_year, sheet, used}
+use Rattle.office_history.specs.FactsOf.{facts_of, payment_facts}
 
 -- the first rule that a filing breaks after the filings past
 abbrev pub breaks : List Filing → Filing → Option Refusal
@@ -28,10 +38,22 @@ abbrev pub is_legal : List Filing → Bool
 is_legal [] = true
 is_legal (f ∷ past) = is_legal past && (key_at f.key past == 0 && is_none (breaks past f))
 
--- with what a filing is admitted after the filings past
+-- the formula, final index, way and award of an application under a book
+abbrev pub indexed_by : Book → Application → Outcome
+indexed_by b a = let d = decision_of b a in Indexed (formula b a) d.sai d.way d.scheduled
+
+-- of the application in force under the year's book
+abbrev pub indexed : Option Book → Option Application → Outcome
+indexed (Some b) (Some a) = indexed_by b a
+indexed _ _ = Noted
+
+-- with what a filing is admitted after the filings past: an application with the award it brings, a payment with the year's
+-- net of its program and the lifetime use, both with it, and a withdrawal with its worksheet
 abbrev pub outcome_in : List Filing → Filing → What → Outcome
-outcome_in past f (School s) = Noted
-outcome_in past f (Prior p) = Noted
+outcome_in past f (Apply a) = indexed (the_book (f ∷ past) a.year) (application (f ∷ past) a.student a.year)
+outcome_in past f (Pay a) = Paid (net (f ∷ past) (in_year a.student a.year (rank a.program))) (used (f ∷ past) a.student)
+outcome_in past f (Withdraw w) = let s = sheet past f.key w in Returned s.percent s.school (sum s.owed) s.post
+outcome_in past f _ = Noted
 
 abbrev pub outcome_of : List Filing → Filing → Outcome
 outcome_of past f = outcome_in past f f.what
@@ -63,12 +85,29 @@ answer_at past f zero = answer_new past f (key_at f.key past)
 abbrev pub answer_of : List Filing → Filing → Verdict
 answer_of past f = answer_at past f (filing_at f past)
 
+-- the quote in cents: the greatest whole-dollar Pell payment that a school could file under a new key, 0 where there is none
+abbrev pub quote_of : List Filing → ℕ → ℕ → ℕ → ℕ → ℕ
+quote_of past school student year term = greatest_payment (payment_facts past school student year term 3) school student year term
+
+-- where a student stands in a year
+abbrev pub standing_under : Option Book → Option Application → ℕ → ℕ → StandingRow
+standing_under (Some b) (Some a) paid used =
+    let d = decision_of b a in
+    record { transaction = a.transaction; formula = formula b a; sai = d.sai; way = d.way; scheduled = d.scheduled; paid = paid; used = used }
+standing_under _ _ paid used =
+    record { transaction = 0; formula = A; sai = pos 0; way = Nothing; scheduled = 0; paid = paid; used = used }
+
+abbrev pub standing_of : List Filing → ℕ → ℕ → StandingRow
+standing_of past student year =
+    standing_under (the_book past year) (application past student year) (pell_year past student year) (used past student)
+
 -- the answer to an ask
 abbrev pub answer_to : List Filing → Ask → Verdict
 answer_to past (File f) = answer_of past f
+answer_to past (Quote school student year term) = Quoted (quote_of past school student year term)
+answer_to past (StandingAsked student year) = Standing (standing_of past student year)
 
 -- the verdict admits
 abbrev pub is_admit : Verdict → Bool
-is_admit (Again position outcome) = false
-is_admit (Refused refusal) = false
 is_admit (Admit outcome) = true
+is_admit _ = false

@@ -1,5 +1,9 @@
 pub use Rattle.filing_rules.specs.Rules
 pub mod Places
 pub mod Past
+pub mod Award
+pub mod Net
+pub mod Sheets
 pub mod FactsOf
 pub mod Answer
+pub mod Within

@@ -1,12 +1,12 @@
-//! Laws of the plain office, each as the contract of a function that computes nothing, and the test of legality.
+//! Laws of histories, each as the contract of a function that computes nothing. A slice has the oldest filing first.
 ghost use Rattle.std.specs.List.{AllPairs};
-ghost use Rattle.std.specs.Prelude.{◌≡◌, ◌≢◌, ◌↔◌, ◌+◌, ◌^◌, ◌<◌, ◌≤◌, ◌++◌, ◌∷◌, None, IsTrue, reverse, length};
+ghost use Rattle.std.specs.Prelude.{◌≡◌, ◌≢◌, ◌↔◌, ◌+◌, ◌≤◌, ◌++◌, ◌∷◌, None, IsTrue, reverse, length};
 ghost use Rattle.aid_types.specs.declared.reply.Verdict.TheVariants.{Again, Admit};
 ghost use Rattle.office_history.specs.Past.{key_at, same_filing};
-ghost use Rattle.office_history.specs.Answer.{breaks, outcome_of, answer_of, is_admit, IsLegal};
+ghost use Rattle.office_history.specs.Answer.{breaks, outcome_of, answer_of, IsLegal};
+ghost use Rattle.office_history.specs.Within.{IsWithin};
 
-use crate::answers::answer;
-use aid_types::{Filing, Verdict};
+use aid_types::Filing;
 
 /// A filing of a legal list, filed again, is answered by its position and the outcome of its admission, whatever came
 /// after it.
@@ -45,23 +45,13 @@ pub fn legal_keys(history: &[Filing])
     let _ = history;
 }
 
-/// Whether a list is legal: no key stands twice, and each filing breaks no rule on those before it.
-pub fn is_legal(history: &[Filing]) -> bool
-    requires { length history.now < 2 ^ 32 }
-    ensures { IsTrue result ↔ IsLegal (reverse history.now) }
+/// In a legal list no student stands above a limit: the payments of terms, years and of a lifetime, the cost of
+/// attendance, and two schools at one time (HEA 401, 413B, 472; 34 CFR 690.11, 690.63).
+pub fn legal_within(history: &[Filing])
+    requires { IsLegal (reverse history.now) }
+    ensures { IsWithin (reverse history.now) }
 {
-    for (index, filing) in history.iter().enumerate() {
-        if !is_admitted(answer(&history[..index], filing)) {
-            return false;
-        }
-    }
-    true
-}
-
-fn is_admitted(verdict: Verdict) -> bool
-    ensures { result ≡ is_admit verdict }
-{
-    matches!(verdict, Verdict::Admit(_))
+    let _ = history;
 }
 
 /// 'The same filing' is equality: of two filings the test is true exactly where they are equal.

@@ -1,13 +1,9 @@
-//! The office as a plain list: each answer is computed afresh from the filings so far.
+//! Histories: the filings so far, what is in force, the amounts that stand, and what the office answers.
+//!
+//! The definitions are in `specs/`. The laws that every legal history obeys are stated here, each as the contract of a
+//! function that computes nothing.
 #![tactic(auto)]
 
-mod answers;
 mod laws;
-mod positions;
 
-pub use answers::{answer, facts, outcome, past_outcome};
-pub use laws::{complete, is_legal, legal_keys, legal_length, repeated_filing, same_is_equal};
-pub use positions::{position_of_filing, position_of_key, position_of_prior, position_of_school};
-
-#[cfg(test)]
-mod tests;
+pub use laws::{complete, legal_keys, legal_length, legal_within, repeated_filing, same_is_equal};
