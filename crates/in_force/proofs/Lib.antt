@@ -1,0 +1,6 @@
+pub mod Filed
+pub mod Greatest
+pub mod Highest
+pub mod Oldest
+pub mod Reduced
+pub mod Told

@@ -1,0 +1,18 @@
+//! What is in force in a list of filings, the oldest first: the look-ups.
+#![tactic(auto)]
+
+mod applications;
+mod found;
+mod positions;
+mod questions;
+mod terms;
+#[cfg(test)]
+mod tests;
+
+pub use applications::{application, award, scheduled};
+pub use found::{book, cost, credits, prior_units, school, term, withdrawal};
+pub use positions::{
+    position_of_book, position_of_cost, position_of_filing, position_of_key, position_of_pell,
+    position_of_prior, position_of_school, position_of_term, position_of_withdrawal,
+};
+pub use terms::{main_terms, overlapping_term};

@@ -1,0 +1,10 @@
+pub mod Sixes
+pub mod TermDays
+pub mod Ranges
+pub mod Prefixes
+pub mod Bounds
+pub mod Entries
+pub mod AccountSteps
+pub mod Moves
+pub mod YearSums
+pub mod NoPell

@@ -1,0 +1,69 @@
+//! Lifetime eligibility used.
+ghost use Rattle.std.specs.Prelude.{◌≡◌, ◌+◌, ◌≤◌, reverse};
+ghost use Rattle.office_history.specs.Answer.{IsLegal};
+ghost use Rattle.office_history.specs.Net.{used as used_in_all, used_else as used_in_others, use_in, sum_over, all_years};
+ghost use Rattle.office_history.specs.Past.{prior_units as prior_units_of};
+ghost use Rattle.net_amounts.specs.Years.{use_but};
+
+use crate::cells::net_in_year;
+use aid_types::{Filing, Program, Student, Year};
+use in_force::{position_of_pell, prior_units, scheduled};
+use lifetime_ledger::use_of;
+
+/// The lifetime units that a student has used, thousandths of a percent: before this office, and in each year of it (HEA
+/// 401(d)(5)).
+pub fn used(history: &[Filing], student: Student) -> u32
+    requires { IsLegal (reverse history.now) }
+    ensures value { result ≡ used_in_all (reverse history.now) student }
+    ensures at_most { result ≤ 600000 }
+{
+    prior_units(history, student) + used_in_years(history, student, &None)
+}
+
+/// The same without those of one year.
+pub fn used_else(history: &[Filing], student: Student, year: Year) -> u32
+    requires { IsLegal (reverse history.now) }
+    ensures value { result ≡ used_in_others (reverse history.now) student year }
+    ensures at_most { result ≤ 600000 }
+{
+    prior_units(history, student) + used_in_years(history, student, &Some(year))
+}
+
+// The lifetime units of all years but one, if one is left out.
+fn used_in_years(history: &[Filing], student: Student, out: &Option<Year>) -> u32
+    requires { IsLegal (reverse history.now) }
+    ensures value { result ≡ sum_over (use_but (reverse history.now) student out.now) all_years }
+    ensures at_most { prior_units_of (reverse history.now) student + result ≤ 600000 }
+{
+    if position_of_pell(history, student) == 0 {
+        return 0;
+    }
+    let mut units = 0;
+    for year in 2000..2100 {
+        units += used_unless_out(history, student, Year(year), out);
+    }
+    units
+}
+
+// The lifetime units of a year, none where it is left out.
+fn used_unless_out(history: &[Filing], student: Student, year: Year, out: &Option<Year>) -> u32
+    requires { IsLegal (reverse history.now) }
+    ensures { result ≡ use_but (reverse history.now) student out.now year }
+{
+    match out {
+        Some(out) if year == *out => 0,
+        _ => used_in_year(history, student, year),
+    }
+}
+
+// The lifetime units that a year's net Pell takes of its Scheduled Award.
+fn used_in_year(history: &[Filing], student: Student, year: Year) -> u32
+    requires { IsLegal (reverse history.now) }
+    ensures { result ≡ use_in (reverse history.now) student year }
+{
+    let paid = net_in_year(history, student, year, Program::Pell);
+    if paid == 0 {
+        return 0;
+    }
+    use_of(paid, scheduled(history, student, year))
+}

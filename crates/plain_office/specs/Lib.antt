@@ -1,0 +1,3 @@
+pub use Rattle.office_history.specs.Answer
+pub mod Outcomes
+pub mod Terms
