@@ -1,2 +1,2 @@
-pub mod Short
-pub mod Standing
+mod Quoted
+mod Standing

@@ -1,17 +1,25 @@
 //! The office over a list of filings.
-ghost use Rattle.std.specs.Prelude.{◌≡◌, ◌≢◌, ◌↔◌, ◌+◌, ◌≤◌, ◌∷◌, [], ℕ, Some, None, max, length, IsTrue, IsOk, IsSome, IfSome, OnOk, OnErr};
+ghost use Rattle.std.specs.Prelude.{◌≡◌, ◌≢◌, ◌↔◌, ◌+◌, ◌*◌, ◌<◌, ◌≤◌, ◌∷◌, [], ℕ, Some, None, max, length, IsTrue, IsOk, IsSome, IfSome, OnOk, OnErr};
 ghost use Rattle.std.specs.List.{AllPairs};
 ghost use Rattle.std.specs.Option.{option_copied};
+ghost use Rattle.aid_types.specs.declared.filing.Amount.{Amount};
 ghost use Rattle.aid_types.specs.declared.filing.Filing.{Filing as Filed};
-ghost use Rattle.aid_types.specs.declared.reply.Ask.TheVariants.{File as FileAsked};
-ghost use Rattle.aid_types.specs.declared.reply.Verdict.TheVariants.{Admit, Again};
+ghost use Rattle.aid_types.specs.declared.filing.What.TheVariants.{Pay};
+ghost use Rattle.aid_types.specs.declared.number.Program.TheVariants.{Pell};
+ghost use Rattle.aid_types.specs.declared.reply.Ask.TheVariants.{File as FileAsked, Quote as QuoteAsked};
+ghost use Rattle.aid_types.specs.declared.reply.Verdict.TheVariants.{Admit, Again, Quoted};
+ghost use Rattle.aid_types.specs.Programs.{rank as rank_of};
 ghost use Rattle.office_history.specs.Answer.{breaks, outcome_of, outcome_at, answer_of, answer_to, is_admit, IsLegal};
+ghost use Rattle.office_history.specs.FactsOf.{cell_at};
+ghost use Rattle.office_history.specs.Net.{net_at as net_of_cell};
 ghost use Rattle.office_history.specs.Past.{key_at};
+ghost use Rattle.office_history.specs.Within.{IsWithin};
 ghost use Rattle.office_core.specs.Register.{filing_in};
 
 use crate::steps::Steps;
-use aid_types::{Ask, Filing, Outcome, Verdict};
-use office_history::{answer, outcome, past_outcome};
+use aid_types::{Ask, Filing, Outcome, Program, School, Student, Verdict, Year};
+use net_amounts::net_at;
+use plain_office::{answer, outcome, past_outcome, quote, standing};
 use std::alloc::{AllocError, Global};
 use std::marker::Model;
 use std::sync::ledger::Ledger;
@@ -48,7 +56,7 @@ impl Office {
         }
     }
 
-    /// Makes room for `n` filings in all. An `Err` is want of memory, and leaves the office as it was.
+    /// Makes room for `n` filings more. An `Err` is want of memory, and leaves the office as it was.
     pub fn reserve(&mut self, n: u32) -> Result<(), AllocError>
         ensures history { self.new.history ≡ self.old.history }
         ensures room { OnOk result (self.new.spare ≡ max self.old.spare n) }
@@ -67,6 +75,9 @@ impl Office {
         ensures value { result ≡ length self.now.history }
         ensures legal { IsLegal self.now.history }
         ensures few { result ≤ 200000 }
+
+        // No student stands above a limit.
+        ensures within { IsWithin self.now.history }
         ensures keys { AllPairs (λ f g. f.key ≢ g.key) self.now.history }
     {
         self.filings.as_slice().len() as u32
@@ -94,6 +105,29 @@ impl Office {
         Some(past_outcome(self.filings.as_slice(), position))
     }
 
+    /// The net of a program in a student's term at a school, in cents: payments less school returns, repayments and
+    /// adjustments; 0 where there is nothing.
+    pub fn net(
+        &self,
+        student: Student,
+        school: School,
+        year: Year,
+        term: u8,
+        program: Program,
+    ) -> u64
+        ensures value { result ≡ net_of_cell self.now.history (cell_at school student year term (rank_of program)) }
+        ensures at_most { result ≤ 99999999 }
+    {
+        net_at(
+            self.filings.as_slice(),
+            school,
+            student,
+            year,
+            term,
+            program,
+        )
+    }
+
     /// The verdict on an ask. It changes nothing and takes no memory. `steps` counts the looks at rows of an index, of
     /// which there is none.
     pub fn ask<L: Ledger>(&self, ask: &Ask, steps: &mut Steps<L>) -> Verdict
@@ -106,10 +140,24 @@ impl Office {
         // A filing with a new key that breaks no rule is admitted.
         ensures accepts { (filing : Filed) → ask.now ≡ FileAsked filing → key_at filing.key self.now.history ≡ 0
             → breaks self.now.history filing ≡ None → result ≡ Admit (outcome_of self.now.history filing) }
+
+        // Every Pell payment of whole dollars up to its quote breaks no rule.
+        ensures quoted { (filing : Filed) → (payment : Amount) → (dollars cents : ℕ) → filing.what ≡ Pay payment → payment.program ≡ Pell
+            → payment.cents ≡ 100 * dollars → 0 < dollars → ask.now ≡ QuoteAsked filing.key.school payment.student payment.year payment.term
+            → result ≡ Quoted cents → payment.cents ≤ cents → breaks self.now.history filing ≡ None }
         ensures counted { steps.new ≡ steps.old }
     {
         match ask {
             Ask::File(filing) => answer(self.filings.as_slice(), filing),
+            Ask::Quote {
+                school,
+                student,
+                year,
+                term,
+            } => Verdict::Quoted(quote(self.filings.as_slice(), *school, *student, *year, *term)),
+            Ask::Standing { student, year } => {
+                Verdict::Standing(standing(self.filings.as_slice(), *student, *year))
+            }
         }
     }
 

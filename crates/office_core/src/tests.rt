@@ -44,7 +44,9 @@ fn file<L: Ledger>(
     let ask = Ask::File(filing);
     let verdict = office.ask(&ask, steps);
     if let Verdict::Admit(_) = verdict {
-        let Ask::File(filing) = ask;
+        let Ask::File(filing) = ask else {
+            unreachable!();
+        };
         office.admit(filing);
     }
     Ok(verdict)

@@ -1,9 +1,11 @@
 use Rattle.std.proofs.Common.{◌≢◌, List, reverse, subst, ap, arith}
 use Rattle.std.specs.List.{AllPairs}
 use Rattle.aid_types.specs.declared.filing.Filing.{Filing}
+use Rattle.office_history.specs.Within.{IsWithin}
 use Rattle.office_history.proofs.Legal.{legal_keys_apart}
+use Rattle.office_history.proofs.LegalWithin.{legal_within}
+use Rattle.plain_office.proofs.Short.{short}
 use Rattle.office_core.specs.Register.{Register}
-use Rattle.office_core.proofs.Short.{short}
 use Rattle.office_core.proofs.office.Office.front.Goals as goal
 
 pub overflow_cast-result : goal.overflow_cast-result
@@ -11,6 +13,9 @@ overflow_cast-result c = search (arith, short c.self.inside.filings.items c.self
 
 pub returns-clause-few : goal.returns-clause-few
 returns-clause-few c = omega (arith, short c.self.inside.filings.items c.self.invariant.0)
+
+pub returns-clause-within : goal.returns-clause-within
+returns-clause-within c = subst IsWithin (ap (λ (r : Register). r.history) c.self.view_is) (legal_within (reverse c.self.inside.filings.items) c.self.invariant.0)
 
 pub returns-clause-keys : goal.returns-clause-keys
 returns-clause-keys c =

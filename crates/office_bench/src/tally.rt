@@ -1,0 +1,44 @@
+//! What came of the filings.
+use aid_types::{Outcome, Verdict};
+use std::fmt;
+
+/// How many filings were accepted and refused, and the cents of the Pell payments and of the schools' returns among the
+/// accepted ones.
+#[derive(Clone, Copy, Default)]
+pub struct Tally {
+    accepted: u64,
+    refused: u64,
+    pell: u64,
+    returned: u64,
+}
+
+impl Tally {
+    /// Counts a verdict on a filing that pays these cents of Pell. What stands already is accepted, and adds to neither sum.
+    pub fn count(&mut self, cents: u64, verdict: Verdict) {
+        match verdict {
+            Verdict::Admit(outcome) => {
+                self.accepted = self.accepted.wrapping_add(1);
+                self.pell = self.pell.wrapping_add(cents);
+                if let Outcome::Returned { school, .. } = outcome {
+                    self.returned = self.returned.wrapping_add(school);
+                }
+            }
+            Verdict::Again { .. } => self.accepted = self.accepted.wrapping_add(1),
+            _ => self.refused = self.refused.wrapping_add(1),
+        }
+    }
+}
+
+impl fmt::Display for Tally {
+    fn fmt<W: fmt::Write>(&self, f: &mut fmt::Formatter<W>) -> fmt::Result {
+        writeln!(f, "accepted {}", self.accepted)?;
+        writeln!(f, "refused {}", self.refused)?;
+        writeln!(f, "pell {}.{:02}", self.pell / 100, self.pell % 100)?;
+        write!(
+            f,
+            "returned {}.{:02}",
+            self.returned / 100,
+            self.returned % 100
+        )
+    }
+}
