@@ -1,5 +1,5 @@
 -- The filing of a kind that has given numbers is the one filing of that kind with them.
-use Rattle.std.proofs.Common.{◌≡◌, ℕ, ℤ, pos, negsuc, List, [], ◌∷◌, refl, sym, ◌∙◌}
+use Rattle.std.proofs.Common.{◌≡◌, ℕ, ℤ, pos, negsuc, List, [], ◌∷◌, Some, refl, sym, ◌∙◌}
 use Rattle.std.specs.Prelude.{unsigned_abs}
 use Rattle.aid_types.specs.Fields.{AreInRange, fields_of, kind_of, numbers_of}
 use Rattle.aid_types.specs.Ranges.{IsWithin}
@@ -34,7 +34,7 @@ numbers_of-filing_of kinds.Prior (a ∷ b ∷ []) h = absurd h.1.1
 numbers_of-filing_of kinds.Prior (a ∷ b ∷ c ∷ []) h = absurd h.1.1.1
 numbers_of-filing_of kinds.Prior (a ∷ b ∷ c ∷ d ∷ e ∷ rest) h = absurd h.1.1.1.1
 
-kind_of-filing_of : (kind : Kind) (zs : List ℤ) (h : AreInRange (fields_of kind) zs) → kind_of (filing_of kind zs h).what ≡ kind
+pub kind_of-filing_of : (kind : Kind) (zs : List ℤ) (h : AreInRange (fields_of kind) zs) → kind_of (filing_of kind zs h).what ≡ Some kind
 unfolding filing_of
 kind_of-filing_of kinds.School (school ∷ number ∷ code ∷ terms ∷ full ∷ []) h = refl
 kind_of-filing_of kinds.School [] h = absurd h
@@ -50,6 +50,6 @@ kind_of-filing_of kinds.Prior (a ∷ b ∷ []) h = absurd h.1.1
 kind_of-filing_of kinds.Prior (a ∷ b ∷ c ∷ []) h = absurd h.1.1.1
 kind_of-filing_of kinds.Prior (a ∷ b ∷ c ∷ d ∷ e ∷ rest) h = absurd h.1.1.1.1
 
-pub filing_of-only : (kind : Kind) (zs : List ℤ) (h : AreInRange (fields_of kind) zs) (f : Filing) → kind_of f.what ≡ kind → numbers_of f ≡ zs → filing_of kind zs h ≡ f
+pub filing_of-only : (kind : Kind) (zs : List ℤ) (h : AreInRange (fields_of kind) zs) (f : Filing) → kind_of f.what ≡ Some kind → numbers_of f ≡ zs → filing_of kind zs h ≡ f
 filing_of-only kind zs h f k n =
-    same_filing (filing_of kind zs h) f (kind_of-filing_of kind zs h ∙ sym k) (numbers_of-filing_of kind zs h ∙ sym n)
+    same_filing kind (filing_of kind zs h) f (kind_of-filing_of kind zs h) k (numbers_of-filing_of kind zs h ∙ sym n)

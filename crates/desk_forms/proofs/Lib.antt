@@ -1,4 +1,5 @@
 pub mod FilingsLemmas
+pub mod LinesLemmas
 pub mod NumbersLemmas
 pub mod ReadingLemmas
 pub mod RecordsLemmas

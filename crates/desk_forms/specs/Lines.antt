@@ -1,15 +1,42 @@
 -- The lines that answer rows. Own format.
-use Rattle.std.specs.Prelude.{ℕ, List, [], ◌++◌, ⊤, codes, decimal}
+use Rattle.std.specs.Prelude.{ℕ, ◌/◌, ◌%◌, List, [], ◌++◌, ⊤, codes, decimal}
+use Rattle.aid_num.specs.Cents.{cents_text}
+use Rattle.aid_num.specs.Whole.{whole_text}
+use Rattle.aid_types.specs.declared.reply.Formula.{Formula}
+use Rattle.aid_types.specs.declared.reply.Formula.TheVariants.{A, B, C}
+use Rattle.aid_types.specs.declared.reply.Way.{Way}
+use Rattle.aid_types.specs.declared.reply.Way.TheVariants.{Maximum, Calculated, Minimum, Nothing}
 use Rattle.aid_types.specs.declared.reply.Outcome.{Outcome}
-use Rattle.aid_types.specs.declared.reply.Outcome.TheVariants.{Noted}
+use Rattle.aid_types.specs.declared.reply.Outcome.TheVariants.{Noted, Indexed, Paid, Returned}
 use Rattle.aid_types.specs.declared.reply.Refusal.{Refusal}
 use Rattle.aid_types.specs.declared.reply.Reply.{Reply}
-use Rattle.aid_types.specs.declared.reply.Reply.TheVariants.{Accepted, Again, Refused, DiskFault, NoMemory}
+use Rattle.aid_types.specs.declared.reply.Reply.TheVariants.{Accepted, Again, Refused, Quoted, Standing, DiskFault, NoMemory}
 use Rattle.desk_forms.specs.declared.error.RowError.{RowError}
 
--- how an outcome is written
+-- how a formula and a way to an award are written
+abbrev pub formula_text : Formula → List ℕ
+formula_text A = codes "A"
+formula_text B = codes "B"
+formula_text C = codes "C"
+
+abbrev pub way_text : Way → List ℕ
+way_text Maximum = codes "maximum"
+way_text Calculated = codes "calculated"
+way_text Minimum = codes "minimum"
+way_text Nothing = codes "nothing"
+
+-- tenths of a percent, with one decimal
+abbrev pub percent_text : ℕ → List ℕ
+percent_text tenths = decimal (tenths / 10) ++ codes "." ++ decimal (tenths % 10)
+
+-- how an outcome is written: `noted`, `index FORMULA SAI WAY AWARD`, `paid NET USED`, `returned PERCENT SCHOOL OWED POST`
 abbrev pub outcome_text : Outcome → List ℕ
 outcome_text Noted = codes "noted"
+outcome_text (Indexed formula sai way scheduled) =
+    codes "index " ++ formula_text formula ++ codes " " ++ whole_text sai ++ codes " " ++ way_text way ++ codes " " ++ decimal scheduled
+outcome_text (Paid paid used) = codes "paid " ++ cents_text paid ++ codes " " ++ decimal used
+outcome_text (Returned percent school owed post) =
+    codes "returned " ++ percent_text percent ++ codes " " ++ cents_text school ++ codes " " ++ cents_text owed ++ codes " " ++ cents_text post
 
 -- ROW FRONT ANSWER POSITION OUTCOME, the answer with the spaces around it
 abbrev pub standing_text : ℕ → ℕ → List ℕ → ℕ → Outcome → List ℕ
@@ -26,6 +53,8 @@ abbrev pub HasLine : Reply → Type 0
 HasLine (Accepted position front outcome) = ⊤
 HasLine (Again position front outcome) = ⊤
 HasLine (Refused refusal front) = ⊤
+HasLine (Quoted cents front) = ⊥
+HasLine (Standing row front) = ⊥
 HasLine (DiskFault undecided) = ⊥
 HasLine NoMemory = ⊥
 
@@ -34,6 +63,8 @@ abbrev pub line_of : ℕ → Reply → List ℕ
 line_of row (Accepted position front outcome) = standing_text row front (codes " accepted ") position outcome
 line_of row (Again position front outcome) = standing_text row front (codes " again ") position outcome
 line_of row (Refused refusal front) = refused_text row front refusal
+line_of row (Quoted cents front) = []
+line_of row (Standing place front) = []
 line_of row (DiskFault undecided) = []
 line_of row NoMemory = []
 

@@ -1,8 +1,8 @@
 -- The filings of a text of rows, and why a row is none. Own format.
-use Rattle.std.specs.Prelude.{ℕ, suc, ℤ, List, [], ◌∷◌, length, codes, bytes_eq, ◌==◌, if◌then◌else◌, Option, Some, None, option_and_then, Result, Ok, Err, IfOk}
+use Rattle.std.specs.Prelude.{⊤, ℕ, suc, ℤ, List, [], ◌∷◌, length, codes, bytes_eq, ◌==◌, if◌then◌else◌, Option, Some, None, IsSome, option_and_then, Result, Ok, Err, IfOk}
 use Rattle.csv.specs.Reading.{default_config, records, strip_bom}
 use Rattle.csv.specs.Records.{field_at}
-use Rattle.aid_types.specs.Fields.{AreInRange, fields_of}
+use Rattle.aid_types.specs.Fields.{AreInRange, fields_of, kind_of}
 use Rattle.aid_types.specs.declared.fields.Kind.{Kind}
 use Rattle.aid_types.specs.declared.fields.Kind.TheVariants.{School, Prior}
 use Rattle.aid_types.specs.declared.filing.Filing.{Filing}
@@ -44,3 +44,8 @@ rows_from row (texts ∷ rows) = row_meaning row texts ∷ rows_from (suc row) r
 -- the rows of a text: the records of comma-separated values after one byte order mark, of any length, without a header
 abbrev pub rows_of_text : List ℕ → List (Result Filing RowError)
 rows_of_text text = rows_from 1 (records default_config (strip_bom text))
+
+-- a row is no filing, or one of a kind that has fields
+abbrev pub HasFields : Result Filing RowError → Type 0
+HasFields (Ok filing) = IsSome (kind_of filing.what)
+HasFields (Err error) = ⊤

@@ -1,6 +1,6 @@
 //! What rows say and how lines are written.
 use super::*;
-use aid_types::{Outcome, Refusal, Reply};
+use aid_types::{Formula, Outcome, Refusal, Reply, Way};
 use itoa::Buffer;
 use std::alloc::Global;
 use std::process::Abort;
@@ -136,25 +136,128 @@ fn lines_are_written(rt: HostRuntime) -> Result<(), Fail> {
     Ok(())
 }
 
-// The longest line.
 #[test]
-fn longest_line(rt: HostRuntime) -> Result<(), Fail> {
+fn outcomes_are_written(rt: HostRuntime) -> Result<(), Fail> {
+    let cases: [(Outcome, &[u8]); 9] = [
+        (Outcome::Noted, b"1 0 accepted 2 noted\n"),
+        (
+            Outcome::Indexed {
+                formula: Formula::A,
+                sai: 5104,
+                way: Way::Calculated,
+                scheduled: 2290,
+            },
+            b"1 0 accepted 2 index A 5104 calculated 2290\n",
+        ),
+        (
+            Outcome::Indexed {
+                formula: Formula::C,
+                sai: -707,
+                way: Way::Calculated,
+                scheduled: 7395,
+            },
+            b"1 0 accepted 2 index C -707 calculated 7395\n",
+        ),
+        (
+            Outcome::Indexed {
+                formula: Formula::B,
+                sai: -1500,
+                way: Way::Maximum,
+                scheduled: 7395,
+            },
+            b"1 0 accepted 2 index B -1500 maximum 7395\n",
+        ),
+        (
+            Outcome::Indexed {
+                formula: Formula::B,
+                sai: 0,
+                way: Way::Minimum,
+                scheduled: 740,
+            },
+            b"1 0 accepted 2 index B 0 minimum 740\n",
+        ),
+        (
+            Outcome::Indexed {
+                formula: Formula::A,
+                sai: 999999,
+                way: Way::Nothing,
+                scheduled: 0,
+            },
+            b"1 0 accepted 2 index A 999999 nothing 0\n",
+        ),
+        (
+            Outcome::Paid {
+                paid: 114500,
+                used: 50000,
+            },
+            b"1 0 accepted 2 paid 1145.00 50000\n",
+        ),
+        (
+            Outcome::Paid { paid: 5, used: 0 },
+            b"1 0 accepted 2 paid 0.05 0\n",
+        ),
+        (
+            Outcome::Returned {
+                percent: 347,
+                school: 6530,
+                owed: 5144,
+                post: 0,
+            },
+            b"1 0 accepted 2 returned 34.7 65.30 51.44 0.00\n",
+        ),
+    ];
+    for (outcome, line) in cases.iter() {
+        let mut out = Vec::new(rt.alloc());
+        put_line(
+            1,
+            &Reply::Accepted {
+                position: 2,
+                front: 0,
+                outcome: *outcome,
+            },
+            &mut out,
+        )?;
+        assert_eq!(rt; out.as_slice(), *line);
+    }
+    Ok(())
+}
+
+// The longest lines.
+#[test]
+fn longest_lines(rt: HostRuntime) -> Result<(), Fail> {
+    let outcome = Outcome::Returned {
+        percent: u16::MAX,
+        school: u64::MAX,
+        owed: u64::MAX,
+        post: u64::MAX,
+    };
     let refusal = Refusal {
         rule: u16::MAX,
         kept: u64::MAX,
         bound: u64::MAX,
     };
-    let mut out = Vec::with_capacity(rt.alloc(), 160)?;
-    put_line(
-        u32::MAX,
-        &Reply::Refused {
-            refusal,
-            front: u32::MAX,
-        },
-        &mut out,
-    )?;
-    let line = b"4294967295 4294967295 refused 65535 18446744073709551615 18446744073709551615\n";
-    assert_eq!(rt; out.as_slice(), line.as_slice());
-    assert_eq!(rt; out.capacity(), 160);
+    let cases: [(Reply, &[u8]); 2] = [
+        (
+            Reply::Accepted {
+                position: u32::MAX,
+                front: u32::MAX,
+                outcome,
+            },
+            b"4294967295 4294967295 accepted 4294967295 returned 6553.5 184467440737095516.15 184467440737095516.15 184467440737095516.15\n",
+        ),
+        (
+            Reply::Refused {
+                refusal,
+                front: u32::MAX,
+            },
+            b"4294967295 4294967295 refused 65535 18446744073709551615 18446744073709551615\n",
+        ),
+    ];
+    for (reply, line) in cases.iter() {
+        let mut out = Vec::with_capacity(rt.alloc(), 160)?;
+        put_line(u32::MAX, reply, &mut out)?;
+        assert_eq!(rt; out.as_slice(), *line);
+        assert_eq!(rt; out.capacity(), 160);
+    }
     Ok(())
 }

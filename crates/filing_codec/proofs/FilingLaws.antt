@@ -8,12 +8,12 @@ use Rattle.aid_types.specs.declared.fields.Field.{Field}
 use Rattle.aid_types.specs.declared.fields.Kind.{Kind}
 use Rattle.aid_types.specs.declared.fields.Kind.TheVariants.{School, Prior}
 use Rattle.aid_types.specs.declared.filing.Filing.{Filing}
-use Rattle.aid_types.specs.Fields.{width_of, code_of, kind_of, fields_of, numbers_of, AreInRange, IsFiling}
+use Rattle.aid_types.specs.Fields.{width_of, code_of, kind_of, fields_of, numbers_of, AreInRange, AreOfKind, IsFiling}
 use Rattle.aid_types.proofs.NumbersLemmas.{same_filing}
 use Rattle.filing_codec.specs.declared.reading.TakeError.{TakeError}
 use Rattle.filing_codec.specs.declared.reading.TakeError.TheVariants.{NotFiling, NoMemory}
-use Rattle.filing_codec.specs.Spelling.{number_bytes, numbers_bytes, spelling, IsAlone}
-use Rattle.filing_codec.specs.Taking.{kind_at, number_at, put_first, numbers_at, with_kind, of_kind, taken, Gives}
+use Rattle.filing_codec.specs.Spelling.{number_bytes, numbers_bytes, bytes_of, spelling, IsAlone}
+use Rattle.filing_codec.specs.Taking.{kind_at, number_at, put_first, numbers_at, with_kind, of_kind, taken, Reads, Gives}
 use Rattle.filing_codec.proofs.NumberLaws.{AreBytes, AreBytes-drop, width_at_most, IsUnsigned, number_takes, number_again, length-number_bytes}
 
 abbrev done : {A : Type 0} → A → Result A ℕ
@@ -113,9 +113,6 @@ kind_takes code kind e = elim (kind_found (eqb 2 code) (eqb 4 code) kind e) [
 abbrev Row : Type 0
 Row = Kind × List ℤ
 
-abbrev pub row_of : Filing → Kind × List ℤ
-row_of filing = (kind_of filing.what, numbers_of filing)
-
 row_is : (a b : Row) → done a ≡ done b → (a.0 ≡ b.0) × (a.1 ≡ b.1)
 row_is a b e = let same : a ≡ b = cc in (ap (λ (r : Row). r.0) same, ap (λ (r : Row). r.1) same)
 
@@ -135,35 +132,58 @@ AreBytes-rest : (b : ℕ) (bytes : List ℕ) → AreBytes (b ∷ bytes) → AreB
 AreBytes-rest b bytes fits i = fits (suc i)
 
 -- what was read was spelled so
-pub filing_takes : (bytes : List ℕ) (filing : Filing) → AreBytes bytes → taken bytes ≡ done (row_of filing) → IsFiling filing × (bytes ≡ spelling filing)
-filing_takes [] filing fits e = absurd cc
-filing_takes (code ∷ bytes) filing fits e =
-    let h = of_kind_ok (kind_at code) bytes (row_of filing) e in
-    let code_is : code ≡ code_of (kind_of filing.what) = kind_takes code (kind_of filing.what) h.0 in
-    let all = numbers_take (fields_of (kind_of filing.what)) 1 bytes (numbers_of filing) (AreBytes-rest code bytes fits) h.1 in
+takes : (kind : Kind) (zs : List ℤ) (bytes : List ℕ) → AreBytes bytes → taken bytes ≡ done (kind, zs) → AreInRange (fields_of kind) zs × (bytes ≡ bytes_of (Some kind) zs)
+takes kind zs [] fits e = absurd cc
+takes kind zs (code ∷ bytes) fits e =
+    let h = of_kind_ok (kind_at code) bytes (kind, zs) e in
+    let code_is : code ≡ code_of kind = kind_takes code kind h.0 in
+    let all = numbers_take (fields_of kind) 1 bytes zs (AreBytes-rest code bytes fits) h.1 in
     (all.in_range, λ i. code_is i ∷ all.spelled i)
 
+takes_so : (kind : Option Kind) (zs : List ℤ) (bytes : List ℕ) → AreBytes bytes → Reads kind zs (taken bytes) → AreOfKind kind zs × (bytes ≡ bytes_of kind zs)
+takes_so None zs bytes fits h = absurd h
+takes_so (Some kind) zs bytes fits h = takes kind zs bytes fits h
+
 -- what was spelled is read again
-pub filing_again : (filing : Filing) → IsFiling filing → taken (spelling filing) ≡ done (row_of filing)
-filing_again filing within =
-    let kind = kind_of filing.what in
-    let bytes = numbers_bytes (fields_of kind) (numbers_of filing) in
+takes_again : (kind : Option Kind) (zs : List ℤ) → AreOfKind kind zs → Reads kind zs (taken (bytes_of kind zs))
+takes_again None zs within = absurd within
+takes_again (Some kind) zs within =
+    let bytes = numbers_bytes (fields_of kind) zs in
     ap (λ (k : Option Kind). of_kind k bytes) (kind_again kind)
-    ∙ ap (with_kind kind) (numbers_again (fields_of kind) 1 (numbers_of filing) (fields_unsigned kind) within)
+    ∙ ap (with_kind kind) (numbers_again (fields_of kind) 1 zs (fields_unsigned kind) within)
+
+-- two kinds that have fields, with their numbers, are the same
+record AreSame (kind other : Option Kind) (xs ys : List ℤ) : Type 0 where
+  which : Kind
+  first : kind ≡ Some which
+  second : other ≡ Some which
+  numbers : xs ≡ ys
+
+reads_same : (kind other : Option Kind) (xs ys : List ℤ) (read : Result Row ℕ) → Reads kind xs read → Reads other ys read → AreSame kind other xs ys
+reads_same None other xs ys read h k = absurd h
+reads_same (Some kind) None xs ys read h k = absurd k
+reads_same (Some kind) (Some other) xs ys read h k =
+    let same = row_is (kind, xs) (other, ys) (sym h ∙ k) in
+    record { which = kind; first = refl; second = ap (λ (l : Kind). Some l) (sym same.0); numbers = same.1 }
+
+not_refused : (kind : Option Kind) (zs : List ℤ) (place : ℕ) → Reads kind zs (Err place) → ⊥
+not_refused None zs place h = h
+not_refused (Some kind) zs place h = absurd cc
 
 pub is_found : (bytes : List ℕ) (r : Result Filing TakeError) → AreBytes bytes → Gives r (taken bytes) → IfOk r (λ filing. IsFiling filing × (bytes ≡ spelling filing))
-is_found bytes (Ok filing) fits given = filing_takes bytes filing fits given
+is_found bytes (Ok filing) fits given = takes_so (kind_of filing.what) (numbers_of filing) bytes fits given
 is_found bytes (Err e) fits given = tt
 
 pub is_only : (bytes : List ℕ) (r : Result Filing TakeError) → Gives r (taken bytes) → (filing : Filing) → IsFiling filing → bytes ≡ spelling filing → r ≢ Err NoMemory → r ≡ Ok filing
 is_only bytes (Ok found) given filing within e memory =
-    let again : taken bytes ≡ done (row_of filing) = ap taken e ∙ filing_again filing within in
-    let same = row_is (row_of found) (row_of filing) (sym given ∙ again) in
-    ap (λ (f : Filing). Ok f) (same_filing found filing same.0 same.1)
+    let kind = kind_of filing.what in
+    let again : Reads kind (numbers_of filing) (taken bytes) = subst (λ (bs : List ℕ). Reads kind (numbers_of filing) (taken bs)) (sym e) (takes_again kind (numbers_of filing) within) in
+    let same = reads_same (kind_of found.what) kind (numbers_of found) (numbers_of filing) (taken bytes) given again in
+    ap (λ (f : Filing). Ok f) (same_filing same.which found filing same.first same.second same.numbers)
 is_only bytes (Err (NotFiling place)) given filing within e memory =
-    let again : taken bytes ≡ done (row_of filing) = ap taken e ∙ filing_again filing within in
-    let clash : Err place ≡ done (row_of filing) = sym given ∙ again in
-    absurd cc
+    let kind = kind_of filing.what in
+    let again : Reads kind (numbers_of filing) (taken bytes) = subst (λ (bs : List ℕ). Reads kind (numbers_of filing) (taken bs)) (sym e) (takes_again kind (numbers_of filing) within) in
+    absurd (not_refused kind (numbers_of filing) place (subst (Reads kind (numbers_of filing)) given again))
 is_only bytes (Err NoMemory) given filing within e memory = absurd (memory refl)
 
 head_is : (a b : ℕ) (xs ys : List ℕ) → a ∷ xs ≡ b ∷ ys → a ≡ b
@@ -186,19 +206,22 @@ numbers_alone fs xs ys rest unsigned p q e =
     let whole : numbers_bytes fs xs ≡ numbers_bytes fs ys = sym (append-nil (numbers_bytes fs xs)) ∙ ap (λ (bs : List ℕ). numbers_bytes fs xs ++ bs) (sym nothing) ∙ e in
     (ok_is xs ys (sym (numbers_again fs 1 xs unsigned p) ∙ ap (numbers_at fs 1) whole ∙ numbers_again fs 1 ys unsigned q), nothing)
 
-pub is_alone : (filing other : Filing) (rest : List ℕ) → IsFiling filing → IsFiling other → spelling filing ++ rest ≡ spelling other → IsAlone filing other rest
-is_alone filing other rest within within_other e =
-    let k = kind_of filing.what in
-    let l = kind_of other.what in
-    let xs = numbers_of filing in
-    let ys = numbers_of other in
+kinds_alone : (kind other : Option Kind) (xs ys : List ℤ) (rest : List ℕ) → AreOfKind kind xs → AreOfKind other ys → bytes_of kind xs ++ rest ≡ bytes_of other ys → AreSame kind other xs ys × (rest ≡ [])
+kinds_alone None other xs ys rest p q e = absurd p
+kinds_alone (Some k) None xs ys rest p q e = absurd q
+kinds_alone (Some k) (Some l) xs ys rest p q e =
     let code : code_of k ≡ code_of l = head_is (code_of k) (code_of l) (numbers_bytes (fields_of k) xs ++ rest) (numbers_bytes (fields_of l) ys) e in
     let tail : numbers_bytes (fields_of k) xs ++ rest ≡ numbers_bytes (fields_of l) ys = tail_is (code_of k) (code_of l) (numbers_bytes (fields_of k) xs ++ rest) (numbers_bytes (fields_of l) ys) e in
     let kind : k ≡ l = some_is k l (sym (kind_again k) ∙ ap kind_at code ∙ kind_again l) in
-    let within_kind : AreInRange (fields_of k) ys = subst (λ (m : Kind). AreInRange (fields_of m) ys) (sym kind) within_other in
+    let within : AreInRange (fields_of k) ys = subst (λ (m : Kind). AreInRange (fields_of m) ys) (sym kind) q in
     let tail_kind : numbers_bytes (fields_of k) xs ++ rest ≡ numbers_bytes (fields_of k) ys = tail ∙ ap (λ (m : Kind). numbers_bytes (fields_of m) ys) (sym kind) in
-    let both = numbers_alone (fields_of k) xs ys rest (fields_unsigned k) within within_kind tail_kind in
-    record { same = same_filing filing other kind both.0; nothing = both.1 }
+    let both = numbers_alone (fields_of k) xs ys rest (fields_unsigned k) p within tail_kind in
+    (record { which = k; first = refl; second = ap (λ (m : Kind). Some m) (sym kind); numbers = both.0 }, both.1)
+
+pub is_alone : (filing other : Filing) (rest : List ℕ) → IsFiling filing → IsFiling other → spelling filing ++ rest ≡ spelling other → IsAlone filing other rest
+is_alone filing other rest within within_other e =
+    let both = kinds_alone (kind_of filing.what) (kind_of other.what) (numbers_of filing) (numbers_of other) rest within within_other e in
+    record { same = same_filing both.0.which filing other both.0.first both.0.second both.0.numbers; nothing = both.1 }
 
 -- how long the bytes of numbers are
 numbers_few : (fs : List Field) (zs : List ℤ) → length (numbers_bytes fs zs) ≤ 8 * length fs
@@ -211,5 +234,9 @@ fields_few : (kind : Kind) → length (fields_of kind) ≤ 64
 fields_few School = lit≤ tt
 fields_few Prior = lit≤ tt
 
+length-bytes_of : (kind : Option Kind) (zs : List ℤ) → length (bytes_of kind zs) ≤ 8192
+length-bytes_of None zs = omega arith
+length-bytes_of (Some kind) zs = omega (arith, numbers_few (fields_of kind) zs, fields_few kind)
+
 pub length-spelling : (filing : Filing) → length (spelling filing) ≤ 8192
-length-spelling filing = omega (arith, numbers_few (fields_of (kind_of filing.what)) (numbers_of filing), fields_few (kind_of filing.what))
+length-spelling filing = length-bytes_of (kind_of filing.what) (numbers_of filing)

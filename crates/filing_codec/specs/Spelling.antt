@@ -1,9 +1,10 @@
--- The one spelling of a filing: its kind's code, and its numbers in the order of the kind's fields, each at its
--- field's width with the lowest byte first.
-use Rattle.std.specs.Prelude.{◌≡◌, ℕ, ℤ, List, [], ◌∷◌, ◌++◌, take}
+-- The one spelling of a filing of a kind that has fields: its kind's code, and its numbers in the order of the kind's
+-- fields, each at its field's width with the lowest byte first.
+use Rattle.std.specs.Prelude.{◌≡◌, ℕ, ℤ, List, [], ◌∷◌, ◌++◌, take, Option, Some, None}
 use Rattle.std.specs.Int.{w64, to_le_bytes, cast_unsigned}
 use Rattle.aid_types.specs.declared.fields.Width.{Width}
 use Rattle.aid_types.specs.declared.fields.Field.{Field}
+use Rattle.aid_types.specs.declared.fields.Kind.{Kind}
 use Rattle.aid_types.specs.declared.filing.Filing.{Filing}
 use Rattle.aid_types.specs.Fields.{width_of, code_of, kind_of, fields_of, numbers_of}
 
@@ -17,9 +18,14 @@ numbers_bytes [] zs = []
 numbers_bytes (f ∷ fs) [] = []
 numbers_bytes (f ∷ fs) (z ∷ zs) = number_bytes f.width z ++ numbers_bytes fs zs
 
+-- the bytes of a kind's numbers, its code first; a kind that has no fields has none
+abbrev pub bytes_of : Option Kind → List ℤ → List ℕ
+bytes_of None zs = []
+bytes_of (Some kind) zs = code_of kind ∷ numbers_bytes (fields_of kind) zs
+
 -- the bytes of a filing
 abbrev pub spelling : Filing → List ℕ
-spelling filing = code_of (kind_of filing.what) ∷ numbers_bytes (fields_of (kind_of filing.what)) (numbers_of filing)
+spelling filing = bytes_of (kind_of filing.what) (numbers_of filing)
 
 -- a spelling that begins another is that other, of the same filing
 pub record IsAlone (filing other : Filing) (rest : List ℕ) : Type 0 where

@@ -53,8 +53,13 @@ abbrev pub taken : List ℕ → Result (Kind × List ℤ) ℕ
 taken [] = Err 0
 taken (code ∷ bytes) = of_kind (kind_at code) bytes
 
+-- reading gives the numbers of a kind that has fields
+abbrev pub Reads : Option Kind → List ℤ → Result (Kind × List ℤ) ℕ → Type 0
+Reads None zs read = ⊥
+Reads (Some kind) zs read = read ≡ Ok (kind, zs)
+
 -- an answer is what reading gives, unless memory ran out
 abbrev pub Gives : Result Filing TakeError → Result (Kind × List ℤ) ℕ → Type 0
-Gives (Ok filing) read = read ≡ Ok (kind_of filing.what, numbers_of filing)
+Gives (Ok filing) read = Reads (kind_of filing.what) (numbers_of filing) read
 Gives (Err (NotFiling place)) read = read ≡ Err place
 Gives (Err NoMemory) read = Unit {0}

@@ -1,3 +1,6 @@
+ghost use Rattle.std.specs.Prelude.{IsSome};
+ghost use Rattle.aid_types.specs.Fields.{kind_of};
+
 use super::*;
 use aid_types::{Filing, Key, PriorFacts, School, SchoolFacts, Student, What};
 use std::alloc::Global;
@@ -11,7 +14,9 @@ const PRIOR: [u8; 25] = [
     4, 0, 0, 0, 0, 2, 0, 0, 0, 0, 0, 0, 0, 0x89, 0x13, 0, 0, 0, 0, 0, 0, 0x70, 0x64, 8, 0,
 ];
 
-fn school() -> Filing {
+fn school() -> Filing
+    ensures { IsSome (kind_of result.what) }
+{
     Filing {
         key: Key {
             school: School(0),
@@ -25,7 +30,9 @@ fn school() -> Filing {
     }
 }
 
-fn prior() -> Filing {
+fn prior() -> Filing
+    ensures { IsSome (kind_of result.what) }
+{
     Filing {
         key: Key {
             school: School(0),

@@ -1,14 +1,16 @@
 //! A filing as bytes.
-ghost use Rattle.std.specs.Prelude.{◌≡◌, ◌+◌, ◌*◌, ◌≤◌, ◌++◌, length, List, ℕ};
+ghost use Rattle.std.specs.Prelude.{◌≡◌, ◌+◌, ◌*◌, ◌≤◌, ◌++◌, length, List, ℕ, IsSome};
 ghost use Rattle.aid_types.specs.declared.filing.Filing.{Filing};
-ghost use Rattle.aid_types.specs.Fields.{IsFiling};
+ghost use Rattle.aid_types.specs.Fields.{IsFiling, kind_of};
 ghost use Rattle.filing_codec.specs.Spelling.{number_bytes, numbers_bytes, spelling, IsAlone};
 
 use crate::room::{CAPACITY, Room};
 use aid_types::{Field, Filing};
 
-/// Puts the one spelling of a filing into the room, in place of what the room held. It takes no memory.
+/// Puts the one spelling of a filing into the room, in place of what the room held. The filing is of a kind that has
+/// fields. It takes no memory.
 pub fn put(filing: &Filing, room: &mut Room)
+    requires has_fields { IsSome (kind_of filing.now.what) }
     ensures spelled { room.new ≡ spelling filing.now }
     ensures is_filing { IsFiling filing.now }
     ensures not_empty { 1 ≤ length (spelling filing.now) }
@@ -20,10 +22,13 @@ pub fn put(filing: &Filing, room: &mut Room)
 }
 
 fn put_parts(filing: &Filing, room: &mut Room)
+    requires has_fields { IsSome (kind_of filing.now.what) }
     ensures spelled { room.new ≡ spelling filing.now }
     ensures is_filing { IsFiling filing.now }
 {
-    let kind = filing.what.kind();
+    let Some(kind) = filing.what.kind() else {
+        unreachable!();
+    };
     room.clear();
     room.append(&[kind.code()]);
     put_numbers(kind.fields(), filing.numbers().as_slice(), room);

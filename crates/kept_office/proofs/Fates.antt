@@ -54,6 +54,8 @@ after_answer was ask answer fates kept before old history pending may is said = 
     )
     go (reply.Again position front outcome) said = same said.list
     go (reply.Refused refusal front) said = same said.list
+    go (reply.Quoted cents front) said = same said.list
+    go (reply.Standing row front) said = same said.list
     go (reply.DiskFault None) said = same said.list
     go (reply.DiskFault (Some position)) said = same said.list
     go reply.NoMemory said = absurd said

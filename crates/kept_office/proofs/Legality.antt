@@ -7,30 +7,7 @@ use Rattle.aid_types.specs.declared.reply.Refusal.{Refusal}
 use Rattle.aid_types.specs.declared.reply.Verdict.TheVariants.{Again}
 use Rattle.office_history.specs.Past.{key_at, filing_at, first_of_two, same_filing}
 use Rattle.office_history.specs.Answer.{IsLegal, answer_of, answer_at, answer_new, judged, breaks, is_admit}
-use Rattle.office_history.proofs.Legal.{legal_admitted}
-use Rattle.aid_types.proofs.Same.{tells_filing}
-
-stands_nowhere : (past : List Filing) (f : Filing) (p : ℕ) → is_admit (answer_at past f p) ≡ true → is_admit (answer_new past f (key_at f.key past)) ≡ true
-stands_nowhere past f zero h = h
-stands_nowhere past f (suc n) h = absurd (let bad : ⊥ = cc in bad)
-
-has_new_key : (past : List Filing) (f : Filing) (k : ℕ) → is_admit (answer_new past f k) ≡ true → (k ≡ 0) × (is_admit (judged past f (breaks past f)) ≡ true)
-has_new_key past f zero h = (refl, h)
-has_new_key past f (suc n) h = absurd (let bad : ⊥ = cc in bad)
-
-breaks_none : (past : List Filing) (f : Filing) (r : Option Refusal) → is_admit (judged past f r) ≡ true → r ≡ None
-breaks_none past f None h = refl
-breaks_none past f (Some r) h = absurd (let bad : ⊥ = cc in bad)
-
--- a filing that is admitted leaves a legal history
-pub admitted_legal : (past : List Filing) (f : Filing) → IsLegal past → is_admit (answer_of past f) ≡ true → IsLegal (f ∷ past)
-admitted_legal past f legal h =
-    let key = has_new_key past f (key_at f.key past) (stands_nowhere past f (filing_at f past) h) in
-    (legal, key.0, breaks_none past f (breaks past f) key.1)
-
--- a filing that isn't admitted wouldn't
-pub refused_illegal : (past : List Filing) (f : Filing) → is_admit (answer_of past f) ≡ false → IsLegal (f ∷ past) → ⊥
-refused_illegal past f h legal = let admitted = legal_admitted [] past f legal in cc (h, admitted)
+use Rattle.aid_types.proofs.SameFiling.{tells_filing}
 
 -- where a filing is found it stands
 found_stands : (past : List Filing) (f : Filing) (n : ℕ) → filing_at f past ≡ suc n → Contains past f

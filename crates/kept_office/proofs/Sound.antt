@@ -1,12 +1,12 @@
 -- The two states of a kept office.
-use Rattle.std.proofs.Common.{◌≡◌, ◌≢◌, ℕ, false, List, [], ◌∷◌, ◌++◌, Option, Some, None, Result, Ok, Err, refl, sym, ◌∙◌, subst}
+use Rattle.std.proofs.Common.{◌≡◌, ◌≢◌, ℕ, false, List, ◌∷◌, Option, Some, None, Result, Ok, Err, refl, sym, ◌∙◌, subst, ◌++◌, []}
 use Rattle.std.specs.Prelude.{MatchOption, IfErr, IfSome, IsErrAnd, Contains}
 use Rattle.aid_types.specs.declared.filing.Filing.{Filing}
 use Rattle.aid_types.specs.declared.reply.Ask.{Ask}
-use Rattle.aid_types.specs.declared.reply.Ask.TheVariants.{File}
+use Rattle.aid_types.specs.declared.reply.Ask.TheVariants.{File, Quote, Standing}
 use Rattle.aid_types.specs.declared.reply.Outcome.{Outcome}
 use Rattle.aid_types.specs.declared.reply.Verdict.{Verdict}
-use Rattle.aid_types.specs.declared.reply.Verdict.TheVariants.{Again, Refused, Admit}
+use Rattle.aid_types.specs.declared.reply.Verdict.TheVariants.{Again, Refused, Admit, Quoted, Standing as StandingTold}
 use Rattle.aid_types.specs.Fields.{IsFiling}
 use Rattle.disk_model.specs.Telling.{Telling, EachMoment}
 use Rattle.disk_model.specs.declared.disk.Disk.{Ghosts}
@@ -119,10 +119,14 @@ settled_sound disk old new f is here list none keeps sound =
 -- a filing that is asked about again stands
 pub again_asked : (past : List Filing) (ask : Ask) (p : ℕ) (o : Outcome) → answer_to past ask ≡ Again p o → IfSome (asked ask) (Contains past)
 again_asked past (File f) p o is = again_stands past f p o is
+again_asked past (Quote school student year term) p o is = absurd cc
+again_asked past (Standing student year) p o is = absurd cc
 
 pub not_admitted : (v : Verdict) → ((o : Outcome) → v ≡ Admit o → ⊥) → is_admit v ≡ false
 not_admitted (Again p o) not = refl
 not_admitted (Refused r) not = refl
+not_admitted (Quoted cents) not = refl
+not_admitted (StandingTold row) not = refl
 not_admitted (Admit o) not = absurd (not o refl)
 
 pub at_err : {T E : Type 0} (r : Result T E) (x : E) (P : E → Type 0) → IsErrAnd r (λ e. e ≡ x) → P x → IfErr r P

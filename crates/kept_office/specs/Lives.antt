@@ -35,6 +35,8 @@ abbrev pub fates_after : Option Filing → Ask → Reply → List Fate → List 
 fates_after was ask (reply.Accepted position front outcome) fates = with_fate Admitted (asked ask) (with_fate Admitted was fates)
 fates_after was ask (reply.Again position front outcome) fates = with_fate Admitted was fates
 fates_after was ask (reply.Refused refusal front) fates = with_fate Admitted was fates
+fates_after was ask (reply.Quoted cents front) fates = with_fate Admitted was fates
+fates_after was ask (reply.Standing row front) fates = with_fate Admitted was fates
 fates_after was ask (reply.DiskFault undecided) fates = with_fate Admitted was fates
 fates_after was ask reply.NoMemory fates = with_fate Admitted was fates
 

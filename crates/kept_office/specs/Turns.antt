@@ -1,12 +1,14 @@
 -- What a turn of an office makes of an ask.
-use Rattle.std.specs.Prelude.{◌≡◌, ◌⊎◌, ◌+◌, ℕ, Bool, true, false, IsTrue, List, ◌∷◌, length, Option, Some, None, IsSome}
+use Rattle.std.specs.Prelude.{◌≡◌, ◌⊎◌, ◌+◌, ℕ, Bool, true, false, IsTrue, List, ◌∷◌, length, Option, Some, None, IfSome, IsSome}
 use Rattle.aid_types.specs.declared.filing.Filing.{Filing}
 use Rattle.aid_types.specs.declared.reply.Ask.{Ask}
 use Rattle.aid_types.specs.declared.reply.Ask.TheVariants.{File}
 use Rattle.aid_types.specs.declared.reply.Outcome.{Outcome}
 use Rattle.aid_types.specs.declared.reply.Refusal.{Refusal}
 use Rattle.aid_types.specs.declared.reply.Reply.{Reply}
-use Rattle.aid_types.specs.declared.reply.Reply.TheVariants.{Accepted, Again, Refused, DiskFault, NoMemory}
+use Rattle.aid_types.specs.declared.reply.Reply.TheVariants.{Accepted, Again, Refused, Quoted, Standing, DiskFault, NoMemory}
+use Rattle.aid_types.specs.declared.reply.StandingRow.{StandingRow}
+use Rattle.aid_types.specs.Fields.{kind_of}
 use Rattle.aid_types.specs.declared.reply.Verdict.TheVariants as verdict
 use Rattle.office_history.specs.Answer.{answer_to, is_admit}
 use Rattle.kept_office.specs.Recovers.{Recovers}
@@ -16,9 +18,14 @@ abbrev pub settled : Option Filing → List Filing → List Filing
 settled None history = history
 settled (Some filing) history = filing ∷ history
 
--- the filing that is asked about
+-- the filing that is to be filed
 abbrev pub asked : Ask → Option Filing
 asked (File filing) = Some filing
+asked _ = None
+
+-- it is of a kind whose filings have bytes
+abbrev pub HasBytes : Ask → Type 0
+HasBytes ask = IfSome (asked ask) (λ filing. IsSome (kind_of filing.what))
 
 -- the history with the filing of an ask
 abbrev pub with_asked : Ask → List Filing → List Filing
@@ -42,6 +49,20 @@ pub record IsAgain (past : List Filing) (ask : Ask) (position front : ℕ) (outc
 -- the ask's filing is refused; nothing changes
 pub record IsRefused (past : List Filing) (ask : Ask) (refusal : Refusal) (front : ℕ) (history : List Filing) (pending : Option Filing) : Type 0 where
   pub answer : answer_to past ask ≡ verdict.Refused refusal
+  pub seen : front ≡ length past
+  pub list : history ≡ past
+  pub decided : pending ≡ None
+
+-- the ask is answered by a quote; nothing changes
+pub record IsQuoted (past : List Filing) (ask : Ask) (cents front : ℕ) (history : List Filing) (pending : Option Filing) : Type 0 where
+  pub answer : answer_to past ask ≡ verdict.Quoted cents
+  pub seen : front ≡ length past
+  pub list : history ≡ past
+  pub decided : pending ≡ None
+
+-- the ask is answered by a standing; nothing changes
+pub record IsStanding (past : List Filing) (ask : Ask) (row : StandingRow) (front : ℕ) (history : List Filing) (pending : Option Filing) : Type 0 where
+  pub answer : answer_to past ask ≡ verdict.Standing row
   pub seen : front ≡ length past
   pub list : history ≡ past
   pub decided : pending ≡ None
@@ -77,6 +98,8 @@ abbrev pub Answers : List Filing → Ask → Reply → List Filing → Option Fi
 Answers past ask (Accepted position front outcome) history pending = IsAccepted past ask position front outcome history pending
 Answers past ask (Again position front outcome) history pending = IsAgain past ask position front outcome history pending
 Answers past ask (Refused refusal front) history pending = IsRefused past ask refusal front history pending
+Answers past ask (Quoted cents front) history pending = IsQuoted past ask cents front history pending
+Answers past ask (Standing row front) history pending = IsStanding past ask row front history pending
 Answers past ask (DiskFault None) history pending = IsNotKept past ask history pending
 Answers past ask (DiskFault (Some position)) history pending = IsLeftUndecided past ask position history pending
 Answers past ask NoMemory history pending = ⊥
@@ -89,25 +112,33 @@ Turns old was ask (DiskFault (Some position)) history pending = IsUnsettled old 
 Turns old was ask NoMemory history pending = IsUnchanged old was history pending
 Turns old was ask reply history pending = Answers (settled was old) ask reply history pending
 
--- the ask's filing stands in the history
+-- the reply says that the ask's filing stands
 abbrev pub is_acknowledged : Reply → Bool
 is_acknowledged (Accepted position front outcome) = true
 is_acknowledged (Again position front outcome) = true
 is_acknowledged (Refused refusal front) = false
+is_acknowledged (Quoted cents front) = false
+is_acknowledged (Standing row front) = false
 is_acknowledged (DiskFault undecided) = false
 is_acknowledged NoMemory = false
 
+-- the reply says that the ask's filing was admitted in this turn
 abbrev pub is_accepted : Reply → Bool
 is_accepted (Accepted position front outcome) = true
 is_accepted (Again position front outcome) = false
 is_accepted (Refused refusal front) = false
+is_accepted (Quoted cents front) = false
+is_accepted (Standing row front) = false
 is_accepted (DiskFault undecided) = false
 is_accepted NoMemory = false
 
+-- the reply says that the disk failed
 abbrev pub is_fault : Reply → Bool
 is_fault (Accepted position front outcome) = false
 is_fault (Again position front outcome) = false
 is_fault (Refused refusal front) = false
+is_fault (Quoted cents front) = false
+is_fault (Standing row front) = false
 is_fault (DiskFault undecided) = true
 is_fault NoMemory = false
 

@@ -51,7 +51,8 @@ impl<D: Disk> KeptOffice<D> {
     ghost use Rattle.aid_types.specs.declared.filing.Filing.{Filing};
     ghost use Rattle.kept_office.specs.Recovers.{Recovers, RecoversEither};
     ghost use Rattle.kept_office.specs.Faulty.{IsFaultyAt};
-    ghost use Rattle.kept_office.specs.Turns.{Answers, Turns, MayRecover, settled, asked, is_accepted, is_acknowledged, is_fault};
+    ghost use Rattle.aid_types.specs.Fields.{kind_of};
+    ghost use Rattle.kept_office.specs.Turns.{Answers, HasBytes, Turns, MayRecover, settled, asked, is_accepted, is_acknowledged, is_fault};
     ghost use Rattle.kept_office.specs.Kept.{IsSound, IsSettled, kept_disk, kept_history, kept_pending, kept_room};
 
     /// Founds an office without filings, in a file of fewer than 17 bytes, whatever they are, or of 17 bytes whose
@@ -67,6 +68,10 @@ impl<D: Disk> KeptOffice<D> {
         ensures foreign { IsHonest (D.tells disk)
             → IfErr result (λ e. e.0 ≡ FoundFault.NotJournal → IsForeign (D.tells disk).reads × IsRead (D.tells disk) (D.tells e.1)) }
         ensures no_memory { IfErr result (λ e. e.0 ≡ FoundFault.NoMemory → e.1 ≡ disk) }
+
+        // Only a file in which a journal may be founded is written, whatever the answer.
+        ensures untouched { IsHonest (D.tells disk)
+            → IfErr result (λ e. IsUnborn (D.tells disk).reads ⊎ IsRead (D.tells disk) (D.tells e.1)) }
 
         ensures empty { IfOk result (λ kept. kept_history kept ≡ []) }
         ensures decided { IfOk result (λ kept. kept_pending kept ≡ None) }
@@ -118,11 +123,15 @@ impl<D: Disk> KeptOffice<D> {
         ensures foreign { IsHonest (D.tells disk)
             → IfErr result (λ e. e.0 ≡ OpenError.NotJournal → IsForeign (D.tells disk).reads) }
         ensures damaged { IsHonest (D.tells disk)
-            → IfErr result (λ e. (place : ℕ) → e.0 ≡ OpenError.Damaged place → IsFaultyAt (D.tells disk).reads place) }
+            → IfErr result (λ e. (place : ℕ) → e.0 ≡ OpenError.Damaged place
+            → IsBorn (D.tells disk).reads × IsFaultyAt (D.tells disk).reads place) }
         ensures complete { IsHonest (D.tells disk) → (history : List Filing) → Recovers (D.tells disk).reads history
             → IfErr result (λ e. (e.0 ≡ OpenError.NoMemory) ⊎ (e.0 ≡ OpenError.DiskFault)) }
         ensures unwritten { IsHonest (D.tells disk)
             → IfErr result (λ e. (e.0 ≡ OpenError.DiskFault → ⊥) → IsRead (D.tells disk) (D.tells e.1)) }
+        // Only a file that recovers a history is written, whatever the answer.
+        ensures untouched { IsHonest (D.tells disk)
+            → IfErr result (λ e. ((history : List Filing) × Recovers (D.tells disk).reads history) ⊎ IsRead (D.tells disk) (D.tells e.1)) }
 
         // Where every image recovers a history, as on a quiet disk, each one at each moment does.
         ensures moments { IsHonest (D.tells disk) → (history : List Filing)
@@ -133,6 +142,7 @@ impl<D: Disk> KeptOffice<D> {
             → IfErr result (λ e. EachMoment (D.tells disk) (D.tells e.1) (λ file. Recovers file history)) }
 
         ensures later { IfOk result (λ kept. D.faults disk ≤ D.faults (kept_disk kept)) }
+        ensures later_err { IfErr result (λ e. D.faults disk ≤ D.faults e.1) }
         ensures cause { IfErr result (λ e. e.0 ≡ OpenError.DiskFault → Rose (D.faults disk) (D.faults e.1)) }
     {
         let Ok(mut room) = Room::new(alloc) else {
@@ -152,7 +162,8 @@ impl<D: Disk> KeptOffice<D> {
         })
     }
 
-    /// Makes room for so many turns. An `Err` is want of memory, and leaves all as it was.
+    /// Makes room for so many turns. An `Err` is want of memory, which `u32::MAX` turns beside an undecided filing always are,
+    /// and leaves all as it was.
     pub fn reserve(&mut self, n: u32) -> Result<(), AllocError>
         ensures history { kept_history self.new ≡ kept_history self.old }
         ensures pending { kept_pending self.new ≡ kept_pending self.old }
@@ -171,10 +182,11 @@ impl<D: Disk> KeptOffice<D> {
     }
 
     /// Answers an ask. A filing that is undecided is settled first: it is admitted. Then the ask is judged, and a
-    /// filing that is admitted is put into the journal before it is acknowledged.
+    /// filing that is admitted is put into the journal before it is acknowledged. A filing is of a kind that has bytes.
     ///
     /// `DiskFault` names the position of the filing that is undecided then, if one is. `NoMemory` leaves all as it was.
     pub fn turn(&mut self, ask: Ask) -> Reply
+        requires has_bytes { HasBytes ask }
         requires sound { IsHonest (D.tells (kept_disk self.old)) → IsSound D.Disk self.old }
 
         // The reply is the answer on the history after settling, and this and what is undecided after are what it says.
@@ -239,6 +251,7 @@ impl<D: Disk> KeptOffice<D> {
 
     // Answers an ask where nothing is undecided.
     fn answer(&mut self, ask: Ask) -> Reply
+        requires has_bytes { HasBytes ask }
         requires sound { IsHonest (D.tells (kept_disk self.old)) → IsSound D.Disk self.old }
         requires decided { kept_pending self.old ≡ None }
         requires room { 1 ≤ kept_room self.old }
@@ -260,8 +273,12 @@ impl<D: Disk> KeptOffice<D> {
                 outcome,
             },
             Verdict::Refused(refusal) => Reply::Refused { refusal, front },
+            Verdict::Quoted(cents) => Reply::Quoted { cents, front },
+            Verdict::Standing(row) => Reply::Standing { row, front },
             Verdict::Admit(_) => {
-                let Ask::File(filing) = ask;
+                let Ask::File(filing) = ask else {
+                    unreachable!();
+                };
                 self.keep(filing)
             }
         }
@@ -269,6 +286,7 @@ impl<D: Disk> KeptOffice<D> {
 
     // Keeps a filing that is to be admitted.
     fn keep(&mut self, filing: Filing) -> Reply
+        requires has_bytes { IsSome (kind_of filing.what) }
         requires sound { IsHonest (D.tells (kept_disk self.old)) → IsSound D.Disk self.old }
         requires decided { kept_pending self.old ≡ None }
         requires room { 1 ≤ kept_room self.old }

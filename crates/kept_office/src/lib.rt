@@ -7,6 +7,8 @@
 mod kept;
 mod laws;
 mod reading;
+#[cfg(test)]
+mod tests;
 
 pub use filing_journal::OpenError;
 pub use kept::{FoundFault, KeptOffice};

@@ -87,7 +87,9 @@ fn admit_read(office: &mut Office, place: u64, filing: Filing) -> Result<(), Ope
     let ask = Ask::File(filing);
     match judge(office, &ask) {
         Verdict::Admit(_) => {
-            let Ask::File(filing) = ask;
+            let Ask::File(filing) = ask else {
+                unreachable!();
+            };
             office.admit(filing);
             Ok(())
         }

@@ -2,7 +2,7 @@ use Rattle.std.proofs.Common.{List, ℕ, ◌∙◌, subst, rules}
 use Rattle.kept_office.specs.Kept.{kept_disk, kept_history}
 use Rattle.kept_office.specs.Recovers.{payloads_of}
 use Rattle.filing_journal.specs.Journal.{MayKeep}
-use Rattle.kept_office.proofs.Legality.{admitted_legal}
+use Rattle.office_history.proofs.Admitted.{admitted_legal}
 use Rattle.kept_office.proofs.Sound.{settled_of, keepable_settled, filing_moments, pending_from, sound_settled}
 use Rattle.kept_office.proofs.kept.KeptOffice.keep.Goals as goal
 

@@ -1,7 +1,9 @@
-use Rattle.std.proofs.Common.{◌≡◌, ◌⊎◌, inr, IsTrue, List, ℕ, sym, subst}
-use Rattle.disk_model.specs.Telling.{EachMoment}
+use Rattle.std.proofs.Common.{◌≡◌, ◌⊎◌, inl, inr, IsTrue, List, ℕ, sym, subst}
+use Rattle.aid_types.specs.declared.filing.Filing.{Filing}
+use Rattle.disk_model.specs.Telling.{EachMoment, IsRead}
 use Rattle.disk_model.proofs.Moments.{read_again}
 use Rattle.filing_journal.specs.Opening.{opening_disk}
+use Rattle.filing_journal.specs.Stands.{StandsFor}
 use Rattle.kept_office.specs.Recovers.{payloads_of, Recovers}
 use Rattle.kept_office.proofs.Images.{recovers_from}
 use Rattle.kept_office.proofs.Openings.{looked_moments, opening_moments}
@@ -81,3 +83,40 @@ returns-in-Err-clause-complete g c honest history stands =
 pub returns-in_err-journal-clause-complete : goal.returns-in_err-journal-clause-complete
 returns-in_err-journal-clause-complete g c honest history stands =
     at_err c.from_residual-in_err-journal.result c.in_err-journal.field-0.0 (λ x. (x.0 ≡ NoMemory) ⊎ (x.0 ≡ DiskFault)) c.from_residual-in_err-journal.ensures.1 (inr c.in_err-journal.ensures.refusal)
+
+pub returns-in_err-opening-clause-untouched : goal.returns-in_err-opening-clause-untouched
+returns-in_err-opening-clause-untouched g c honest =
+    let old = g.D.Disk.tells c.args.disk in
+    at_err c.from_residual.result c.in_err-opening.field-0.0 (λ x. ((history : List Filing) × Recovers old.reads history) ⊎ IsRead old (g.D.Disk.tells x.1)) c.from_residual.ensures.1
+    (inr (c.in_err-opening.ensures.told_err honest))
+
+pub returns-in-Err-clause-untouched : goal.returns-in-Err-clause-untouched
+returns-in-Err-clause-untouched g c honest =
+    let old = g.D.Disk.tells c.args.disk in
+    let first = g.D.Disk.tells (opening_disk c.in_ok-opening.opening) in
+    let mid = g.D.Disk.tells (opening_disk c.read_all.new.opening) in
+    let still = subst IsTrue (sym c.in_ok-opening.ensures.honest) honest in
+    subst (λ d. ((history : List Filing) × Recovers old.reads history) ⊎ IsRead old (g.D.Disk.tells d)) (sym c.into_disk.ensures)
+    (inr (read_again old first mid (c.in_ok-opening.ensures.told honest) (c.read_all.ensures.told still)))
+
+pub returns-in_err-journal-clause-untouched : goal.returns-in_err-journal-clause-untouched
+returns-in_err-journal-clause-untouched g c honest =
+    let old = g.D.Disk.tells c.args.disk in
+    let first = g.D.Disk.tells (opening_disk c.in_ok-opening.opening) in
+    let mid = g.D.Disk.tells (opening_disk c.read_all.new.opening) in
+    let still = subst IsTrue (sym c.in_ok-opening.ensures.honest) honest in
+    let h = c.read_all.new.office.history in
+    let all = c.in_default-read_all.ensures.all still in
+    let read = read_again old first mid (c.in_ok-opening.ensures.told honest) (c.read_all.ensures.told still) in
+    at_err c.from_residual-in_err-journal.result c.in_err-journal.field-0.0 (λ x. ((history : List Filing) × Recovers old.reads history) ⊎ IsRead old (g.D.Disk.tells x.1)) c.from_residual-in_err-journal.ensures.1
+    (inl (
+      h,
+      recovers_from h old.reads (record { filings = c.in_default-read_all.ensures.filings still; legal = c.read_all.ensures.legal })
+          (subst (λ (file : List ℕ). StandsFor file (payloads_of h)) read.reads all.stands),
+    ))
+
+pub returns-in-Err-clause-damaged : goal.returns-in-Err-clause-damaged
+returns-in-Err-clause-damaged g c honest place is =
+    let still = subst IsTrue (sym c.in_ok-opening.ensures.honest) honest in
+    let read = c.in_ok-opening.ensures.told honest in
+    (c.in_ok-opening.ensures.born honest, subst (λ (file : List ℕ). IsFaultyAt file place) read.reads (c.in-Err.ensures.damaged still place is))
