@@ -1,5 +1,5 @@
 -- When all is done.
-use Rattle.std.proofs.Common.{◌≡◌, ◌≢◌, ◌⊎◌, inl, inr, ℕ, suc, ◌≤◌, ◌<◌, List, [], ◌∷◌, length, take, Result, Ok, Err, IsTrue, refl, arith}
+use Rattle.std.proofs.Common.{◌≡◌, ◌≢◌, ◌⊎◌, inl, inr, ℕ, ◌≤◌, List, [], ◌∷◌, length, take, Result, Ok, Err, IsTrue, refl, arith}
 use Rattle.std.specs.Prelude.{IfErr, slice_index}
 use Rattle.aid_edges.specs.Faults.{Rose}
 use Rattle.disk_model.specs.Telling.{Telling}
@@ -38,7 +38,7 @@ filed_from (DiskFault undecided) words a b text text' status old new less of_fil
 filed_from NoOffice words a b text text' status old new less of_file r born whole (inl is) = absurd (born_unborn a.reads born r.reason.1)
 filed_from NotJournal words a b text text' status old new less of_file r born whole (inl is) = absurd (r.reason.not_born born)
 filed_from Exists words a b text text' status old new less of_file r born whole (inl is) = absurd of_file
-filed_from (Damaged place) words a b text text' status old new less of_file r born whole (inl is) = absurd (whole place r.reason.1)
+filed_from (Damaged place) words a b text text' status old new less of_file r born whole (inl is) = absurd (whole place r.reason.1.1)
 filed_from TooLong words a b text text' status old new less of_file r born whole (inl is) = absurd (less.fits refl)
 filed_from NoMemory words a b text text' status old new less of_file r born whole (inl is) = is
 filed_from stop words a b text text' status old new less of_file r born whole (inr (four, rose)) = absurd (less.last rose)

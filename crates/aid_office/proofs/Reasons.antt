@@ -1,75 +1,61 @@
 -- Why runs stop.
-use Rattle.std.proofs.Common.{◌≡◌, ◌≢◌, ◌⊎◌, inl, inr, ℕ, ◌≤◌, ◌++◌, List, [], ◌∷◌, Option, Some, None, Result, Ok, Err, IsTrue, refl, sym, ◌∙◌, ap, subst, arith}
+use Rattle.std.proofs.Common.{◌≡◌, ◌≢◌, ◌⊎◌, inl, inr, ℕ, ◌++◌, List, Some, None, Result, Ok, Err, IsTrue, refl, sym, subst}
 use Rattle.std.specs.Prelude.{IfErr, IsOk, OnOk, ◌↔◌}
 use Rattle.std.proofs.lemmas.List.{append-nil}
 use Rattle.aid_types.specs.declared.filing.Filing.{Filing}
 use Rattle.desk_forms.specs.declared.error.RowError.{RowError}
 use Rattle.aid_edges.specs.Whole.{IsCutShort}
-use Rattle.aid_edges.specs.Faults.{Rose}
-use Rattle.disk_model.specs.Telling.{EachImage, EachMoment, IsRead, Telling}
-use Rattle.filing_journal.specs.Head.{IsBorn, IsForeign}
+use Rattle.disk_model.specs.Telling.{EachImage, IsRead, Telling}
+use Rattle.filing_journal.specs.Head.{IsForeign, IsBorn}
 use Rattle.filing_journal.specs.Stands.{IsUnborn}
 use Rattle.filing_journal.specs.declared.opening.OpenError.{OpenError}
 use Rattle.filing_journal.specs.declared.opening.OpenError.TheVariants as opening
-use Rattle.kept_office.specs.declared.kept.FoundFault.{FoundFault}
-use Rattle.kept_office.specs.declared.kept.FoundFault.TheVariants as founding
 use Rattle.kept_office.specs.Faulty.{IsFaultyAt}
 use Rattle.kept_office.specs.Recovers.{Recovers}
-use Rattle.aid_office.specs.Words.{IsFile, IsFound}
-use Rattle.aid_office.specs.Refusals.{found_stop, open_stop}
-use Rattle.aid_office.specs.Ending.{HasReason, HasStopped, IsFoundStopped, IsStopped, fault_line, is_disk_fault, reported, status_of, unreported}
-use Rattle.aid_office.specs.RowStops.{IsLate, IsOfFile, IsOfFiling, IsOfFounding}
+use Rattle.kept_office.proofs.Faults.{read_nothing}
+use Rattle.aid_office.specs.Words.{IsFile}
+use Rattle.aid_office.specs.Refusals.{open_stop}
+use Rattle.aid_office.specs.Ending.{HasReason, HasStopped, IsStopped, IsUnopened, Suits, fault_line, is_disk_fault, reported, status_of, unreported}
+use Rattle.aid_office.specs.RowStops.{IsLate, IsOfFile, IsOfFiling}
 use Rattle.aid_office.specs.declared.stop.Stop.{Stop}
 use Rattle.aid_office.specs.declared.stop.Stop.TheVariants.{Usage, Read, Write, DiskFault, NoOffice, NotJournal, Exists, Damaged, TooLong, NoMemory}
 
--- the value of a refusal
-pub at_err : {T E : Type 0} (r : Result T E) (P : E → Type 0) → ((e : E) → r ≡ Err e → P e) → IfErr r P
-at_err (Ok v) P is = tt
-at_err (Err e) P is = is e refl
-
--- a stop after the first row
-pub late_reason : (stop : Stop) (words : List (List ℕ)) (old new : Telling) (text text' : List ℕ) → IsLate stop → HasReason stop words old new text text'
-late_reason Write words old new text text' late = record { reason = tt; unwritten = λ is. absurd (let bad : ⊥ = cc in bad); unfiled = λ is. absurd (let bad : ⊥ = cc in bad) }
-late_reason (DiskFault undecided) words old new text text' late = record { reason = tt; unwritten = λ is. absurd (let bad : ⊥ = cc in bad); unfiled = λ is. absurd (let bad : ⊥ = cc in bad) }
-late_reason NoMemory words old new text text' late = record { reason = tt; unwritten = λ is. absurd (let bad : ⊥ = cc in bad); unfiled = λ is. absurd (let bad : ⊥ = cc in bad) }
-late_reason Usage words old new text text' late = absurd late
-late_reason Read words old new text text' late = absurd late
-late_reason NoOffice words old new text text' late = absurd late
-late_reason NotJournal words old new text text' late = absurd late
-late_reason Exists words old new text text' late = absurd late
-late_reason (Damaged place) words old new text text' late = absurd late
-late_reason TooLong words old new text text' late = absurd late
+-- a stop once the journal was opened
+pub late_reason : (stop : Stop) (words : List (List ℕ)) (old new : Telling) (text text' : List ℕ) → IsFile words → (past : List Filing) × Recovers old.reads past → IsLate stop → HasReason stop words old new text text'
+late_reason Write words old new text text' file stands late = record { reason = inl (file, stands); unwritten = λ is. absurd (let bad : ⊥ = cc in bad); unfiled = λ is. absurd (let bad : ⊥ = cc in bad); untouched = λ unfit. absurd (unfit (inl (file, stands))) }
+late_reason (DiskFault None) words old new text text' file stands late = record { reason = tt; unwritten = λ is. absurd (let bad : ⊥ = cc in bad); unfiled = λ is. absurd (let bad : ⊥ = cc in bad); untouched = λ unfit. absurd (unfit (inl (file, stands))) }
+late_reason (DiskFault (Some position)) words old new text text' file stands late = record { reason = (file, stands); unwritten = λ is. absurd (let bad : ⊥ = cc in bad); unfiled = λ is. absurd (let bad : ⊥ = cc in bad); untouched = λ unfit. absurd (unfit (inl (file, stands))) }
+late_reason NoMemory words old new text text' file stands late = record { reason = tt; unwritten = λ is. absurd (let bad : ⊥ = cc in bad); unfiled = λ is. absurd (let bad : ⊥ = cc in bad); untouched = λ unfit. absurd (unfit (inl (file, stands))) }
+late_reason Usage words old new text text' file stands late = absurd late
+late_reason Read words old new text text' file stands late = absurd late
+late_reason NoOffice words old new text text' file stands late = absurd late
+late_reason NotJournal words old new text text' file stands late = absurd late
+late_reason Exists words old new text text' file stands late = absurd late
+late_reason (Damaged place) words old new text text' file stands late = absurd late
+late_reason TooLong words old new text text' file stands late = absurd late
 
 -- what a refusal to open says of the file
 pub record IsOpenRefusal (e : OpenError) (old new : Telling) : Type 0 where
   pub no_office : e ≡ opening.NoOffice → IsUnborn old.reads
   pub foreign : e ≡ opening.NotJournal → IsForeign old.reads
-  pub damaged : (place : ℕ) → e ≡ opening.Damaged place → IsFaultyAt old.reads place
+  pub damaged : (place : ℕ) → e ≡ opening.Damaged place → IsBorn old.reads × IsFaultyAt old.reads place
   pub unwritten : (e ≡ opening.DiskFault → ⊥) → IsRead old new
+  pub untouched : ((past : List Filing) × Recovers old.reads past) ⊎ IsRead old new
+
+-- one of the two where the first can't be
+other : {A B : Type 0} → A ⊎ B → (A → ⊥) → B
+other (inl a) never = absurd (never a)
+other (inr b) never = b
+
+unopened : (e : OpenError) (words : List (List ℕ)) (old new : Telling) → IsFile words → IsOpenRefusal e old new → (Suits words old.reads → ⊥) → IsRead old new
+unopened e words old new file r unfit = other r.untouched (λ stands. unfit (inl (file, stands)))
 
 pub open_reason : (e : OpenError) (words : List (List ℕ)) (old new : Telling) (text : List ℕ) → IsFile words → IsOpenRefusal e old new → HasReason (open_stop e) words old new text text
-open_reason opening.NoOffice words old new text file r = record { reason = (file, r.no_office refl); unwritten = λ is. refl; unfiled = λ is. r.unwritten (λ bad. let no : ⊥ = cc bad in no) }
-open_reason opening.NotJournal words old new text file r = record { reason = r.foreign refl; unwritten = λ is. refl; unfiled = λ is. r.unwritten (λ bad. let no : ⊥ = cc bad in no) }
-open_reason (opening.Damaged place) words old new text file r = record { reason = (file, r.damaged place refl); unwritten = λ is. refl; unfiled = λ is. r.unwritten (λ bad. let no : ⊥ = cc bad in no) }
-open_reason opening.DiskFault words old new text file r = late_reason (DiskFault None) words old new text text tt
-open_reason opening.NoMemory words old new text file r = late_reason NoMemory words old new text text tt
-
--- what a refusal to found says of the file
-pub record IsFoundRefusal (e : FoundFault) (old new : Telling) : Type 0 where
-  pub exists : e ≡ founding.Exists → IsBorn old.reads × IsRead old new
-  pub foreign : e ≡ founding.NotJournal → IsForeign old.reads × IsRead old new
-
-pub found_reason : (e : FoundFault) (words : List (List ℕ)) (old new : Telling) (text : List ℕ) → IsFound words → IsFoundRefusal e old new → HasReason (found_stop e) words old new text text
-found_reason founding.Exists words old new text found r = record { reason = (found, (r.exists refl).0); unwritten = λ is. refl; unfiled = λ is. (r.exists refl).1 }
-found_reason founding.NotJournal words old new text found r = record { reason = (r.foreign refl).0; unwritten = λ is. refl; unfiled = λ is. (r.foreign refl).1 }
-found_reason founding.DiskFault words old new text found r = late_reason (DiskFault None) words old new text text tt
-found_reason founding.NoMemory words old new text found r = late_reason NoMemory words old new text text tt
-
-pub found_stopped : (e : FoundFault) (told : Telling) (text : List ℕ) → IsFoundStopped (found_stop e) told text text
-found_stopped founding.Exists told text = refl
-found_stopped founding.NotJournal told text = refl
-found_stopped founding.DiskFault told text = refl
-found_stopped founding.NoMemory told text = refl
+open_reason opening.NoOffice words old new text file r = record { reason = (file, r.no_office refl); unwritten = λ is. refl; unfiled = λ is. r.unwritten (λ bad. let no : ⊥ = cc bad in no); untouched = λ unfit. (refl, unopened opening.NoOffice words old new file r unfit) }
+open_reason opening.NotJournal words old new text file r = record { reason = r.foreign refl; unwritten = λ is. refl; unfiled = λ is. r.unwritten (λ bad. let no : ⊥ = cc bad in no); untouched = λ unfit. (refl, unopened opening.NotJournal words old new file r unfit) }
+open_reason (opening.Damaged place) words old new text file r = record { reason = (file, r.damaged place refl); unwritten = λ is. refl; unfiled = λ is. r.unwritten (λ bad. let no : ⊥ = cc bad in no); untouched = λ unfit. (refl, unopened (opening.Damaged place) words old new file r unfit) }
+open_reason opening.DiskFault words old new text file r = record { reason = tt; unwritten = λ is. absurd (let bad : ⊥ = cc in bad); unfiled = λ is. absurd (let bad : ⊥ = cc in bad); untouched = λ unfit. (refl, unopened opening.DiskFault words old new file r unfit) }
+open_reason opening.NoMemory words old new text file r = record { reason = tt; unwritten = λ is. absurd (let bad : ⊥ = cc in bad); unfiled = λ is. absurd (let bad : ⊥ = cc in bad); untouched = λ unfit. (refl, unopened opening.NoMemory words old new file r unfit) }
 
 -- nothing is filed of rows before the office is open
 pub open_stopped : (e : OpenError) (rows : List (Result Filing RowError)) (past : List Filing) (told : Telling) (text : List ℕ) → EachImage told (λ file. Recovers file past) → IsStopped (open_stop e) rows past told text text
@@ -79,24 +65,26 @@ open_stopped (opening.Damaged place) rows past told text each = record { kept = 
 open_stopped opening.DiskFault rows past told text each = (0, record { kept = each; written = sym (append-nil text) })
 open_stopped opening.NoMemory rows past told text each = (0, record { kept = each; written = sym (append-nil text) })
 
--- a look at nothing
-pub look_nowhere : (told : Telling) → IsRead told told
-look_nowhere told = record {
-  reads = refl;
-  images = λ c now. now;
-  keeps = λ c now. now;
-  time = record { later = omega arith; no_other = λ t c le left. inl left; keeps = λ t c le left. left };
-}
+-- a file that recovers a history isn't opened only for want of memory or by the disk
+pub unopened_by : (e : OpenError) (old new : Telling) (text : List ℕ) → (e ≡ opening.NoMemory) ⊎ (e ≡ opening.DiskFault) → ((e ≡ opening.DiskFault → ⊥) → IsRead old new) → IsUnopened (open_stop e) old new text text
+unopened_by e old new text (inl is) unwritten = subst (λ (x : OpenError). IsUnopened (open_stop x) old new text text) (sym is) record { early = tt; written = refl; unfiled = λ never. unwritten (λ bad. let no : ⊥ = cc in no) }
+unopened_by e old new text (inr is) unwritten = subst (λ (x : OpenError). IsUnopened (open_stop x) old new text text) (sym is) record { early = tt; written = refl; unfiled = λ never. absurd (never refl) }
 
 -- a stop of reading
-pub record IsUntouched (stop : Stop) (words : List (List ℕ)) (rows : List (Result Filing RowError)) (past : List Filing) (told : Telling) (text : List ℕ) : Type 0 where
-  pub reason : HasReason stop words told told text text
-  pub stopped : EachImage told (λ file. Recovers file past) → IsStopped stop rows past told text text
+pub read_reason : (stop : Stop) (words : List (List ℕ)) (told : Telling) (text : List ℕ) → IsFile words → (stop ≡ Read) ⊎ ((stop ≡ TooLong) ⊎ (stop ≡ NoMemory)) → HasReason stop words told told text text
+read_reason stop words told text file (inl is) = subst (λ (s : Stop). HasReason s words told told text text) (sym is) record { reason = file; unwritten = λ e. refl; unfiled = λ e. read_nothing told; untouched = λ unfit. (refl, read_nothing told) }
+read_reason stop words told text file (inr (inl is)) = subst (λ (s : Stop). HasReason s words told told text text) (sym is) record { reason = file; unwritten = λ e. refl; unfiled = λ e. read_nothing told; untouched = λ unfit. (refl, read_nothing told) }
+read_reason stop words told text file (inr (inr is)) = subst (λ (s : Stop). HasReason s words told told text text) (sym is) record { reason = tt; unwritten = λ e. refl; unfiled = λ e. read_nothing told; untouched = λ unfit. (refl, read_nothing told) }
 
-pub read_stopped : (stop : Stop) (words : List (List ℕ)) (rows : List (Result Filing RowError)) (past : List Filing) (told : Telling) (text : List ℕ) → (stop ≡ Read) ⊎ ((stop ≡ TooLong) ⊎ (stop ≡ NoMemory)) → IsUntouched stop words rows past told text
-read_stopped stop words rows past told text (inl is) = subst (λ (s : Stop). IsUntouched s words rows past told text) (sym is) record { reason = record { reason = tt; unwritten = λ e. refl; unfiled = λ e. look_nowhere told }; stopped = λ each. record { kept = each; written = refl } }
-read_stopped stop words rows past told text (inr (inl is)) = subst (λ (s : Stop). IsUntouched s words rows past told text) (sym is) record { reason = record { reason = tt; unwritten = λ e. refl; unfiled = λ e. look_nowhere told }; stopped = λ each. record { kept = each; written = refl } }
-read_stopped stop words rows past told text (inr (inr is)) = subst (λ (s : Stop). IsUntouched s words rows past told text) (sym is) record { reason = late_reason NoMemory words told told text text tt; stopped = λ each. (0, record { kept = each; written = sym (append-nil text) }) }
+pub read_stopped : (stop : Stop) (rows : List (Result Filing RowError)) (past : List Filing) (told : Telling) (text : List ℕ) → (stop ≡ Read) ⊎ ((stop ≡ TooLong) ⊎ (stop ≡ NoMemory)) → EachImage told (λ file. Recovers file past) → IsStopped stop rows past told text text
+read_stopped stop rows past told text (inl is) each = subst (λ (s : Stop). IsStopped s rows past told text text) (sym is) record { kept = each; written = refl }
+read_stopped stop rows past told text (inr (inl is)) each = subst (λ (s : Stop). IsStopped s rows past told text text) (sym is) record { kept = each; written = refl }
+read_stopped stop rows past told text (inr (inr is)) each = subst (λ (s : Stop). IsStopped s rows past told text text) (sym is) (0, record { kept = each; written = sym (append-nil text) })
+
+pub read_unopened : (stop : Stop) (told : Telling) (text : List ℕ) → (stop ≡ Read) ⊎ ((stop ≡ TooLong) ⊎ (stop ≡ NoMemory)) → IsUnopened stop told told text text
+read_unopened stop told text (inl is) = subst (λ (s : Stop). IsUnopened s told told text text) (sym is) record { early = tt; written = refl; unfiled = λ never. read_nothing told }
+read_unopened stop told text (inr (inl is)) = subst (λ (s : Stop). IsUnopened s told told text text) (sym is) record { early = tt; written = refl; unfiled = λ never. read_nothing told }
+read_unopened stop told text (inr (inr is)) = subst (λ (s : Stop). IsUnopened s told told text text) (sym is) record { early = tt; written = refl; unfiled = λ never. read_nothing told }
 
 -- a run that stopped, with its last line
 pub has_stopped : {U : Type 0} (ended : Result U Stop) (status : ℕ) (Stood : Stop → List ℕ → Type 0) (before text : List ℕ) → ((status ≡ 0) ↔ IsOk ended) → status ≢ 0
@@ -115,6 +103,11 @@ any_ok (Err e) P p = tt
 pub err_map : {T E : Type 0} (r : Result T E) (P Q : E → Type 0) → ((e : E) → P e → Q e) → IfErr r P → IfErr r Q
 err_map (Ok v) P Q f p = tt
 err_map (Err e) P Q f p = f e p
+
+-- two facts of a refusal
+pub err_both : {T E : Type 0} (r : Result T E) (P Q : E → Type 0) → IfErr r P → IfErr r Q → IfErr r (λ e. P e × Q e)
+err_both (Ok v) P Q p q = tt
+err_both (Err e) P Q p q = (p, q)
 
 pub late_of_filing : (stop : Stop) → IsLate stop → IsOfFiling stop
 late_of_filing Write late = tt

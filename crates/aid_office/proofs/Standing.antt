@@ -1,17 +1,17 @@
 -- What the kept office leaves on its disk between rows.
-use Rattle.std.proofs.Common.{◌≡◌, inl, inr, ℕ, ◌+◌, List, [], ◌∷◌, ◌++◌, length, Option, Some, None, Result, Ok, Err, sym, ◌∙◌, ap, subst, arith}
+use Rattle.std.proofs.Common.{◌≡◌, ℕ, List, ◌∷◌, ◌++◌, length, Some, None, Result, Ok, Err, ◌∙◌, ap, subst}
 use Rattle.std.specs.Prelude.{OnOk}
 use Rattle.aid_types.specs.declared.filing.Filing.{Filing}
 use Rattle.desk_forms.specs.declared.error.RowError.{RowError}
-use Rattle.disk_model.specs.Telling.{EachImage, EachMoment}
+use Rattle.disk_model.specs.Telling.{EachImage, EachMoment, IsQuiet}
 use Rattle.disk_model.specs.declared.disk.Disk.{Ghosts}
 use Rattle.disk_model.proofs.Moments.{join, started, weaken}
 use Rattle.disk_model.specs.Telling.{Telling}
-use Rattle.kept_office.specs.Kept.{IsPending, IsSettled, IsSound, kept_disk, kept_history, kept_pending}
+use Rattle.kept_office.specs.Kept.{IsSound, kept_disk, kept_history, kept_pending}
 use Rattle.kept_office.specs.Recovers.{Recovers, RecoversEither}
 use Rattle.kept_office.specs.declared.kept.KeptOffice.{KeptOffice}
 use Rattle.kept_office.proofs.Sound.{pending_of, settled_of}
-use Rattle.aid_office.specs.Ending.{IsStopped, RecoversFront}
+use Rattle.aid_office.specs.Ending.{IsStopped, RecoversFront, WasOpened}
 use Rattle.aid_office.specs.FileText.{after_row, file_text, history_after}
 use Rattle.aid_office.specs.RowStops.{StopsRow}
 use Rattle.aid_office.specs.declared.stop.Stop.{Stop}
@@ -72,3 +72,13 @@ opened_moments first old new past before rows same opening filing =
 -- before any row
 pub unopened_moments : (old new : Telling) (past : List Filing) (rows : List (Result Filing RowError)) → EachMoment old new (λ file. Recovers file past) → EachMoment old new (RecoversFront past rows)
 unopened_moments old new past rows opening = weaken old new (λ file. Recovers file past) (RecoversFront past rows) (λ c r. (0, r)) opening
+
+-- an office that was opened, and then rows are filed
+pub was_opened : {D : Type 0} (disk : Ghosts D) (kept : KeptOffice D disk) (rows : List (Result Filing RowError)) (past : List Filing) (new : Telling) → kept_history kept ≡ past → kept_pending kept ≡ None → IsSound disk kept → IsQuiet (disk.tells (kept_disk kept))
+    → (disk.tells (kept_disk kept)).image (disk.tells (kept_disk kept)).reads → EachMoment (disk.tells (kept_disk kept)) new (RecoversFront (kept_history kept) rows) → WasOpened disk rows past new
+was_opened disk kept rows past new same decided sound quiet here moments = record {
+  opened = kept_disk kept;
+  quiet = quiet;
+  recovers = subst (λ (h : List Filing). Recovers (disk.tells (kept_disk kept)).reads h) same (settled_images disk kept decided sound (disk.tells (kept_disk kept)).reads here);
+  moments = subst (λ (h : List Filing). EachMoment (disk.tells (kept_disk kept)) new (RecoversFront h rows)) same moments;
+}

@@ -1,16 +1,10 @@
 -- What a status tells of the stop.
-use Rattle.std.proofs.Common.{◌≡◌, ◌≢◌, ◌⊎◌, inl, inr, ℕ, zero, suc, ◌<◌, ◌≤◌, Result, Ok, Err, IsTrue, ap, refl, sym, ◌∙◌, ◌^◌, arith}
+use Rattle.std.proofs.Common.{◌≡◌, ◌⊎◌, inl, inr, ℕ, zero, suc, ◌<◌, ◌≤◌, Result, Ok, Err, ap, subst, refl, sym, ◌∙◌, arith}
 use Rattle.std.specs.Prelude.{IfErr, IsOk, ◌↔◌}
 use Rattle.aid_edges.specs.Faults.{Rose}
-use Rattle.disk_model.specs.Telling.{Telling}
-use Rattle.filing_journal.specs.Head.{IsBorn, IsForeign}
-use Rattle.filing_journal.specs.Stands.{IsUnborn}
-use Rattle.kept_office.specs.Faulty.{IsFaultyAt}
-use Rattle.aid_office.specs.Words.{IsFile, IsFound}
-use Rattle.aid_office.specs.Ending.{HasReason, is_disk_fault, status_of}
-use Rattle.aid_office.specs.RowStops.{IsOfFile, IsOfFiling, IsOfFounding}
+use Rattle.aid_office.specs.Ending.{status_of}
 use Rattle.aid_office.specs.declared.stop.Stop.{Stop}
-use Rattle.aid_office.specs.declared.stop.Stop.TheVariants.{Usage, Read, Write, DiskFault, NoOffice, NotJournal, Exists, Damaged, TooLong, NoMemory}
+use Rattle.aid_office.specs.declared.stop.Stop.TheVariants.{Write, TooLong, NoMemory}
 
 -- the status of what a run came to, where the sink's count went from one number to the other
 pub record HasStatus {U : Type 0} (ended : Result U Stop) (status old new : ℕ) : Type 0 where
@@ -32,6 +26,19 @@ fault_of stop status old new h = h.fault
 
 pub not_done : {U : Type 0} (u : U) (status old new : ℕ) → HasStatus {U = U} (Ok u) status old new → status ≡ 0
 not_done u status old new h = h.well.1 refl
+
+-- a run that stopped at the limit of its input, or for want of memory
+pub past_status : {U : Type 0} (ended : Result U Stop) (status old new : ℕ) → HasStatus ended status old new → (ended ≡ Err TooLong) ⊎ (ended ≡ Err NoMemory) → (status ≡ 8) ⊎ ((status ≡ 4) ⊎ (status ≡ 9))
+past_status {U} ended status old new h (inl is) = from (subst (λ (e : Result U Stop). IfErr e (λ stop. (status ≡ status_of stop) ⊎ ((status ≡ 4) × Rose old new))) is h.fault)
+  where
+    from : ((status ≡ 8) ⊎ ((status ≡ 4) × Rose old new)) → (status ≡ 8) ⊎ ((status ≡ 4) ⊎ (status ≡ 9))
+    from (inl eight) = inl eight
+    from (inr four) = inr (inl four.0)
+past_status {U} ended status old new h (inr is) = from (subst (λ (e : Result U Stop). IfErr e (λ stop. (status ≡ status_of stop) ⊎ ((status ≡ 4) × Rose old new))) is h.fault)
+  where
+    from : ((status ≡ 9) ⊎ ((status ≡ 4) × Rose old new)) → (status ≡ 8) ⊎ ((status ≡ 4) ⊎ (status ≡ 9))
+    from (inl nine) = inr (inr nine)
+    from (inr four) = inr (inl four.0)
 
 split : (m n : ℕ) → m ≤ n → (m ≡ n) ⊎ (m < n)
 split zero zero le = inl refl

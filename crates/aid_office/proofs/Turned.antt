@@ -1,14 +1,17 @@
 -- What a turn of the kept office makes of a filing.
-use Rattle.std.proofs.Common.{◌≡◌, inl, inr, ℕ, ◌+◌, Bool, true, false, IsTrue, List, ◌∷◌, length, Option, Some, None, Result, Ok, Err, refl, sym, ◌∙◌, ap, subst, if◌then◌else◌}
+use Rattle.std.proofs.Common.{◌≡◌, inl, inr, ℕ, zero, suc, Bool, true, false, IsTrue, List, ◌∷◌, Option, Some, None, Ok, refl, sym, ◌∙◌, ap, subst, if◌then◌else◌}
 use Rattle.aid_types.specs.declared.filing.Filing.{Filing}
 use Rattle.aid_types.specs.declared.reply.Ask.TheVariants.{File}
 use Rattle.aid_types.specs.declared.reply.Reply.{Reply}
-use Rattle.aid_types.specs.declared.reply.Reply.TheVariants.{Accepted, Again, Refused, DiskFault, NoMemory}
-use Rattle.desk_forms.specs.Lines.{HasLine}
-use Rattle.office_history.specs.Answer.{answer_of, is_admit}
+use Rattle.aid_types.specs.declared.reply.Reply.TheVariants.{Quoted, Standing, DiskFault, NoMemory}
+use Rattle.aid_types.specs.declared.reply.Refusal.{Refusal}
+use Rattle.aid_types.specs.declared.reply.StandingRow.{StandingRow}
+use Rattle.aid_types.specs.declared.reply.Verdict.TheVariants as verdicts
+use Rattle.office_history.specs.Past.{filing_at, key_at}
+use Rattle.office_history.specs.Answer.{answer_at, answer_new, answer_of, breaks, is_admit, judged}
 use Rattle.kept_office.specs.Recovers.{Recovers, RecoversEither}
-use Rattle.kept_office.specs.Turns.{Answers, MayRecover, Turns}
-use Rattle.aid_office.specs.FileText.{after_row, reply_of}
+use Rattle.kept_office.specs.Turns.{MayRecover, Turns}
+use Rattle.aid_office.specs.FileText.{after_row}
 use Rattle.aid_office.specs.RowStops.{StopsRow}
 use Rattle.aid_office.specs.declared.stop.Stop.TheVariants as stops
 
@@ -19,43 +22,6 @@ if_true false x y is = absurd (let bad : ⊥ = cc in bad)
 
 admitted_row : (past : List Filing) (f : Filing) → IsTrue (is_admit (answer_of past f)) → after_row past (Ok f) ≡ f ∷ past
 admitted_row past f is = if_true (is_admit (answer_of past f)) (f ∷ past) past is
-
--- what a reply with a line says of the office
-pub record IsReplied (past : List Filing) (f : Filing) (reply : Reply) (past' : List Filing) (pending : Option Filing) : Type 0 where
-  pub says : reply ≡ reply_of (length past) (answer_of past f)
-  pub filed : past' ≡ after_row past (Ok f)
-  pub decided : pending ≡ None
-
-answered : (past : List Filing) (f : Filing) (reply : Reply) (past' : List Filing) (pending : Option Filing) → HasLine reply → Answers past (File f) reply past' pending → IsReplied past f reply past' pending
-answered past f (Accepted position front outcome) past' pending line a = record {
-  says = ap (λ n. Accepted n front outcome) a.next ∙ ap (λ n. Accepted (n + 1) n outcome) a.seen ∙ sym (ap (reply_of (length past)) a.answer);
-  filed = a.list ∙ sym (ap (λ v. if is_admit v then f ∷ past else past) a.answer);
-  decided = a.decided;
-}
-answered past f (Again position front outcome) past' pending line a = record {
-  says = ap (λ n. Again position n outcome) a.seen ∙ sym (ap (reply_of (length past)) a.answer);
-  filed = a.list ∙ sym (ap (λ v. if is_admit v then f ∷ past else past) a.answer);
-  decided = a.decided;
-}
-answered past f (Refused refusal front) past' pending line a = record {
-  says = ap (λ n. Refused refusal n) a.seen ∙ sym (ap (reply_of (length past)) a.answer);
-  filed = a.list ∙ sym (ap (λ v. if is_admit v then f ∷ past else past) a.answer);
-  decided = a.decided;
-}
-answered past f (DiskFault undecided) past' pending line a = absurd line
-answered past f NoMemory past' pending line a = absurd line
-
-decided_turn : (past : List Filing) (f : Filing) (reply : Reply) (past' : List Filing) (pending : Option Filing) → HasLine reply → Turns past None (File f) reply past' pending → Answers past (File f) reply past' pending
-decided_turn past f (Accepted position front outcome) past' pending line t = t
-decided_turn past f (Again position front outcome) past' pending line t = t
-decided_turn past f (Refused refusal front) past' pending line t = t
-decided_turn past f (DiskFault undecided) past' pending line t = absurd line
-decided_turn past f NoMemory past' pending line t = absurd line
-
--- a turn with nothing undecided, by its reply
-pub replied : (past : List Filing) (was : Option Filing) (f : Filing) (reply : Reply) (past' : List Filing) (pending : Option Filing) → was ≡ None → HasLine reply → Turns past was (File f) reply past' pending → IsReplied past f reply past' pending
-replied past was f reply past' pending is line t =
-    answered past f reply past' pending line (decided_turn past f reply past' pending line (subst (λ (w : Option Filing). Turns past w (File f) reply past' pending) is t))
 
 fault : (past : List Filing) (f : Filing) (undecided : Option ℕ) (past' : List Filing) (pending : Option Filing) → Turns past None (File f) (DiskFault undecided) past' pending → StopsRow (stops.DiskFault undecided) past (Ok f) past' pending
 fault past f None past' pending t = record { list = t.list; decided = t.decided }
@@ -82,3 +48,27 @@ turn_either past was f file is may = from (subst (λ (w : Option Filing). MayRec
     from (inl r) = inl r
     from (inr (inl r)) = inl r
     from (inr (inr (admitted, r))) = inr (subst (λ (h : List Filing). Recovers file h) (sym (admitted_row past f admitted)) r)
+
+-- a filing isn't answered by a quote, nor by a standing
+not_quoted : (past : List Filing) (f : Filing) (r : Option Refusal) (k p cents : ℕ) → breaks past f ≡ r → answer_at past f p ≡ verdicts.Quoted cents → k ≡ key_at f.key past → ⊥
+not_quoted past f r k (suc p) cents e h i = cc
+not_quoted past f r (suc k) zero cents e h i = let same : answer_new past f (suc k) ≡ verdicts.Quoted cents = ap (answer_new past f) i ∙ h in cc
+not_quoted past f (Some r) zero zero cents e h i = let same : judged past f (Some r) ≡ verdicts.Quoted cents = sym (ap (judged past f) e) ∙ ap (answer_new past f) i ∙ h in cc
+not_quoted past f None zero zero cents e h i = let same : judged past f None ≡ verdicts.Quoted cents = sym (ap (judged past f) e) ∙ ap (answer_new past f) i ∙ h in cc
+
+not_standing : (past : List Filing) (f : Filing) (r : Option Refusal) (k p : ℕ) (row : StandingRow) → breaks past f ≡ r → answer_at past f p ≡ verdicts.Standing row → k ≡ key_at f.key past → ⊥
+not_standing past f r k (suc p) row e h i = cc
+not_standing past f r (suc k) zero row e h i = let same : answer_new past f (suc k) ≡ verdicts.Standing row = ap (answer_new past f) i ∙ h in cc
+not_standing past f (Some r) zero zero row e h i = let same : judged past f (Some r) ≡ verdicts.Standing row = sym (ap (judged past f) e) ∙ ap (answer_new past f) i ∙ h in cc
+not_standing past f None zero zero row e h i = let same : judged past f None ≡ verdicts.Standing row = sym (ap (judged past f) e) ∙ ap (answer_new past f) i ∙ h in cc
+
+-- so a turn's reply to a filing is neither
+pub quoted_never : (past : List Filing) (was : Option Filing) (f : Filing) (reply : Reply) (cents front : ℕ) (past' : List Filing) (pending : Option Filing) → was ≡ None → reply ≡ Quoted cents front → Turns past was (File f) reply past' pending → ⊥
+quoted_never past was f reply cents front past' pending is quoted t =
+    let said = subst (λ (r : Reply). Turns past None (File f) r past' pending) quoted (subst (λ (w : Option Filing). Turns past w (File f) reply past' pending) is t) in
+    not_quoted past f (breaks past f) (key_at f.key past) (filing_at f past) cents refl said.answer refl
+
+pub standing_never : (past : List Filing) (was : Option Filing) (f : Filing) (reply : Reply) (row : StandingRow) (front : ℕ) (past' : List Filing) (pending : Option Filing) → was ≡ None → reply ≡ Standing row front → Turns past was (File f) reply past' pending → ⊥
+standing_never past was f reply row front past' pending is stands t =
+    let said = subst (λ (r : Reply). Turns past None (File f) r past' pending) stands (subst (λ (w : Option Filing). Turns past w (File f) reply past' pending) is t) in
+    not_standing past f (breaks past f) (key_at f.key past) (filing_at f past) row refl said.answer refl

@@ -1,15 +1,16 @@
 -- How far a run has come that ended early. Own.
-use Rattle.std.specs.Prelude.{◌≡◌, ◌+◌, ◌++◌, ℕ, Bool, true, false, IsTrue, List, [], codes, decimal, drop, length, take, Option, Some, None, Result}
+use Rattle.std.specs.Prelude.{◌≡◌, ◌⊎◌, ◌+◌, ◌++◌, ℕ, Bool, true, false, IsTrue, List, [], codes, decimal, drop, length, take, Some, None, Result}
 use Rattle.aid_types.specs.declared.filing.Filing.{Filing}
 use Rattle.desk_forms.specs.declared.error.RowError.{RowError}
 use Rattle.aid_edges.specs.Whole.{IsCutShort}
-use Rattle.disk_model.specs.Telling.{EachImage, IsRead, Telling}
+use Rattle.disk_model.specs.Telling.{EachImage, EachMoment, IsQuiet, IsRead, Telling}
+use Rattle.disk_model.specs.declared.disk.Disk.{Ghosts}
 use Rattle.filing_journal.specs.Head.{IsBorn, IsForeign}
 use Rattle.filing_journal.specs.Stands.{IsUnborn}
 use Rattle.kept_office.specs.Recovers.{Recovers, RecoversEither}
 use Rattle.kept_office.specs.Faulty.{IsFaultyAt}
 use Rattle.aid_office.specs.FileText.{file_text, history_after}
-use Rattle.aid_office.specs.Words.{IsFile, IsFound}
+use Rattle.aid_office.specs.Words.{IsFile, IsFound, IsRow}
 use Rattle.aid_office.specs.declared.stop.Stop.{Stop}
 use Rattle.aid_office.specs.declared.stop.Stop.TheVariants.{Usage, Read, Write, DiskFault, NoOffice, NotJournal, Exists, Damaged, TooLong, NoMemory}
 
@@ -66,19 +67,30 @@ is_disk_fault (Damaged place) = false
 is_disk_fault TooLong = false
 is_disk_fault NoMemory = false
 
--- what the journal's file shows, where its bytes are the reason
+-- the command can work in a file with these bytes: `file` in one that recovers a history, `found` in an unborn one
+abbrev pub Suits : List (List ℕ) → List ℕ → Type 0
+Suits words file = (IsFile words × ((past : List Filing) × Recovers file past)) ⊎ (IsFound words × IsUnborn file)
+
+-- what the words and the bytes of the journal's file show, at each stop
 abbrev pub FileShows : Stop → List (List ℕ) → List ℕ → Type 0
+FileShows Usage words file = IsRow words → ⊥
+FileShows Read words file = IsFile words
+FileShows TooLong words file = IsFile words
+FileShows Write words file = Suits words file
+FileShows (DiskFault (Some position)) words file = IsFile words × ((past : List Filing) × Recovers file past)
 FileShows NoOffice words file = IsFile words × IsUnborn file
 FileShows NotJournal words file = IsForeign file
 FileShows Exists words file = IsFound words × IsBorn file
-FileShows (Damaged place) words file = IsFile words × IsFaultyAt file place
+FileShows (Damaged place) words file = IsFile words × (IsBorn file × IsFaultyAt file place)
 FileShows other words file = Unit {0}
 
--- a stop has its reason, and where it comes early nothing was written, to the disk or to the text
+-- A stop has its reason. Where it comes early, or the command can't work in the file, nothing was written, to the disk
+-- or to the text.
 pub record HasReason (stop : Stop) (words : List (List ℕ)) (old new : Telling) (text text' : List ℕ) : Type 0 where
   pub reason : FileShows stop words old.reads
   pub unwritten : IsTrue (is_early stop) → text' ≡ text
   pub unfiled : IsTrue (is_early stop) → IsRead old new
+  pub untouched : (Suits words old.reads → ⊥) → (text' ≡ text) × IsRead old new
 
 -- nothing was filed and nothing was written
 pub record IsUnbegun (past : List Filing) (told : Telling) (text text' : List ℕ) : Type 0 where
@@ -130,3 +142,31 @@ pub data HasStopped (status : ℕ) (Stood : Stop → List ℕ → Type 0) (text 
 -- the file recovers the history with the filings of the first rows, of some number of them
 abbrev pub RecoversFront : List Filing → List (Result Filing RowError) → List ℕ → Type 0
 RecoversFront past rows file = (k : ℕ) × Recovers file (history_after past (take k rows))
+
+-- At some moment of a run the disk held this history, and no other image. At every moment from that one on each image
+-- recovers it with the filings of the first rows, of some number of them.
+pub record WasOpened {D : Type 0} (disk : Ghosts D) (rows : List (Result Filing RowError)) (past : List Filing) (new : Telling) : Type 0 where
+  pub opened : D
+  pub quiet : IsQuiet (disk.tells opened)
+  pub recovers : Recovers (disk.tells opened).reads past
+  pub moments : EachMoment (disk.tells opened) new (RecoversFront past rows)
+
+-- a stop that may come before the journal is open, where its file recovers a history
+abbrev pub MayBeUnopened : Stop → Type 0
+MayBeUnopened Read = Unit {0}
+MayBeUnopened TooLong = Unit {0}
+MayBeUnopened (DiskFault None) = Unit {0}
+MayBeUnopened NoMemory = Unit {0}
+MayBeUnopened other = ⊥
+
+-- the journal wasn't opened: no line was written, and the disk was only read, unless it failed
+pub record IsUnopened (stop : Stop) (old new : Telling) (text text' : List ℕ) : Type 0 where
+  pub early : MayBeUnopened stop
+  pub written : text' ≡ text
+  pub unfiled : (stop ≡ DiskFault None → ⊥) → IsRead old new
+
+-- What stands where a run of `file` stopped over a file that recovers this history, before its last line, whatever a
+-- crash before the run could have left: the journal wasn't opened, or it was.
+abbrev pub IsStoppedOver : {D : Type 0} (disk : Ghosts D) → Stop → List (Result Filing RowError) → List Filing → D → D → List ℕ → List ℕ → Type 0
+IsStoppedOver disk stop rows past old new text text' = IsUnopened stop (disk.tells old) (disk.tells new) text text'
+    ⊎ (WasOpened disk rows past (disk.tells new) × IsStopped stop rows past (disk.tells new) text text')

@@ -4,7 +4,7 @@ use Rattle.aid_types.specs.declared.filing.Filing.{Filing}
 use Rattle.aid_types.specs.declared.reply.Reply.{Reply}
 use Rattle.aid_types.specs.declared.reply.Reply.TheVariants as replies
 use Rattle.aid_types.specs.declared.reply.Verdict.{Verdict}
-use Rattle.aid_types.specs.declared.reply.Verdict.TheVariants.{Again, Refused, Admit}
+use Rattle.aid_types.specs.declared.reply.Verdict.TheVariants.{Again, Refused, Admit, Quoted, Standing}
 use Rattle.office_history.specs.Answer.{answer_of, is_admit}
 use Rattle.desk_forms.specs.declared.error.RowError.{RowError}
 use Rattle.desk_forms.specs.Lines.{error_line, line_of}
@@ -14,6 +14,8 @@ abbrev pub reply_of : ℕ → Verdict → Reply
 reply_of front (Again position outcome) = replies.Again position front outcome
 reply_of front (Refused refusal) = replies.Refused refusal front
 reply_of front (Admit outcome) = replies.Accepted (front + 1) front outcome
+reply_of front (Quoted cents) = replies.Quoted cents front
+reply_of front (Standing row) = replies.Standing row front
 
 -- the line that answers a row, by its number and the history before it
 abbrev pub row_line : List Filing → ℕ → Result Filing RowError → List ℕ

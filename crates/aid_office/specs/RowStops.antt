@@ -4,7 +4,7 @@ use Rattle.aid_types.specs.declared.filing.Filing.{Filing}
 use Rattle.desk_forms.specs.declared.error.RowError.{RowError}
 use Rattle.aid_office.specs.FileText.{after_row}
 use Rattle.aid_office.specs.declared.stop.Stop.{Stop}
-use Rattle.aid_office.specs.declared.stop.Stop.TheVariants.{Usage, Read, Write, DiskFault, NoOffice, NotJournal, Exists, Damaged, TooLong, NoMemory}
+use Rattle.aid_office.specs.declared.stop.Stop.TheVariants.{Usage, Read, Write, DiskFault, NoOffice, Exists, Damaged, TooLong, NoMemory}
 
 -- the history is as it was, and nothing is undecided
 pub record IsSame (past past' : List Filing) (pending : Option Filing) : Type 0 where

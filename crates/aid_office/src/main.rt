@@ -9,7 +9,7 @@ mod tests;
 
 use aid_edges::{ReadEdge, WriteEdge};
 use disk_model::HostDisk;
-use session::run;
+use session::{end, run};
 use std::fs::{File, OpenOptions};
 use std::io::ErrorKind;
 use std::process::ExitCode;
@@ -33,13 +33,14 @@ fn open(rt: &HostRuntime, path: &str) -> io::Result<File> {
 }
 
 fn main(rt: HostRuntime) -> ExitCode {
+    let mut out = WriteEdge::new(rt.stdout());
     let mut words = match words_of(&rt) {
         Ok(words) => words,
         Err(error) if error.kind() == ErrorKind::OutOfMemory => {
-            return ExitCode::from(Stop::NoMemory.status());
+            return ExitCode::from(end(Err(Stop::NoMemory), &mut out));
         }
         // A word that is no text is no row of words.
-        Err(_) => return ExitCode::from(Stop::Usage.status()),
+        Err(_) => return ExitCode::from(end(Err(Stop::Usage), &mut out)),
     };
     if words.is_empty() {
         return ExitCode::from(Stop::Usage.status());
@@ -49,7 +50,6 @@ fn main(rt: HostRuntime) -> ExitCode {
         return ExitCode::from(Stop::DiskFault { undecided: None }.status());
     };
     let mut input = ReadEdge::new(rt.stdin());
-    let mut out = WriteEdge::new(rt.stdout());
     let disk = HostDisk::new(file);
     let (status, _) = run(rt.alloc(), &words, disk, &mut input, &mut out);
     ExitCode::from(status)

@@ -1,7 +1,7 @@
 //! A run of the program: its words, its input, its journal, what it writes, and its status.
-ghost use Rattle.std.specs.Prelude.{◌≡◌, ◌≢◌, ◌⊎◌, ◌≤◌, ◌+◌, ◌++◌, ◌↔◌, ◌∷◌, ◌^◌, ◌<◌, [], ℕ, List, Ok, Err, IsOk, IsTrue, IfOk, IfErr, OnOk, codes, length, map, string_bytes};
+ghost use Rattle.std.specs.Prelude.{◌≡◌, ◌≢◌, ◌⊎◌, ◌≤◌, ◌+◌, ◌++◌, ◌↔◌, ◌∷◌, ◌^◌, ◌<◌, [], ℕ, List, All, Ok, Err, IsOk, IsTrue, IfOk, IfErr, OnOk, codes, length, map, string_bytes};
 ghost use Rattle.aid_types.specs.declared.filing.Filing.{Filing};
-ghost use Rattle.desk_forms.specs.Rows.{rows_of_text};
+ghost use Rattle.desk_forms.specs.Rows.{HasFields, rows_of_text};
 ghost use Rattle.aid_edges.specs.Faults.{Rose};
 ghost use Rattle.disk_model.specs.Telling.{EachImage, EachMoment, IsHonest};
 ghost use Rattle.filing_journal.specs.Founded.{UnbornOrEmpty};
@@ -11,7 +11,7 @@ ghost use Rattle.kept_office.specs.Faulty.{IsFaultyAt};
 ghost use Rattle.kept_office.specs.Recovers.{Recovers};
 ghost use Rattle.aid_office.specs.Words.{IsFile, IsFound, IsRow};
 ghost use Rattle.aid_office.specs.FileText.{file_text, history_after};
-ghost use Rattle.aid_office.specs.Ending.{HasReason, HasStopped, IsFoundStopped, IsStopped, RecoversFront, fault_line, is_disk_fault, status_of};
+ghost use Rattle.aid_office.specs.Ending.{HasReason, HasStopped, IsFoundStopped, IsStopped, IsStoppedOver, RecoversFront, WasOpened, fault_line, is_disk_fault, status_of};
 ghost use Rattle.aid_edges.specs.Whole.{IsCutShort};
 ghost use Rattle.aid_office.specs.RowStops.{IsOfFile, IsOfFiling, IsOfFounding};
 ghost use Rattle.aid_office.specs.declared.stop.Stop.{Stop};
@@ -48,10 +48,13 @@ fn are_word(words: &[String], word: &str) -> bool
 fn read_rows<S: Source>(alloc: Global, input: &mut S) -> Result<Rows, Stop>
     ensures rows { IsTrue (S.honest input.old) → IfOk result (λ rows. rows ≡ rows_of_text (S.left input.old)) }
     ensures few { IfOk result (λ rows. length rows ≤ INPUT_LIMIT + 1) }
+    ensures have_fields { IfOk result (λ rows. All HasFields rows) }
     ensures whole { IsTrue (S.honest input.old)
         → OnOk result ((length (S.left input.old) ≤ INPUT_LIMIT) × (S.left input.new ≡ [])) }
     ensures too_long { IsTrue (S.honest input.old) → result ≡ Err Stop.TooLong
         → length (S.left input.old) ≡ INPUT_LIMIT + 1 + length (S.left input.new) }
+    ensures past_limit { IsTrue (S.honest input.old) → INPUT_LIMIT + length (S.left input.new) < length (S.left input.old)
+        → (result ≡ Err Stop.TooLong) ⊎ (result ≡ Err Stop.NoMemory) }
     ensures causes { IfErr result (λ stop. (stop ≡ Stop.Read) ⊎ (stop ≡ Stop.TooLong) ⊎ (stop ≡ Stop.NoMemory)) }
     ensures cause { result ≡ Err Stop.Read → Rose (S.faults input.old) (S.faults input.new) }
     ensures later { S.faults input.old ≤ S.faults input.new }
@@ -80,9 +83,11 @@ fn found_office<D: Disk, K: Sink>(alloc: Global, disk: D, out: &mut K) -> (Resul
         → IfErr result.0 (λ stop. HasReason stop words (D.tells disk) (D.tells result.1) (K.text out.old) (K.text out.new)) }
     ensures moments { IsHonest (D.tells disk) → EachImage (D.tells disk) UnbornOrEmpty
         → EachMoment (D.tells disk) (D.tells result.1) UnbornOrEmpty }
+    ensures no_memory { result.0 ≡ Err Stop.NoMemory → result.1 ≡ disk }
     ensures causes { IfErr result.0 IsOfFounding }
     ensures write_fault { result.0 ≡ Err Stop.Write → Rose (K.faults out.old) (K.faults out.new) }
     ensures disk_fault { IfErr result.0 (λ stop. IsTrue (is_disk_fault stop) → Rose (D.faults disk) (D.faults result.1)) }
+    ensures disk_later { D.faults disk ≤ D.faults result.1 }
     ensures sink_later { K.faults out.old ≤ K.faults out.new }
     ensures disk_honest { (D.tells result.1).honest ≡ (D.tells disk).honest }
     ensures sink_honest { K.honest out.new ≡ K.honest out.old }
@@ -107,6 +112,7 @@ fn file_journal<D: Disk, K: Sink>(
     out: &mut K,
 ) -> (Result<(), Stop>, D)
     requires few { length rows < 2 ^ 32 }
+    requires have_fields { All HasFields rows }
     ensures recovered { IsHonest (D.tells disk) → OnOk result.0 ((past : List Filing) × Recovers (D.tells disk).reads past) }
     ensures answered { IsHonest (D.tells disk) → IsTrue (K.honest out.old) → (past : List Filing) → Recovers (D.tells disk).reads past
         → OnOk result.0 (K.text out.new ≡ K.text out.old ++ file_text past 1 rows) }
@@ -119,9 +125,14 @@ fn file_journal<D: Disk, K: Sink>(
         → IfErr result.0 (λ stop. HasReason stop words (D.tells disk) (D.tells result.1) (K.text out.old) (K.text out.new)) }
     ensures moments { IsHonest (D.tells disk) → (past : List Filing) → EachImage (D.tells disk) (λ file. Recovers file past)
         → EachMoment (D.tells disk) (D.tells result.1) (RecoversFront past rows) }
+    ensures opened { IsHonest (D.tells disk) → (past : List Filing) → Recovers (D.tells disk).reads past
+        → OnOk result.0 (WasOpened D.Disk rows past (D.tells result.1)) }
+    ensures stopped_over { IsHonest (D.tells disk) → IsTrue (K.honest out.old) → (past : List Filing) → Recovers (D.tells disk).reads past
+        → IfErr result.0 (λ stop. IsStoppedOver D.Disk stop rows past disk result.1 (K.text out.old) (K.text out.new)) }
     ensures causes { IfErr result.0 IsOfFiling }
     ensures write_fault { result.0 ≡ Err Stop.Write → Rose (K.faults out.old) (K.faults out.new) }
     ensures disk_fault { IfErr result.0 (λ stop. IsTrue (is_disk_fault stop) → Rose (D.faults disk) (D.faults result.1)) }
+    ensures disk_later { D.faults disk ≤ D.faults result.1 }
     ensures sink_later { K.faults out.old ≤ K.faults out.new }
     ensures disk_honest { (D.tells result.1).honest ≡ (D.tells disk).honest }
     ensures sink_honest { K.honest out.new ≡ K.honest out.old }
@@ -160,12 +171,20 @@ fn file_input<D: Disk, S: Source, K: Sink>(
     ensures moments { IsHonest (D.tells disk) → IsTrue (S.honest input.old)
         → (past : List Filing) → EachImage (D.tells disk) (λ file. Recovers file past)
         → EachMoment (D.tells disk) (D.tells result.1) (RecoversFront past (rows_of_text (S.left input.old))) }
+    ensures opened { IsHonest (D.tells disk) → IsTrue (S.honest input.old) → (past : List Filing) → Recovers (D.tells disk).reads past
+        → OnOk result.0 (WasOpened D.Disk (rows_of_text (S.left input.old)) past (D.tells result.1)) }
+    ensures stopped_over { IsHonest (D.tells disk) → IsTrue (S.honest input.old) → IsTrue (K.honest out.old)
+        → (past : List Filing) → Recovers (D.tells disk).reads past
+        → IfErr result.0 (λ stop. IsStoppedOver D.Disk stop (rows_of_text (S.left input.old)) past disk result.1 (K.text out.old) (K.text out.new)) }
     ensures too_long { IsTrue (S.honest input.old) → result.0 ≡ Err Stop.TooLong
         → length (S.left input.old) ≡ INPUT_LIMIT + 1 + length (S.left input.new) }
+    ensures past_limit { IsTrue (S.honest input.old) → INPUT_LIMIT + length (S.left input.new) < length (S.left input.old)
+        → ((result.0 ≡ Err Stop.TooLong) ⊎ (result.0 ≡ Err Stop.NoMemory)) × (result.1 ≡ disk) }
     ensures causes { IfErr result.0 IsOfFile }
     ensures read_fault { result.0 ≡ Err Stop.Read → Rose (S.faults input.old) (S.faults input.new) }
     ensures write_fault { result.0 ≡ Err Stop.Write → Rose (K.faults out.old) (K.faults out.new) }
     ensures disk_fault { IfErr result.0 (λ stop. IsTrue (is_disk_fault stop) → Rose (D.faults disk) (D.faults result.1)) }
+    ensures disk_later { D.faults disk ≤ D.faults result.1 }
     ensures source_later { S.faults input.old ≤ S.faults input.new }
     ensures sink_later { K.faults out.old ≤ K.faults out.new }
     ensures source_honest { S.honest input.new ≡ S.honest input.old }
@@ -178,8 +197,8 @@ fn file_input<D: Disk, S: Source, K: Sink>(
     }
 }
 
-// Writes the last line of a run, and gives its status.
-fn end<K: Sink>(ended: Result<(), Stop>, out: &mut K) -> u8
+/// Writes the last line of a run, and gives its status: that of a failed write where the line can't be written whole.
+pub fn end<K: Sink>(ended: Result<(), Stop>, out: &mut K) -> u8
     ensures well { (result ≡ 0) ↔ IsOk ended }
     ensures well_written { IsOk ended → out.new ≡ out.old }
     ensures stopped { IsTrue (K.honest out.old) → IfErr ended (λ stop. ((result ≡ status_of stop) × (K.text out.new ≡ K.text out.old ++ fault_line stop))
@@ -226,8 +245,14 @@ pub fn run<D: Disk, S: Source, K: Sink>(
     ensures too_long { IsTrue (S.honest input.old) → result.0 ≡ 8
         → length (S.left input.old) ≡ INPUT_LIMIT + 1 + length (S.left input.new) }
 
+    // Where one byte past the limit was read, the status is 8, but for 4 where the line can't be written and 9 where there
+    // was no memory, and the disk is as it was.
+    ensures past_limit { IsTrue (S.honest input.old) → INPUT_LIMIT + length (S.left input.new) < length (S.left input.old)
+        → ((result.0 ≡ 8) ⊎ (result.0 ≡ 4) ⊎ (result.0 ≡ 9)) × (result.1 ≡ disk) }
+
     // At 6 and 7 the file's bytes are the reason. At these and at 2, 3 and 8 the text is the fault's line alone, and
-    // nothing was written to the disk. The same holds at 4 where such a line couldn't be written.
+    // nothing was written to the disk. The same holds at 4 where such a line couldn't be written, and at every status where
+    // the command can't work in the file: no history is recovered for `file`, or the file isn't unborn for `found`.
     ensures reason { IsHonest (D.tells disk) → IsTrue (K.honest out.old) → result.0 ≢ 0
         → HasStopped result.0 (λ stop before. HasReason stop (map string_bytes words.now.items) (D.tells disk) (D.tells result.1) (K.text out.old) before) (K.text out.new) }
 
@@ -256,14 +281,26 @@ pub fn run<D: Disk, S: Source, K: Sink>(
         → EachImage (D.tells result.1) (λ file. Recovers file (history_after past (rows_of_text (S.left input.old)))) }
 
     // `file` at another status: the text is that of the rows answered, and a line that may be cut short where a write
-    // failed. Each image holds the filings of these rows, and at most that of the next besides.
+    // failed. Each image holds the filings of these rows, and at most that of the next besides. A stop by the disk, after
+    // which one filing may be undecided, comes only where the disk's count rose, also where its line is cut short.
     ensures stopped { IsFile (map string_bytes words.now.items) → IsHonest (D.tells disk) → IsTrue (S.honest input.old)
         → IsTrue (K.honest out.old) → result.0 ≢ 0 → (past : List Filing) → EachImage (D.tells disk) (λ file. Recovers file past)
-        → HasStopped result.0 (λ stop before. IsStopped stop (rows_of_text (S.left input.old)) past (D.tells result.1) (K.text out.old) before) (K.text out.new) }
+        → HasStopped result.0 (λ stop before. IsStopped stop (rows_of_text (S.left input.old)) past (D.tells result.1) (K.text out.old) before
+        × (IsTrue (is_disk_fault stop) → Rose (D.faults disk) (D.faults result.1))) (K.text out.new) }
     // At every moment each image recovers the history with the filings of the first rows, of some number of them.
     ensures moments { IsFile (map string_bytes words.now.items) → IsHonest (D.tells disk) → IsTrue (S.honest input.old)
         → (past : List Filing) → EachImage (D.tells disk) (λ file. Recovers file past)
         → EachMoment (D.tells disk) (D.tells result.1) (RecoversFront past (rows_of_text (S.left input.old))) }
+
+    // The same from the opening of the journal on, where only what the disk reads as recovers a history, as a program that
+    // was killed may leave it.
+    ensures opened { IsFile (map string_bytes words.now.items) → IsHonest (D.tells disk) → IsTrue (S.honest input.old)
+        → result.0 ≡ 0 → (past : List Filing) → Recovers (D.tells disk).reads past
+        → WasOpened D.Disk (rows_of_text (S.left input.old)) past (D.tells result.1) }
+    ensures stopped_over { IsFile (map string_bytes words.now.items) → IsHonest (D.tells disk) → IsTrue (S.honest input.old)
+        → IsTrue (K.honest out.old) → result.0 ≢ 0 → (past : List Filing) → Recovers (D.tells disk).reads past
+        → HasStopped result.0 (λ stop before. IsStoppedOver D.Disk stop (rows_of_text (S.left input.old)) past disk result.1 (K.text out.old) before
+        × (IsTrue (is_disk_fault stop) → Rose (D.faults disk) (D.faults result.1))) (K.text out.new) }
 
     // `found` at 0, at another status, and at every moment.
     ensures unborn { IsFound (map string_bytes words.now.items) → IsHonest (D.tells disk) → result.0 ≡ 0 → IsUnborn (D.tells disk).reads }
@@ -272,12 +309,15 @@ pub fn run<D: Disk, S: Source, K: Sink>(
     ensures founded { IsFound (map string_bytes words.now.items) → IsTrue (K.honest out.old) → result.0 ≡ 0
         → K.text out.new ≡ K.text out.old ++ codes "founded\n" }
     ensures unfounded { IsFound (map string_bytes words.now.items) → IsHonest (D.tells disk) → IsTrue (K.honest out.old) → result.0 ≢ 0
-        → HasStopped result.0 (λ stop before. IsFoundStopped stop (D.tells result.1) (K.text out.old) before) (K.text out.new) }
+        → HasStopped result.0 (λ stop before. IsFoundStopped stop (D.tells result.1) (K.text out.old) before
+        × (IsTrue (is_disk_fault stop) → Rose (D.faults disk) (D.faults result.1))) (K.text out.new) }
+    ensures no_memory { IsFound (map string_bytes words.now.items) → result.0 ≡ 9 → result.1 ≡ disk }
     ensures founding_moments { IsFound (map string_bytes words.now.items) → IsHonest (D.tells disk) → EachImage (D.tells disk) UnbornOrEmpty
         → EachMoment (D.tells disk) (D.tells result.1) UnbornOrEmpty }
 
     ensures source_later { S.faults input.old ≤ S.faults input.new }
     ensures sink_later { K.faults out.old ≤ K.faults out.new }
+    ensures disk_later { D.faults disk ≤ D.faults result.1 }
     ensures source_honest { S.honest input.new ≡ S.honest input.old }
     ensures sink_honest { K.honest out.new ≡ K.honest out.old }
     ensures disk_honest { (D.tells result.1).honest ≡ (D.tells disk).honest }

@@ -1,8 +1,8 @@
 // What no clause says: worked texts and files, that memory suffices for them, and what each fault leaves.
-use crate::session::run;
+use crate::session::{INPUT_LIMIT, run};
 use aid_edges::{MemorySink, SteadySource};
 use disk_model::{Fill, MemoryDisk, Stop};
-use std::alloc::Global;
+use std::alloc::{AllocError, Global};
 use std::test::Fail;
 
 const FIRST: &[u8] = b"school,0,1,110,2,12\nprior,0,2,5001,550000\n";
@@ -171,6 +171,35 @@ fn write_faults_end_a_run(rt: HostRuntime) -> Result<(), Fail> {
         assert_eq!(rt; status, 4, "{word} {call}");
         assert_eq!(rt; sink.text(), text, "{word} {call}");
         assert_eq!(rt; after.image().len(), size, "{word} {call}");
+    }
+    Ok(())
+}
+
+// An input of one field.
+fn long_input(alloc: Global, length: usize) -> Result<Vec<u8>, AllocError> {
+    vec![in alloc; b'x'; length]
+}
+
+// One byte past the limit is too long.
+#[test]
+fn inputs_have_a_limit(rt: HostRuntime) -> Result<(), Fail> {
+    let alloc = rt.alloc();
+    let rows: [(usize, u8, &[u8]); 2] = [
+        (INPUT_LIMIT, 0, b"1 error 1 1\n"),
+        (INPUT_LIMIT + 1, 8, b"fault too long\n"),
+    ];
+    for (length, want, text) in rows {
+        let input = long_input(alloc, length)?;
+        let (status, sink, after) = ran(
+            alloc,
+            "file",
+            &input,
+            disk(alloc, EMPTY, &[], None)?,
+            &[],
+        )?;
+        assert_eq!(rt; status, want, "{length}");
+        assert_eq!(rt; sink.text(), text, "{length}");
+        assert_eq!(rt; after.image(), EMPTY, "{length}");
     }
     Ok(())
 }

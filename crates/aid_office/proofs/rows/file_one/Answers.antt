@@ -1,4 +1,3 @@
-use Rattle.disk_model.specs.Telling.{EachMoment}
 use Rattle.disk_model.proofs.Moments.{weaken}
 use Rattle.kept_office.specs.Kept.{kept_disk, kept_history, kept_pending}
 use Rattle.kept_office.specs.Recovers.{RecoversEither}
@@ -7,7 +6,7 @@ use Rattle.aid_types.specs.declared.reply.Ask.TheVariants.{File}
 use Rattle.std.proofs.Common.{inl, Ok}
 use Rattle.aid_office.specs.FileText.{after_row}
 use Rattle.aid_office.proofs.Standing.{standing}
-use Rattle.aid_office.proofs.Turned.{faulted, replied, starved, turn_either}
+use Rattle.aid_office.proofs.Turned.{faulted, quoted_never, standing_never, starved, turn_either}
 use Rattle.aid_office.proofs.rows.file_one.Goals as goal
 
 pub returns-in-DiskFault-clause-stops : goal.returns-in-DiskFault-clause-stops
@@ -36,3 +35,13 @@ pub returns-clause-moments : goal.returns-clause-moments
 returns-clause-moments g c honest =
     weaken (g.D.Disk.tells (kept_disk c.args.kept.now)) (g.D.Disk.tells (kept_disk c.turn-reply.new.self)) (MayRecover (kept_history c.args.kept.now) (kept_pending c.args.kept.now) (File c.args.filing)) (RecoversEither (kept_history c.args.kept.now) (after_row (kept_history c.args.kept.now) (Ok c.args.filing)))
     (λ file may. turn_either (kept_history c.args.kept.now) (kept_pending c.args.kept.now) c.args.filing file c.requires.decided may) (c.turn-reply.ensures.moments honest)
+
+pub unreachable-requires : goal.unreachable-requires
+unreachable-requires g c =
+    absurd (quoted_never (kept_history c.args.kept.now) (kept_pending c.args.kept.now) c.args.filing c.turn-reply.result c.in-Quoted.cents c.in-Quoted.front
+    (kept_history c.turn-reply.new.self) (kept_pending c.turn-reply.new.self) c.requires.decided c.in-Quoted.is c.turn-reply.ensures.turn)
+
+pub unreachable-requires-in-Standing : goal.unreachable-requires-in-Standing
+unreachable-requires-in-Standing g c =
+    absurd (standing_never (kept_history c.args.kept.now) (kept_pending c.args.kept.now) c.args.filing c.turn-reply.result c.in-Standing.row c.in-Standing.front
+    (kept_history c.turn-reply.new.self) (kept_pending c.turn-reply.new.self) c.requires.decided c.in-Standing.is c.turn-reply.ensures.turn)

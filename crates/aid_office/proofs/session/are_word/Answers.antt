@@ -1,4 +1,4 @@
-use Rattle.std.proofs.Common.{◌≡◌, ◌<◌, ◌≤◌, ◌∙◌, List, [], ◌∷◌, ap, arith, codes, get_or, length, map, string_bytes, sym, Global}
+use Rattle.std.proofs.Common.{◌≡◌, ◌<◌, ◌≤◌, ◌∙◌, List, [], ◌∷◌, ap, arith, get_or, length, map, string_bytes, sym, Global}
 use Rattle.aid_office.proofs.session.are_word.Goals as goal
 
 -- a list of length 1

@@ -1,13 +1,15 @@
-use Rattle.std.proofs.Common.{◌≡◌, ◌∙◌, [], ◌∷◌, Err, Global, IsTrue, Result, ap, arith, codes, map, refl, string_bytes, subst, sym}
-use Rattle.aid_office.specs.Ending.{HasReason, IsFoundStopped, IsStopped}
-use Rattle.aid_office.specs.Words.{IsFile, IsFound}
+use Rattle.std.proofs.Common.{◌∙◌, Err, Global, IsTrue, Result, ap, arith, map, refl, string_bytes, subst, sym}
+use Rattle.aid_office.specs.Ending.{HasReason, IsFoundStopped, IsStopped, IsStoppedOver, is_disk_fault}
+use Rattle.aid_edges.specs.Faults.{Rose}
+use Rattle.aid_office.specs.Words.{IsFile, IsFound, IsRow}
 use Rattle.aid_office.specs.declared.stop.Stop.{Stop}
 use Rattle.aid_office.specs.declared.stop.Stop.TheVariants.{Usage}
 use Rattle.desk_forms.specs.Rows.{rows_of_text}
+use Rattle.kept_office.proofs.Faults.{read_nothing}
 use Rattle.aid_office.proofs.Complete.{filed_all, founded_all}
-use Rattle.aid_office.proofs.Reasons.{err_map, has_stopped, look_nowhere}
-use Rattle.aid_office.proofs.Statuses.{is_status, rose_after, rose_before}
-use Rattle.aid_office.proofs.Usage.{found_reads_nothing, found_takes_nothing}
+use Rattle.aid_office.proofs.Reasons.{err_both, err_map, has_stopped}
+use Rattle.aid_office.proofs.Statuses.{is_status, past_status, rose_after, rose_before}
+use Rattle.aid_office.proofs.Usage.{found_reads_nothing, found_takes_nothing, unnamed}
 use Rattle.aid_office.proofs.session.run.Goals as goal
 
 pub returns-then-are_word-clause-status : goal.returns-then-are_word-clause-status
@@ -23,8 +25,8 @@ returns-then-are_word-clause-reason g c honest sink ne =
 
 pub returns-then-are_word-clause-unfounded : goal.returns-then-are_word-clause-unfounded
 returns-then-are_word-clause-unfounded g c found honest sink ne =
-    has_stopped c.found_office-ended.result.0 c.end.result (λ stop before. IsFoundStopped stop (g.D.Disk.tells c.found_office-ended.result.1) (g.K.Sink.text c.args.out.now) before)
-    (g.K.Sink.text c.found_office-ended.new.out) (g.K.Sink.text c.end.new.out) c.end.ensures.well ne (c.found_office-ended.ensures.stopped honest sink) (c.end.ensures.stopped (subst IsTrue (sym c.found_office-ended.ensures.sink_honest) sink))
+    has_stopped c.found_office-ended.result.0 c.end.result (λ stop before. IsFoundStopped stop (g.D.Disk.tells c.found_office-ended.result.1) (g.K.Sink.text c.args.out.now) before × (IsTrue (is_disk_fault stop) → Rose (g.D.Disk.faults c.args.disk) (g.D.Disk.faults c.found_office-ended.result.1)))
+    (g.K.Sink.text c.found_office-ended.new.out) (g.K.Sink.text c.end.new.out) c.end.ensures.well ne (err_both c.found_office-ended.result.0 _ _ (c.found_office-ended.ensures.stopped honest sink) c.found_office-ended.ensures.disk_fault) (c.end.ensures.stopped (subst IsTrue (sym c.found_office-ended.ensures.sink_honest) sink))
 
 pub returns-then-are_word-clause-complete_founding : goal.returns-then-are_word-clause-complete_founding
 returns-then-are_word-clause-complete_founding g c found honest unborn no_sink no_disk =
@@ -56,8 +58,18 @@ returns-then-are_word-2-clause-reason g c honest sink ne =
 
 pub returns-then-are_word-2-clause-stopped : goal.returns-then-are_word-2-clause-stopped
 returns-then-are_word-2-clause-stopped g c file honest source sink ne past each =
-    has_stopped c.file_input-ended.result.0 c.end-then-are_word-2.result (λ stop before. IsStopped stop (rows_of_text (g.S.Source.left c.args.input.now)) past (g.D.Disk.tells c.file_input-ended.result.1) (g.K.Sink.text c.args.out.now) before)
-    (g.K.Sink.text c.file_input-ended.new.out) (g.K.Sink.text c.end-then-are_word-2.new.out) c.end-then-are_word-2.ensures.well ne (c.file_input-ended.ensures.stopped honest source sink past each) (c.end-then-are_word-2.ensures.stopped (subst IsTrue (sym c.file_input-ended.ensures.sink_honest) sink))
+    has_stopped c.file_input-ended.result.0 c.end-then-are_word-2.result (λ stop before. IsStopped stop (rows_of_text (g.S.Source.left c.args.input.now)) past (g.D.Disk.tells c.file_input-ended.result.1) (g.K.Sink.text c.args.out.now) before × (IsTrue (is_disk_fault stop) → Rose (g.D.Disk.faults c.args.disk) (g.D.Disk.faults c.file_input-ended.result.1)))
+    (g.K.Sink.text c.file_input-ended.new.out) (g.K.Sink.text c.end-then-are_word-2.new.out) c.end-then-are_word-2.ensures.well ne (err_both c.file_input-ended.result.0 _ _ (c.file_input-ended.ensures.stopped honest source sink past each) c.file_input-ended.ensures.disk_fault) (c.end-then-are_word-2.ensures.stopped (subst IsTrue (sym c.file_input-ended.ensures.sink_honest) sink))
+
+pub returns-then-are_word-2-clause-stopped_over : goal.returns-then-are_word-2-clause-stopped_over
+returns-then-are_word-2-clause-stopped_over g c file honest source sink ne past recovers =
+    has_stopped c.file_input-ended.result.0 c.end-then-are_word-2.result (λ stop before. IsStoppedOver g.D.Disk stop (rows_of_text (g.S.Source.left c.args.input.now)) past c.args.disk c.file_input-ended.result.1 (g.K.Sink.text c.args.out.now) before × (IsTrue (is_disk_fault stop) → Rose (g.D.Disk.faults c.args.disk) (g.D.Disk.faults c.file_input-ended.result.1)))
+    (g.K.Sink.text c.file_input-ended.new.out) (g.K.Sink.text c.end-then-are_word-2.new.out) c.end-then-are_word-2.ensures.well ne (err_both c.file_input-ended.result.0 _ _ (c.file_input-ended.ensures.stopped_over honest source sink past recovers) c.file_input-ended.ensures.disk_fault) (c.end-then-are_word-2.ensures.stopped (subst IsTrue (sym c.file_input-ended.ensures.sink_honest) sink))
+
+pub returns-then-are_word-2-clause-past_limit : goal.returns-then-are_word-2-clause-past_limit
+returns-then-are_word-2-clause-past_limit g c source past =
+    let stops = c.file_input-ended.ensures.past_limit source past in
+    (past_status c.file_input-ended.result.0 c.end-then-are_word-2.result (g.K.Sink.faults c.file_input-ended.new.out) (g.K.Sink.faults c.end-then-are_word-2.new.out) record { well = c.end-then-are_word-2.ensures.well; fault = c.end-then-are_word-2.ensures.status } stops.0, stops.1)
 
 pub returns-then-are_word-2-clause-complete : goal.returns-then-are_word-2-clause-complete
 returns-then-are_word-2-clause-complete g c file source fits honest born whole no_source no_sink no_disk =
@@ -85,5 +97,11 @@ pub returns-else-are_word-2-clause-reason : goal.returns-else-are_word-2-clause-
 returns-else-are_word-2-clause-reason g c honest sink ne =
     let words = map (string_bytes {Z = Global}) c.args.words.now.items in
     let ended : Result (Unit {0}) Stop = Err Usage in
+    let no_row : IsRow words → ⊥ =
+    unnamed words c.are_word.result c.are_word-else-are_word.result c.if-are_word.false c.if-are_word-2.false
+    (λ is. c.are_word.ensures.1 (ap (map (string_bytes {Z = Global})) c.deref.ensures.value ∙ is))
+    (λ is. c.are_word-else-are_word.ensures.1 (ap (map (string_bytes {Z = Global})) c.deref-else-are_word.ensures.value ∙ is)) in
     has_stopped ended c.end-else-are_word-2.result (λ stop before. HasReason stop words (g.D.Disk.tells c.args.disk) (g.D.Disk.tells c.args.disk) (g.K.Sink.text c.args.out.now) before)
-    (g.K.Sink.text c.args.out.now) (g.K.Sink.text c.end-else-are_word-2.new.out) c.end-else-are_word-2.ensures.well ne record { reason = tt; unwritten = λ e. refl; unfiled = λ e. look_nowhere (g.D.Disk.tells c.args.disk) } (c.end-else-are_word-2.ensures.stopped sink)
+    (g.K.Sink.text c.args.out.now) (g.K.Sink.text c.end-else-are_word-2.new.out) c.end-else-are_word-2.ensures.well ne
+    record { reason = no_row; unwritten = λ e. refl; unfiled = λ e. read_nothing (g.D.Disk.tells c.args.disk); untouched = λ unfit. (refl, read_nothing (g.D.Disk.tells c.args.disk)) }
+    (c.end-else-are_word-2.ensures.stopped sink)
