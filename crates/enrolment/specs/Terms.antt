@@ -38,7 +38,7 @@ pub record IsLawful (t : Term) : Type 0 where
   pub breaks : AreAfter t.first t.breaks
   pub inside : All (λ b. b.1 < t.last) t.breaks
 
--- enrolment intensity in percent: credits of full-time credits, at most all (HEA 401(a)(2)(C))
+-- enrolment intensity in percent: credits of full-time credits, at most all (HEA 401(b)(2))
 unfoldable pub intensity_of : ℕ → ℕ → ℕ
 intensity_of credits full = min 100 (half_up (100 * credits) full)
 

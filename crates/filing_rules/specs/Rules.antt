@@ -1,5 +1,5 @@
 -- The rules on a filing, as lines of data on the facts: when a rule is broken, what it then tells, and each kind's order.
--- The rule numbers, the orders and the numbers told are the office's own; the source of what a rule keeps stands beside it.
+-- The rule numbers, the orders and the numbers told are the office's own; docs/DEFINITIONS.md has the source of what each rule keeps.
 use Rattle.std.specs.Prelude.{ℕ, ◌+◌, ◌*◌, ◌%◌, ◌==◌, ◌&&◌, ◌||◌, Bool, true, false, not, nat_lt, nat_le, List, [], ◌∷◌, ◌++◌, length, sum, slice_index, Option, Some, None, if◌then◌else◌}
 use Rattle.aid_types.specs.Calendars.{term_of}
 use Rattle.aid_types.specs.Programs.{rank}

@@ -150,7 +150,7 @@ abbrev pub term_over : List Filing → ℕ → ℕ → ℕ → Option Refusal
 term_over past award student year =
     told_over past award student year (least_term (filter (is_over past award student year) (terms_on_file past)))
 
--- what every kind reads
+-- what is given for every kind
 abbrev pub desk_facts : List Filing → ℕ → Facts
 desk_facts past school = record no_facts {
   filings = length past;

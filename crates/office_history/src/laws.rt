@@ -46,7 +46,7 @@ pub fn legal_keys(history: &[Filing])
 }
 
 /// In a legal list no student stands above a limit: the payments of terms, years and of a lifetime, the cost of
-/// attendance, and two schools at one time (HEA 401, 413B, 472; 34 CFR 690.11, 690.63).
+/// attendance, and two schools at one time (HEA 401, 413B; 34 CFR 690.11, 690.63).
 pub fn legal_within(history: &[Filing])
     requires { IsLegal (reverse history.now) }
     ensures { IsWithin (reverse history.now) }

@@ -63,7 +63,7 @@ minimum_percent p C a = if a.married then p.minimum_parent else p.minimum_single
 abbrev pub is_within : ℤ → ℤ → ℤ → Bool
 is_within agi percent g = int_le (pos 100 *ℤ agi) (percent *ℤ g)
 
--- a graduate student or holder of a bachelor's degree, who has no award (HEA 401(c))
+-- a graduate student or holder of a bachelor's degree, who has no award (HEA 401(d)(1))
 abbrev pub is_barred : Application → Bool
 is_barred a = a.graduate || a.bachelor
 

@@ -108,7 +108,7 @@ fn no_facts() -> Facts
     }
 }
 
-// What every kind reads.
+// What is given for every kind.
 #[tactic(auto, using(crate::proofs::Short::counted))]
 fn desk_facts(history: &[Filing], code: School) -> Facts
     requires legal { IsLegal (reverse history.now) }
