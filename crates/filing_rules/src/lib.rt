@@ -19,6 +19,8 @@ mod withdrawal;
 
 use aid_types::{Key, Refusal, What};
 pub use facts::Facts;
+pub use limits::{MOST_UNITS, limit_of_year, payment_at};
+pub use refusal::MOST_FILINGS;
 
 /// The first rule of its kind's order that a filing breaks, with what stands and what may stand; `None` where it
 /// breaks none. `f` holds the facts of the filings before it.

@@ -13,7 +13,7 @@ use enrolment::{intensity, period_pay};
 use lifetime_ledger::use_of;
 
 /// The lifetime limit of Pell Grants in units of a thousandth of a percent: six Scheduled Awards (HEA 401(d)(5)).
-pub(crate) const MOST_UNITS: u64 = 600_000;
+pub const MOST_UNITS: u64 = 600_000;
 
 /// The greatest FSEOG award of a student in a year, 4,000 dollars in cents (HEA 413B(a)(2)).
 const MOST_FSEOG: u64 = 400_000;
@@ -29,8 +29,8 @@ pub(crate) struct PellRules {
     pub lifetime: u16,
 }
 
-/// The Pell payment of one term in cents at so many credits.
-pub(crate) fn payment_at(scheduled: u32, credits: u8, full: u8, terms: u8) -> u64
+/// The Pell payment of one term in cents at so many credits (34 CFR 690.63(b)).
+pub fn payment_at(scheduled: u32, credits: u8, full: u8, terms: u8) -> u64
     requires award { scheduled ≤ 100000 }
     requires credits { IsBetween 1 40 credits }
     requires full { IsBetween 1 40 full }
@@ -53,8 +53,8 @@ fn is_half_time_extra_term(f: &Facts) -> bool
 }
 
 /// The year's limit on Pell in cents: the Scheduled Award, and half as much again where the term is one beyond the main
-/// terms, of at least half-time (HEA 401(b)(8)).
-fn limit_of_year(f: &Facts) -> u64
+/// terms, of at least half-time (HEA 401(b)).
+pub fn limit_of_year(f: &Facts) -> u64
     requires credits { IsBetween 1 40 f.now.credits }
     requires full { IsBetween 1 40 f.now.full }
     ensures value { result ≡ year_limit f.now }
@@ -104,7 +104,8 @@ pub(crate) fn broken_by_fseog(f: &Facts, rule: u16, cents: u64) -> Option<Refusa
     None
 }
 
-/// The refusal under this rule where so many cents more of any program pass the cost of attendance (HEA 472).
+/// The refusal under this rule where so many cents more of any program pass the cost of attendance (HEA 401(b)(3) for Pell; own for
+/// all programs together).
 pub(crate) fn broken_by_cost(f: &Facts, rule: u16, cents: u64) -> Option<Refusal>
     requires facts { IsInRange f.now }
     requires amount { cents ≤ 599999994 }

@@ -6,7 +6,7 @@ use crate::facts::Facts;
 use aid_types::{Refusal, School};
 
 /// The greatest number of filings that an office holds: the office's own.
-const MOST_FILINGS: u32 = 200_000;
+pub const MOST_FILINGS: u32 = 200_000;
 
 /// A refusal by this rule.
 pub(crate) fn refused(rule: u16, kept: u64, bound: u64) -> Option<Refusal>

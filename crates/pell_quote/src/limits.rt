@@ -3,21 +3,10 @@ ghost use Rattle.std.specs.Prelude.{◌≡◌, ◌≤◌, ◌<◌, ◌+◌, ◌*
 ghost use Rattle.aid_types.specs.Ranges.{IsBetween};
 ghost use Rattle.lifetime_ledger.specs.Used.{use_of};
 ghost use Rattle.filing_rules.specs.InRange.{IsInRange};
-ghost use Rattle.filing_rules.specs.Rules.{is_half_time_extra, payment_here, year_limit};
 ghost use Rattle.pell_quote.specs.Limits.{IsAffordable, IsMostDollars, IsWithinLimits, IsWithinPost, MayBePaid};
 
 use aid_types::Program;
-use enrolment::{intensity, period_pay};
-use filing_rules::Facts;
-
-/// The greatest number of filings that an office holds: the office's own.
-const MOST_FILINGS: u32 = 200_000;
-
-/// The lifetime limit of Pell Grants in units of a thousandth of a percent: six Scheduled Awards (HEA 401(d)(5)).
-const MOST_UNITS: u32 = 600_000;
-
-/// The least enrolment intensity of half-time in percent (34 CFR 668.2(b)).
-const HALF_TIME: u8 = 50;
+use filing_rules::{Facts, MOST_FILINGS, MOST_UNITS, limit_of_year, payment_at};
 
 /// Whether Pell may be paid at all, whatever the amount.
 pub(crate) fn may_be_paid(f: &Facts) -> bool
@@ -53,44 +42,13 @@ fn limit_dollars(f: &Facts) -> u64
     requires may_be_paid { MayBePaid f.now }
     ensures { IsMostDollars (IsWithinLimits f.now) result }
 {
-    let of_term = dollars_between(f.pell_term, term_payment(f));
+    let cost = 100 * u64::from(f.cost);
+    let payment = payment_at(f.scheduled, f.credits, f.full, f.terms);
+    let of_term = dollars_between(f.pell_term, payment);
     let of_year = dollars_between(f.pell_year, limit_of_year(f));
     let of_lifetime = dollars_between(f.pell_year, lifetime_cents(f));
-    let of_cost = dollars_between(f.net_all, 100 * u64::from(f.cost));
+    let of_cost = dollars_between(f.net_all, cost);
     of_term.min(of_year).min(of_lifetime).min(of_cost)
-}
-
-/// The payment of the term at the credits in force, in cents (34 CFR 690.63(b)).
-fn term_payment(f: &Facts) -> u64
-    requires facts { IsInRange f.now }
-    requires may_be_paid { MayBePaid f.now }
-    ensures { result ≡ payment_here f.now }
-{
-    let intensity = intensity(f.credits, f.full);
-    100 * u64::from(period_pay(f.scheduled, intensity, f.terms))
-}
-
-/// The year's limit in cents: the Scheduled Award, and half as much again where the term is one beyond the main terms, of
-/// at least half-time (HEA 401(b)(8)).
-fn limit_of_year(f: &Facts) -> u64
-    requires facts { IsInRange f.now }
-    requires may_be_paid { MayBePaid f.now }
-    ensures { result ≡ year_limit f.now }
-{
-    let percent = if is_half_time_extra_term(f) { 150 } else { 100 };
-    percent * u64::from(f.scheduled)
-}
-
-/// Whether the term is one beyond the main terms, of at least half-time.
-fn is_half_time_extra_term(f: &Facts) -> bool
-    requires facts { IsInRange f.now }
-    requires may_be_paid { MayBePaid f.now }
-    ensures { result ≡ is_half_time_extra f.now f.now.term }
-{
-    match &f.term {
-        Some(term) => term.extra && intensity(f.credits, f.full) >= HALF_TIME,
-        None => false,
-    }
 }
 
 /// The most cents of the year that are within the lifetime limit, 0 where none is. A year's use is rounded to the nearest
@@ -100,10 +58,11 @@ fn lifetime_cents(f: &Facts) -> u64
     requires may_be_paid { MayBePaid f.now }
     ensures { (cents : ℕ) → 0 < cents → (cents ≤ result) ↔ (f.now.used_else + use_of cents f.now.scheduled ≤ 600000) }
 {
-    if f.used_else > MOST_UNITS {
+    let used = u64::from(f.used_else);
+    if used > MOST_UNITS {
         return 0;
     }
-    let units = u64::from(MOST_UNITS - f.used_else);
+    let units = MOST_UNITS - used;
     (u64::from(f.scheduled) * (2 * units + 1) - 1) / 2000
 }
 
