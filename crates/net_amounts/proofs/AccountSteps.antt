@@ -1,5 +1,5 @@
 -- An account with what one filing more moves.
-use Rattle.std.proofs.Common.{◌≡◌, ℕ, refl, ◌-◌, ◌≤◌, arith, Bool, List, ◌∷◌}
+use Rattle.std.proofs.Common.{◌≡◌, ℕ, refl, sym, ◌∙◌, ◌-◌, ◌≤◌, arith, Bool, List, ◌∷◌}
 use Rattle.std.specs.Prelude.{slice_index}
 use Rattle.withdrawal_returns.specs.Worksheet.{remains}
 use Rattle.aid_types.specs.Programs.{rank}
@@ -10,7 +10,7 @@ use Rattle.office_history.specs.FactsOf.{cell_at}
 use Rattle.office_history.specs.Answer.{IsLegal}
 use Rattle.office_history.proofs.Cells.{onto_is}
 use Rattle.net_amounts.specs.declared.account.Account.{Account}
-use Rattle.net_amounts.specs.Accounts.{IsAccount, IsEntry, HasSums, joined}
+use Rattle.net_amounts.specs.Accounts.{IsAccount, IsEntry, HasSums, both, joined, nothing}
 use Rattle.net_amounts.proofs.Sixes.{both-six, six-sums, six-rank}
 use Rattle.net_amounts.proofs.Bounds.{paid-most, taken-most, owed-most, repaid-most, after-most, post-most}
 
@@ -27,6 +27,26 @@ account-joined past f school student year term a e h k =
       after = rw (h.after, k.after) (both-six _ _ _ (λ p. onto_is (is_cell (cell p)) (payments_after past f.key f.what) (paid_after past (is_cell (cell p)))));
       after_all = let o = onto_is all (payments_after past f.key f.what) (paid_after past all) in omega (arith, h.after_all, k.after_all);
       post = let o = onto_is all (posts_in past f.key f.what) (post past all) in omega (arith, h.post, k.post);
+    }
+
+-- amounts with none more
+both-none : (ns : List ℕ) (g : ℕ → ℕ) → ns ≡ six g → both ns (six (λ p. 0)) ≡ ns
+both-none ns g e = rw e (both-six g (λ p. 0) g (λ p. omega arith))
+
+-- an account with what moves nothing
+pub account-kept : (past : List Filing) (f : Filing) (school student year term : ℕ) (a : Account) →
+    IsAccount past school student year term a → IsEntry past f.key f.what school student year term nothing → IsAccount (f ∷ past) school student year term a
+account-kept past f school student year term a h k =
+    let cell = λ (p : ℕ). is_cell (cell_at school student year term p) in
+    let j = account-joined past f school student year term a nothing h k in
+    record {
+      paid = sym (both-none a.paid (λ p. paid past (cell p)) h.paid) ∙ j.paid;
+      taken = sym (both-none a.taken (λ p. taken past (cell p)) h.taken) ∙ j.taken;
+      owed = sym (both-none a.owed (λ p. owed past (cell p)) h.owed) ∙ j.owed;
+      repaid = sym (both-none a.repaid (λ p. repaid past (cell p)) h.repaid) ∙ j.repaid;
+      after = sym (both-none a.after (λ p. paid_after past (cell p)) h.after) ∙ j.after;
+      after_all = omega (arith, j.after_all);
+      post = omega (arith, j.post);
     }
 
 -- its sums are small

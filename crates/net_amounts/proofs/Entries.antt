@@ -12,7 +12,7 @@ use Rattle.office_history.specs.Net.{six, is_cell, in_term, moved, moves_at, wit
 use Rattle.office_history.specs.FactsOf.{cell_at}
 use Rattle.office_history.proofs.Cells.{moved_own}
 use Rattle.net_amounts.specs.declared.account.Account.{Account}
-use Rattle.net_amounts.specs.Accounts.{IsEntry}
+use Rattle.net_amounts.specs.Accounts.{IsEntry, nothing}
 use Rattle.net_amounts.proofs.Sixes.{six-ext}
 
 -- a cell's test is that of its term and its program
@@ -29,18 +29,6 @@ is_cell-in_term school student year term p school' student' year' term' q =
     turned true false c d e = refl
     turned false true c d e = refl
     turned false false c d e = refl
-
--- an account that holds nothing
-abbrev pub nothing : Account
-nothing = record {
-  paid = 0 ∷ 0 ∷ 0 ∷ 0 ∷ 0 ∷ 0 ∷ [];
-  taken = 0 ∷ 0 ∷ 0 ∷ 0 ∷ 0 ∷ 0 ∷ [];
-  owed = 0 ∷ 0 ∷ 0 ∷ 0 ∷ 0 ∷ 0 ∷ [];
-  repaid = 0 ∷ 0 ∷ 0 ∷ 0 ∷ 0 ∷ 0 ∷ [];
-  after = 0 ∷ 0 ∷ 0 ∷ 0 ∷ 0 ∷ 0 ∷ [];
-  after_all = 0;
-  post = 0;
-}
 
 -- one that holds what a worksheet takes back, leaves owed and leaves to be disbursed
 abbrev pub of_lines : Lines → Account

@@ -1,5 +1,5 @@
 -- Without a Pell payment nothing is used.
-use Rattle.std.proofs.Common.{◌≡◌, ℕ, zero, suc, ◌+◌, ◌-◌, refl, sym, ap, ◌∙◌, arith, cond, Bool, true, false, ◌&&◌, List, [], ◌∷◌, length, Option, Some, None}
+use Rattle.std.proofs.Common.{◌≡◌, ℕ, refl, ap, ◌∙◌, arith, cond, Bool, true, false, ◌&&◌, List, [], ◌∷◌, length, Option, Some, None}
 use Rattle.std.specs.Prelude.{◌==◌}
 use Rattle.aid_types.specs.Programs.{rank}
 use Rattle.aid_types.specs.declared.number.Key.{Key}
@@ -10,7 +10,7 @@ use Rattle.aid_types.specs.declared.filing.What.TheVariants.{Pay}
 use Rattle.lifetime_ledger.specs.Used.{use_of}
 use Rattle.office_history.specs.Award.{scheduled}
 use Rattle.office_history.specs.FactsOf.{pell_at}
-use Rattle.office_history.specs.Net.{all_years, in_year, onto, paid, payments_in, pell_year, sum_over, taken, use_in}
+use Rattle.office_history.specs.Net.{all_years, in_year, onto, paid, payments_in, pell_year, sum_over, use_in}
 use Rattle.office_history.specs.Past.{pell_payment_in}
 use Rattle.office_history.proofs.Nets.{none_before}
 use Rattle.office_history.proofs.Numbers.{use_none}

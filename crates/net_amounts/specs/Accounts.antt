@@ -1,5 +1,5 @@
 -- What a student's account in a term of a school holds.
-use Rattle.std.specs.Prelude.{◌≡◌, ℕ, ◌+◌, ◌^◌, ◌≤◌, List, [], ◌∷◌, slice_index}
+use Rattle.std.specs.Prelude.{◌≡◌, ℕ, ◌+◌, ◌^◌, ◌≤◌, List, [], ◌∷◌, Option, Some, None, slice_index}
 use Rattle.aid_types.specs.declared.number.Key.{Key}
 use Rattle.aid_types.specs.declared.filing.Filing.{Filing}
 use Rattle.aid_types.specs.declared.filing.What.{What}
@@ -26,6 +26,23 @@ pub record IsEntry (past : List Filing) (key : Key) (what : What) (school studen
   pub after : a.after ≡ six (λ p. moved (is_cell (cell_at school student year term p)) (payments_after past key what))
   pub after_all : a.after_all ≡ moved (in_term school student year term) (payments_after past key what)
   pub post : a.post ≡ moved (in_term school student year term) (posts_in past key what)
+
+-- an account that holds nothing
+abbrev pub nothing : Account
+nothing = record {
+  paid = 0 ∷ 0 ∷ 0 ∷ 0 ∷ 0 ∷ 0 ∷ [];
+  taken = 0 ∷ 0 ∷ 0 ∷ 0 ∷ 0 ∷ 0 ∷ [];
+  owed = 0 ∷ 0 ∷ 0 ∷ 0 ∷ 0 ∷ 0 ∷ [];
+  repaid = 0 ∷ 0 ∷ 0 ∷ 0 ∷ 0 ∷ 0 ∷ [];
+  after = 0 ∷ 0 ∷ 0 ∷ 0 ∷ 0 ∷ 0 ∷ [];
+  after_all = 0;
+  post = 0;
+}
+
+-- what a filing moves, where it moves nothing too
+abbrev pub or_nothing : Option Account → Account
+or_nothing None = nothing
+or_nothing (Some a) = a
 
 -- sums item by item
 abbrev pub both : List ℕ → List ℕ → List ℕ

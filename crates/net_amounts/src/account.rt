@@ -91,8 +91,9 @@ pub fn account_of(
     };
     let mut so_far = Account::EMPTY;
     for (index, filing) in history.iter().enumerate() {
-        let moved = entry(&history[..index], filing, &place, &so_far);
-        so_far = so_far.joined(&moved);
+        if let Some(moved) = entry(&history[..index], filing, &place, &so_far) {
+            so_far = so_far.joined(&moved);
+        }
     }
     so_far
 }

@@ -7,7 +7,7 @@ ghost use Rattle.office_history.specs.Answer.{IsLegal};
 ghost use Rattle.office_history.specs.FactsOf.{cell_at};
 ghost use Rattle.office_history.specs.Net.{in_term, six};
 ghost use Rattle.office_history.specs.Sheets.{CanBeWorkedOut};
-ghost use Rattle.net_amounts.specs.Accounts.{IsAccount, IsEntry};
+ghost use Rattle.net_amounts.specs.Accounts.{IsAccount, IsEntry, or_nothing};
 
 use crate::account::Account;
 use crate::sheets::sheet_on;
@@ -33,69 +33,69 @@ impl Place {
     }
 }
 
-/// What a filing moves at a place, after the filings that its account is of so far.
-pub fn entry(past: &[Filing], filing: &Filing, place: &Place, so_far: &Account) -> Account
+/// What a filing moves at a place, after the filings that its account is of so far; `None` where it moves nothing.
+pub fn entry(past: &[Filing], filing: &Filing, place: &Place, so_far: &Account) -> Option<Account>
     requires legal { IsLegal (filing.now ∷ reverse past.now) }
     requires account { IsAccount (reverse past.now) place.now.school place.now.student place.now.year place.now.term so_far.now }
-    ensures { IsEntry (reverse past.now) filing.now.key filing.now.what place.now.school place.now.student place.now.year place.now.term result }
+    ensures { IsEntry (reverse past.now) filing.now.key filing.now.what place.now.school place.now.student place.now.year place.now.term (or_nothing result) }
 {
     match &filing.what {
         What::Pay(amount) => payment(past, &filing.key, amount, place),
         What::Repay(amount) => repayment(&filing.key, amount, place),
         What::Adjust(amount) => adjustment(&filing.key, amount, place),
         What::Withdraw(facts) => withdrawn(past, &filing.key, facts, place, so_far),
-        _ => Account::EMPTY,
+        _ => None,
     }
 }
 
 // A payment, which comes after the withdrawal from its term where there was one.
-fn payment(past: &[Filing], key: &Key, amount: &Amount, place: &Place) -> Account
-    ensures { IsEntry (reverse past.now) key.now (Pay amount.now) place.now.school place.now.student place.now.year place.now.term result }
+fn payment(past: &[Filing], key: &Key, amount: &Amount, place: &Place) -> Option<Account>
+    ensures { IsEntry (reverse past.now) key.now (Pay amount.now) place.now.school place.now.student place.now.year place.now.term (or_nothing result) }
 {
     if !place.is_at(key.school, amount.student, amount.year, amount.term) {
-        return Account::EMPTY;
+        return None;
     }
     let paid = of_program(amount.program, amount.cents);
     match withdrawal(past, key.school, amount.student, amount.year, amount.term) {
-        Some(_) => Account {
+        Some(_) => Some(Account {
             paid,
             after: paid,
             after_all: amount.cents,
             ..Account::EMPTY
-        },
-        None => Account {
+        }),
+        None => Some(Account {
             paid,
             ..Account::EMPTY
-        },
+        }),
     }
 }
 
 // A repayment by the student.
-fn repayment(key: &Key, amount: &Amount, place: &Place) -> Account
-    ensures { (past : List Filing) → IsEntry past key.now (Repay amount.now) place.now.school place.now.student place.now.year place.now.term result }
+fn repayment(key: &Key, amount: &Amount, place: &Place) -> Option<Account>
+    ensures { (past : List Filing) → IsEntry past key.now (Repay amount.now) place.now.school place.now.student place.now.year place.now.term (or_nothing result) }
 {
     if !place.is_at(key.school, amount.student, amount.year, amount.term) {
-        return Account::EMPTY;
+        return None;
     }
     let repaid = of_program(amount.program, amount.cents);
-    Account {
+    Some(Account {
         taken: repaid,
         repaid,
         ..Account::EMPTY
-    }
+    })
 }
 
 // A downward adjustment.
-fn adjustment(key: &Key, amount: &Amount, place: &Place) -> Account
-    ensures { (past : List Filing) → IsEntry past key.now (Adjust amount.now) place.now.school place.now.student place.now.year place.now.term result }
+fn adjustment(key: &Key, amount: &Amount, place: &Place) -> Option<Account>
+    ensures { (past : List Filing) → IsEntry past key.now (Adjust amount.now) place.now.school place.now.student place.now.year place.now.term (or_nothing result) }
 {
     if !place.is_at(key.school, amount.student, amount.year, amount.term) {
-        return Account::EMPTY;
+        return None;
     }
-    Account {
+    Some(Account {
         taken: of_program(amount.program, amount.cents),
         ..Account::EMPTY
-    }
+    })
 }
 
 // A withdrawal, worked out on the nets so far.
@@ -105,14 +105,14 @@ fn withdrawn(
     facts: &WithdrawFacts,
     place: &Place,
     so_far: &Account,
-) -> Account
+) -> Option<Account>
     requires legal { IsLegal (reverse past.now) }
     requires worked_out { CanBeWorkedOut (reverse past.now) key.now facts.now }
     requires account { IsAccount (reverse past.now) place.now.school place.now.student place.now.year place.now.term so_far.now }
-    ensures { IsEntry (reverse past.now) key.now (Withdraw facts.now) place.now.school place.now.student place.now.year place.now.term result }
+    ensures { IsEntry (reverse past.now) key.now (Withdraw facts.now) place.now.school place.now.student place.now.year place.now.term (or_nothing result) }
 {
     if !place.is_at(key.school, facts.student, facts.year, facts.term) {
-        return Account::EMPTY;
+        return None;
     }
     let Lines {
         returned,
@@ -120,12 +120,12 @@ fn withdrawn(
         post,
         ..
     } = sheet_on(past, key, facts, so_far);
-    Account {
+    Some(Account {
         taken: returned,
         owed,
         post,
         ..Account::EMPTY
-    }
+    })
 }
 
 // Cents of one program.

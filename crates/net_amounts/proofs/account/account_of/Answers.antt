@@ -1,13 +1,19 @@
-use Rattle.std.proofs.Common.{◌∷◌, List, reverse, take, sym, subst}
+use Rattle.std.proofs.Common.{◌≡◌, ℕ, ◌∷◌, List, reverse, take, sym, subst, ◌∙◌, Option}
 use Rattle.aid_types.specs.declared.filing.Filing.{Filing}
 use Rattle.net_amounts.specs.declared.account.Account.{Account}
-use Rattle.net_amounts.specs.Accounts.{IsAccount}
+use Rattle.net_amounts.specs.Accounts.{IsAccount, IsEntry, or_nothing}
 use Rattle.net_amounts.proofs.Prefixes.{one_more, legal_at}
-use Rattle.net_amounts.proofs.AccountSteps.{account-joined, account-sums, entry-sums}
+use Rattle.net_amounts.proofs.AccountSteps.{account-joined, account-kept, account-sums, entry-sums}
+use Rattle.net_amounts.proofs.account.account_of.Goals.{in-Some, in_default}
 use Rattle.net_amounts.proofs.account.account_of.Goals as goal
 
-pub entry-moved-requires-clause-legal : goal.entry-moved-requires-clause-legal
-entry-moved-requires-clause-legal c =
+-- what moved, once it is known whether anything did
+moves : (past : List Filing) (f : Filing) (school student year term : ℕ) (o p : Option Account) → o ≡ p →
+    IsEntry past f.key f.what school student year term (or_nothing o) → IsEntry past f.key f.what school student year term (or_nothing p)
+moves past f school student year term o p is k = subst (λ (x : Option Account). IsEntry past f.key f.what school student year term (or_nothing x)) is k
+
+pub entry-requires-clause-legal : goal.entry-requires-clause-legal
+entry-requires-clause-legal c =
     legal_at c.args.history.now c.loop-index.index c.index-history-index.result c.loop-index-test.true c.index-history-index.is c.requires
 
 pub joined-so_far-requires-clause-ours : goal.joined-so_far-requires-clause-ours
@@ -17,16 +23,20 @@ joined-so_far-requires-clause-ours c =
 
 pub joined-so_far-requires-clause-theirs : goal.joined-so_far-requires-clause-theirs
 joined-so_far-requires-clause-theirs c =
-    let legal = legal_at c.args.history.now c.loop-index.index c.index-history-index.result c.loop-index-test.true c.index-history-index.is c.requires in
-    entry-sums _ c.index-history-index.result c.args.school c.args.student c.args.year c.args.term c.entry-moved.result legal c.entry-moved.ensures
+    let f = c.index-history-index.result in
+    let legal = legal_at c.args.history.now c.loop-index.index f c.loop-index-test.true c.index-history-index.is c.requires in
+    entry-sums _ f c.args.school c.args.student c.args.year c.args.term c.in-Some.moved legal (moves _ f c.args.school c.args.student c.args.year c.args.term _ _ c.in-Some.is c.entry.ensures)
 
 pub loop-index-preserved : goal.loop-index-preserved
 loop-index-preserved c =
     let h = c.args.history.now in
     let i = c.loop-index.index in
     let f = c.index-history-index.result in
-    let next = account-joined (reverse (take i h)) f c.args.school c.args.student c.args.year c.args.term c.loop-index.so_far c.entry-moved.result
-    c.loop-index.invariant c.entry-moved.ensures in
-    subst (λ (past : List Filing). IsAccount past c.args.school c.args.student c.args.year c.args.term c.joined-so_far.result)
+    let past = reverse (take i h) in
+    let Next = λ (a : Account). IsAccount (f ∷ past) c.args.school c.args.student c.args.year c.args.term a in
+    subst (λ (all : List Filing). IsAccount all c.args.school c.args.student c.args.year c.args.term c.match-entry.so_far)
     (sym (one_more h i f c.loop-index-test.true c.index-history-index.is))
-    (subst (λ (a : Account). IsAccount (f ∷ reverse (take i h)) c.args.school c.args.student c.args.year c.args.term a) (sym c.joined-so_far.ensures) next)
+    (elim c.match-entry.branch [
+      | in-Some w ↦ subst Next (sym (w.so_far-is ∙ w.joined-so_far.ensures)) (account-joined past f c.args.school c.args.student c.args.year c.args.term c.loop-index.so_far w.in-Some.moved c.loop-index.invariant (moves past f c.args.school c.args.student c.args.year c.args.term _ _ w.in-Some.is c.entry.ensures))
+      | in_default w ↦ subst Next (sym w.so_far-is) (account-kept past f c.args.school c.args.student c.args.year c.args.term c.loop-index.so_far c.loop-index.invariant (moves past f c.args.school c.args.student c.args.year c.args.term _ _ w.in_default.is c.entry.ensures))
+    ])

@@ -1,6 +1,6 @@
 use Rattle.std.proofs.Common.{sym, subst, reverse}
 use Rattle.aid_types.specs.declared.filing.What.{What}
-use Rattle.net_amounts.specs.Accounts.{IsEntry}
+use Rattle.net_amounts.specs.Accounts.{IsEntry, or_nothing}
 use Rattle.office_history.proofs.Lawful.{can_be_worked_out}
 use Rattle.net_amounts.proofs.entry.entry.Goals as goal
 
@@ -10,10 +10,10 @@ withdrawn-requires-clause-worked_out c =
 
 pub returns-in-Repay : goal.returns-in-Repay
 returns-in-Repay c =
-    subst (λ (what : What). IsEntry (reverse c.args.past.now) c.args.filing.now.key what c.args.place.now.school c.args.place.now.student c.args.place.now.year c.args.place.now.term c.repayment.result)
+    subst (λ (what : What). IsEntry (reverse c.args.past.now) c.args.filing.now.key what c.args.place.now.school c.args.place.now.student c.args.place.now.year c.args.place.now.term (or_nothing c.repayment.result))
     (sym c.in-Repay.is) (c.repayment.ensures (reverse c.args.past.now))
 
 pub returns-in-Adjust : goal.returns-in-Adjust
 returns-in-Adjust c =
-    subst (λ (what : What). IsEntry (reverse c.args.past.now) c.args.filing.now.key what c.args.place.now.school c.args.place.now.student c.args.place.now.year c.args.place.now.term c.adjustment.result)
+    subst (λ (what : What). IsEntry (reverse c.args.past.now) c.args.filing.now.key what c.args.place.now.school c.args.place.now.student c.args.place.now.year c.args.place.now.term (or_nothing c.adjustment.result))
     (sym c.in-Adjust.is) (c.adjustment.ensures (reverse c.args.past.now))

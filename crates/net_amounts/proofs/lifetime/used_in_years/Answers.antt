@@ -1,4 +1,4 @@
-use Rattle.std.proofs.Common.{◌∙◌, sym, length, reverse, arith}
+use Rattle.std.proofs.Common.{◌∙◌, sym, reverse, arith}
 use Rattle.std.proofs.lemmas.List.{length-reverse}
 use Rattle.office_history.proofs.Legal.{legal_is_short}
 use Rattle.net_amounts.proofs.NoPell.{none_used}
