@@ -16,7 +16,7 @@ use Rattle.kept_office.proofs.Faults.{read_nothing}
 use Rattle.aid_office.specs.Words.{IsFile}
 use Rattle.aid_office.specs.Refusals.{open_stop}
 use Rattle.aid_office.specs.Ending.{HasReason, HasStopped, IsStopped, IsUnopened, Suits, fault_line, is_disk_fault, reported, status_of, unreported}
-use Rattle.aid_office.specs.RowStops.{IsLate, IsOfFile, IsOfFiling}
+use Rattle.aid_office.specs.RowStops.{IsLate, IsOfFile, IsOfFiling, IsOfReading}
 use Rattle.aid_office.specs.declared.stop.Stop.{Stop}
 use Rattle.aid_office.specs.declared.stop.Stop.TheVariants.{Usage, Read, Write, DiskFault, NoOffice, NotJournal, Exists, Damaged, TooLong, NoMemory}
 
@@ -146,6 +146,11 @@ filing_of_file Exists of = absurd of
 filing_of_file (Damaged place) of = tt
 filing_of_file TooLong of = absurd of
 filing_of_file NoMemory of = tt
+
+pub of_reading : (stop : Stop) → (stop ≡ Read) ⊎ ((stop ≡ TooLong) ⊎ (stop ≡ NoMemory)) → IsOfReading stop
+of_reading stop (inl is) = subst IsOfReading (sym is) tt
+of_reading stop (inr (inl is)) = subst IsOfReading (sym is) tt
+of_reading stop (inr (inr is)) = subst IsOfReading (sym is) tt
 
 pub read_of_file : (stop : Stop) → (stop ≡ Read) ⊎ ((stop ≡ TooLong) ⊎ (stop ≡ NoMemory)) → IsOfFile stop
 read_of_file stop (inl is) = subst IsOfFile (sym is) tt

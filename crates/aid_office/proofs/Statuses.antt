@@ -3,8 +3,9 @@ use Rattle.std.proofs.Common.{◌≡◌, ◌⊎◌, inl, inr, ℕ, zero, suc, �
 use Rattle.std.specs.Prelude.{IfErr, IsOk, ◌↔◌}
 use Rattle.aid_edges.specs.Faults.{Rose}
 use Rattle.aid_office.specs.Ending.{status_of}
+use Rattle.aid_office.specs.RowStops.{IsOfReading}
 use Rattle.aid_office.specs.declared.stop.Stop.{Stop}
-use Rattle.aid_office.specs.declared.stop.Stop.TheVariants.{Write, TooLong, NoMemory}
+use Rattle.aid_office.specs.declared.stop.Stop.TheVariants.{Usage, Read, Write, DiskFault, NoOffice, NotJournal, Exists, Damaged, TooLong, NoMemory}
 
 -- the status of what a run came to, where the sink's count went from one number to the other
 pub record HasStatus {U : Type 0} (ended : Result U Stop) (status old new : ℕ) : Type 0 where
@@ -39,6 +40,29 @@ past_status {U} ended status old new h (inr is) = from (subst (λ (e : Result U 
     from : ((status ≡ 9) ⊎ ((status ≡ 4) × Rose old new)) → (status ≡ 8) ⊎ ((status ≡ 4) ⊎ (status ≡ 9))
     from (inl nine) = inr (inr nine)
     from (inr four) = inr (inl four.0)
+
+-- a run that stopped at a status between those of a read and of the limit
+pub not_reading : (stop : Stop) → 5 ≤ status_of stop → status_of stop ≤ 7 → IsOfReading stop → ⊥
+not_reading Read low high of = omega (arith, low)
+not_reading TooLong low high of = omega (arith, high)
+not_reading NoMemory low high of = omega (arith, high)
+not_reading Usage low high of = of
+not_reading Write low high of = of
+not_reading (DiskFault undecided) low high of = of
+not_reading NoOffice low high of = of
+not_reading NotJournal low high of = of
+not_reading Exists low high of = of
+not_reading (Damaged place) low high of = of
+
+pub read_before : {U : Type 0} (ended : Result U Stop) (status old new : ℕ) (Whole : Type 0) → HasStatus ended status old new → 5 ≤ status → status ≤ 7 →
+    IfErr ended (λ stop. IsOfReading stop ⊎ Whole) → Whole
+read_before (Ok u) status old new Whole h low high of = absurd (omega (arith, low, not_done u status old new h))
+read_before (Err stop) status old new Whole h low high of = from of (fault_of stop status old new h)
+  where
+    from : IsOfReading stop ⊎ Whole → (status ≡ status_of stop) ⊎ ((status ≡ 4) × Rose old new) → Whole
+    from (inr whole) fault = whole
+    from (inl reading) (inl is) = absurd (not_reading stop (omega (arith, low, is)) (omega (arith, high, is)) reading)
+    from (inl reading) (inr four) = absurd (omega (arith, low, four.0))
 
 split : (m n : ℕ) → m ≤ n → (m ≡ n) ⊎ (m < n)
 split zero zero le = inl refl

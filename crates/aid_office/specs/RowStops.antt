@@ -33,6 +33,13 @@ IsLate (DiskFault undecided) = Unit {0}
 IsLate NoMemory = Unit {0}
 IsLate other = ⊥
 
+-- the stops that may come while the input is read, in `file`
+abbrev pub IsOfReading : Stop → Type 0
+IsOfReading Read = Unit {0}
+IsOfReading TooLong = Unit {0}
+IsOfReading NoMemory = Unit {0}
+IsOfReading other = ⊥
+
 -- the stops that may come from the journal or after it, in `file`
 abbrev pub IsOfFiling : Stop → Type 0
 IsOfFiling Usage = ⊥

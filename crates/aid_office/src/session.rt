@@ -13,7 +13,7 @@ ghost use Rattle.aid_office.specs.Words.{IsFile, IsFound, IsRow};
 ghost use Rattle.aid_office.specs.FileText.{file_text, history_after};
 ghost use Rattle.aid_office.specs.Ending.{HasReason, HasStopped, IsFoundStopped, IsStopped, IsStoppedOver, RecoversFront, WasOpened, fault_line, is_disk_fault, status_of};
 ghost use Rattle.aid_edges.specs.Whole.{IsCutShort};
-ghost use Rattle.aid_office.specs.RowStops.{IsOfFile, IsOfFiling, IsOfFounding};
+ghost use Rattle.aid_office.specs.RowStops.{IsOfFile, IsOfFiling, IsOfFounding, IsOfReading};
 ghost use Rattle.aid_office.specs.declared.stop.Stop.{Stop};
 
 use crate::rows::file_rows;
@@ -156,6 +156,8 @@ fn file_input<D: Disk, S: Source, K: Sink>(
 ) -> (Result<(), Stop>, D)
     ensures whole { IsTrue (S.honest input.old)
         → OnOk result.0 ((length (S.left input.old) ≤ INPUT_LIMIT) × (S.left input.new ≡ [])) }
+    ensures read_first { IsTrue (S.honest input.old)
+        → IfErr result.0 (λ stop. IsOfReading stop ⊎ ((length (S.left input.old) ≤ INPUT_LIMIT) × (S.left input.new ≡ []))) }
     ensures recovered { IsHonest (D.tells disk) → OnOk result.0 ((past : List Filing) × Recovers (D.tells disk).reads past) }
     ensures answered { IsHonest (D.tells disk) → IsTrue (S.honest input.old) → IsTrue (K.honest out.old)
         → (past : List Filing) → Recovers (D.tells disk).reads past
@@ -249,6 +251,10 @@ pub fn run<D: Disk, S: Source, K: Sink>(
     // was no memory, and the disk is as it was.
     ensures past_limit { IsTrue (S.honest input.old) → INPUT_LIMIT + length (S.left input.new) < length (S.left input.old)
         → ((result.0 ≡ 8) ⊎ (result.0 ≡ 4) ⊎ (result.0 ≡ 9)) × (result.1 ≡ disk) }
+
+    // 5, 6 and 7 come only after the input was read to its end: the journal isn't opened before.
+    ensures read_first { IsFile (map string_bytes words.now.items) → IsTrue (S.honest input.old) → 5 ≤ result.0 → result.0 ≤ 7
+        → (length (S.left input.old) ≤ INPUT_LIMIT) × (S.left input.new ≡ []) }
 
     // At 6 and 7 the file's bytes are the reason. At these and at 2, 3 and 8 the text is the fault's line alone, and
     // nothing was written to the disk. The same holds at 4 where such a line couldn't be written, and at every status where

@@ -1,4 +1,4 @@
-use Rattle.std.proofs.Common.{◌≡◌, ◌++◌, inl, subst}
+use Rattle.std.proofs.Common.{◌≡◌, ◌++◌, inl, inr, subst}
 use Rattle.std.specs.Prelude.{IfErr, OnOk}
 use Rattle.disk_model.specs.Telling.{EachImage, EachMoment}
 use Rattle.disk_model.proofs.Moments.{started}
@@ -7,11 +7,15 @@ use Rattle.desk_forms.specs.Rows.{rows_of_text}
 use Rattle.aid_office.specs.Ending.{IsStopped, IsStoppedOver, RecoversFront, WasOpened}
 use Rattle.aid_office.specs.FileText.{file_text, history_after}
 use Rattle.aid_office.specs.RowStops.{IsOfFile, IsOfFiling}
-use Rattle.aid_office.proofs.Reasons.{any_ok, err_map, filing_of_file, read_no_fault, read_of_file, read_reason, read_stopped, read_unopened}
+use Rattle.aid_office.proofs.Reasons.{any_ok, err_map, filing_of_file, of_reading, read_no_fault, read_of_file, read_reason, read_stopped, read_unopened}
 use Rattle.aid_office.proofs.session.file_input.Goals as goal
 
 pub returns-in-Ok-clause-whole : goal.returns-in-Ok-clause-whole
 returns-in-Ok-clause-whole g c source = any_ok c.file_journal.result.0 _ (c.in-Ok.ensures.whole source)
+
+pub returns-in-Ok-clause-read_first : goal.returns-in-Ok-clause-read_first
+returns-in-Ok-clause-read_first g c source =
+    err_map c.file_journal.result.0 IsOfFiling _ (λ stop of. inr (c.in-Ok.ensures.whole source)) c.file_journal.ensures.causes
 
 pub returns-in-Ok-clause-answered : goal.returns-in-Ok-clause-answered
 returns-in-Ok-clause-answered g c honest source sink past recovers =
@@ -39,6 +43,9 @@ returns-in-Ok-clause-stopped_over g c honest source sink past recovers =
 
 pub returns-in-Ok-clause-causes : goal.returns-in-Ok-clause-causes
 returns-in-Ok-clause-causes g c = err_map c.file_journal.result.0 IsOfFiling IsOfFile filing_of_file c.file_journal.ensures.causes
+
+pub returns-in-Err-clause-read_first : goal.returns-in-Err-clause-read_first
+returns-in-Err-clause-read_first g c source = inl (of_reading c.in-Err.stop c.in-Err.ensures.causes)
 
 pub returns-in-Err-clause-stopped : goal.returns-in-Err-clause-stopped
 returns-in-Err-clause-stopped g c honest source sink past each =

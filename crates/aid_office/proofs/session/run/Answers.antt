@@ -8,7 +8,7 @@ use Rattle.desk_forms.specs.Rows.{rows_of_text}
 use Rattle.kept_office.proofs.Faults.{read_nothing}
 use Rattle.aid_office.proofs.Complete.{filed_all, founded_all}
 use Rattle.aid_office.proofs.Reasons.{err_both, err_map, has_stopped}
-use Rattle.aid_office.proofs.Statuses.{is_status, past_status, rose_after, rose_before}
+use Rattle.aid_office.proofs.Statuses.{is_status, past_status, read_before, rose_after, rose_before}
 use Rattle.aid_office.proofs.Usage.{found_reads_nothing, found_takes_nothing, unnamed}
 use Rattle.aid_office.proofs.session.run.Goals as goal
 
@@ -70,6 +70,11 @@ pub returns-then-are_word-2-clause-past_limit : goal.returns-then-are_word-2-cla
 returns-then-are_word-2-clause-past_limit g c source past =
     let stops = c.file_input-ended.ensures.past_limit source past in
     (past_status c.file_input-ended.result.0 c.end-then-are_word-2.result (g.K.Sink.faults c.file_input-ended.new.out) (g.K.Sink.faults c.end-then-are_word-2.new.out) record { well = c.end-then-are_word-2.ensures.well; fault = c.end-then-are_word-2.ensures.status } stops.0, stops.1)
+
+pub returns-then-are_word-2-clause-read_first : goal.returns-then-are_word-2-clause-read_first
+returns-then-are_word-2-clause-read_first g c file source low high =
+    read_before c.file_input-ended.result.0 c.end-then-are_word-2.result (g.K.Sink.faults c.file_input-ended.new.out) (g.K.Sink.faults c.end-then-are_word-2.new.out) _
+    record { well = c.end-then-are_word-2.ensures.well; fault = c.end-then-are_word-2.ensures.status } low high (c.file_input-ended.ensures.read_first source)
 
 pub returns-then-are_word-2-clause-complete : goal.returns-then-are_word-2-clause-complete
 returns-then-are_word-2-clause-complete g c file source fits honest born whole no_source no_sink no_disk =
