@@ -6,7 +6,7 @@ use Rattle.aid_types.specs.declared.reply.Outcome.{Outcome}
 use Rattle.aid_types.specs.declared.reply.Refusal.{Refusal}
 use Rattle.aid_types.specs.declared.reply.Verdict.TheVariants.{Again}
 use Rattle.office_history.specs.Past.{key_at, filing_at, first_of_two, same_filing}
-use Rattle.office_history.specs.Answer.{IsLegal, answer_of, answer_at, answer_new, judged, breaks, is_admit}
+use Rattle.office_history.specs.Answer.{answer_of, answer_at, answer_new, judged, breaks}
 use Rattle.aid_types.proofs.SameFiling.{tells_filing}
 
 -- where a filing is found it stands

@@ -1,4 +1,4 @@
-use Rattle.std.proofs.Common.{◌≡◌, ◌∷◌, ◌∙◌, [], List, ap, reverse, subst, sym, arith, rules}
+use Rattle.std.proofs.Common.{◌≡◌, ◌∷◌, ◌∙◌, [], List, ap, reverse, subst, sym, rules}
 use Rattle.std.proofs.lemmas.List.{reverse-append}
 use Rattle.aid_types.specs.declared.filing.Filing.{Filing}
 use Rattle.aid_types.specs.declared.reply.Verdict.TheVariants.{Admit}

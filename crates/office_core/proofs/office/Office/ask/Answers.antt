@@ -1,6 +1,5 @@
-use Rattle.std.proofs.Common.{◌≡◌, ◌*◌, ◌≤◌, ℕ, List, None, reverse, subst, ap, sym, ◌∙◌, arith, rules}
+use Rattle.std.proofs.Common.{◌≡◌, ◌*◌, ◌≤◌, ℕ, List, None, reverse, subst, ap, sym, ◌∙◌, arith}
 use Rattle.aid_types.specs.declared.filing.Filing.{Filing}
-use Rattle.aid_types.specs.declared.reply.Ask.{Ask}
 use Rattle.aid_types.specs.declared.reply.Ask.TheVariants.{Quote}
 use Rattle.aid_types.specs.declared.reply.Verdict.TheVariants.{Quoted}
 use Rattle.filing_rules.specs.Rules.{first_broken, payment_lines}
