@@ -18,7 +18,7 @@ pub payloads-push : (h : Payloads) (p : List ℕ) → ArePayloads h → IsPayloa
 payloads-push [] p are is = (is, tt)
 payloads-push (q ∷ h) p are is = (are.0, payloads-push h p are.1 is)
 
-payloads-front : (h : Payloads) (p : List ℕ) → ArePayloads (h ++ p ∷ []) → ArePayloads h
+pub payloads-front : (h : Payloads) (p : List ℕ) → ArePayloads (h ++ p ∷ []) → ArePayloads h
 payloads-front [] p are = tt
 payloads-front (q ∷ h) p are = (are.0, payloads-front h p are.1)
 

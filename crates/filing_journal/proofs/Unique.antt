@@ -1,5 +1,5 @@
 -- A file stands for one list of payloads at most, and then it isn't damaged.
-use Rattle.std.proofs.Common.{◌≡◌, ◌≢◌, inl, inr, ⊎_elim, ℕ, List, [], ◌∷◌, ◌++◌, length, take, refl, sym, ◌∙◌, ap, append_assoc, arith, length-append}
+use Rattle.std.proofs.Common.{◌≡◌, ◌≢◌, ◌⊎◌, inl, inr, ⊎_elim, ℕ, List, [], ◌∷◌, ◌++◌, length, take, refl, sym, ◌∙◌, ap, append_assoc, arith, length-append}
 use Rattle.std.proofs.lemmas.List.{take_at}
 use Rattle.std.specs.Int.{to_le_bytes, w32}
 use Rattle.filing_journal.specs.Stands.{Payloads, StandsFor, header, front, records, body_of, IsPayload, ArePayloads, IsUnborn}
@@ -62,6 +62,40 @@ begins_behind (p ∷ h) (q ∷ k) g f rest ng ph pk is =
 pub begins : (file rest : List ℕ) (h k : Payloads) → file ≡ front h ++ rest → ArePayloads h → StandsFor file k → (more : Payloads) × (k ≡ h ++ more)
 begins file rest h k whole sizes t = begins_behind h k t.gate t.free rest t.closed sizes t.sizes
     (same_back header header (records h ++ rest) (records k ++ t.gate ∷ t.free) refl (sym (append_assoc header (records h) rest) ∙ sym whole ∙ t.whole ∙ append_assoc header (records k) (t.gate ∷ t.free)))
+
+-- of two lists of payloads whose records begin one list, one comes first in the other
+meets_behind : (h k : Payloads) (r s : List ℕ) → ArePayloads h → ArePayloads k → records h ++ r ≡ records k ++ s →
+    ((more : Payloads) × (k ≡ h ++ more)) ⊎ ((more : Payloads) × (h ≡ k ++ more))
+meets_behind [] k r s ph pk is = inl (k, refl)
+meets_behind (p ∷ h) [] r s ph pk is = inr (p ∷ h, refl)
+meets_behind (p ∷ h) (q ∷ k) r s ph pk is = go (meets_behind h k r s ph.1 pk.1 both.1)
+  where
+    both : (p ≡ q) × (records h ++ r ≡ records k ++ s)
+    both = first_same p q (records h ++ r) (records k ++ s) ph.0 pk.0 (sym (append_assoc (body_of p) (records h) r) ∙ tails 1 1 _ _ is ∙ append_assoc (body_of q) (records k) s)
+
+    go : ((more : Payloads) × (k ≡ h ++ more)) ⊎ ((more : Payloads) × (h ≡ k ++ more)) →
+        ((more : Payloads) × (q ∷ k ≡ (p ∷ h) ++ more)) ⊎ ((more : Payloads) × (p ∷ h ≡ (q ∷ k) ++ more))
+    go (inl first) = inl (first.0, ap (λ (x : List ℕ). x ∷ k) (sym both.0) ∙ ap (λ (l : Payloads). p ∷ l) first.1)
+    go (inr first) = inr (first.0, ap (λ (x : List ℕ). x ∷ h) both.0 ∙ ap (λ (l : Payloads). q ∷ l) first.1)
+
+-- of two lists of payloads with whose records a file begins, one comes first in the other
+pub meets : (file r s : List ℕ) (h k : Payloads) → file ≡ front h ++ r → file ≡ front k ++ s → ArePayloads h → ArePayloads k →
+    ((more : Payloads) × (k ≡ h ++ more)) ⊎ ((more : Payloads) × (h ≡ k ++ more))
+meets file r s h k one other ph pk = meets_behind h k r s ph pk
+    (same_back header header (records h ++ r) (records k ++ s) refl (sym (append_assoc header (records h) r) ∙ sym one ∙ other ∙ append_assoc header (records k) s))
+
+unended_behind : (h more : Payloads) (x rest s : List ℕ) → ArePayloads (h ++ x ∷ more) → IsBroken rest → records h ++ rest ≡ records (h ++ x ∷ more) ++ s → ⊥
+unended_behind [] more x rest s are broken is =
+    ⊎_elim (λ none. let bad : ⊥ = cc (none, is) in bad)
+    (λ open_gate. open_gate.2 x (records more ++ s) are.0 (tails 1 1 _ _ (sym open_gate.1 ∙ is) ∙ append_assoc (body_of x) (records more) s)) broken
+unended_behind (p ∷ h) more x rest s are broken is =
+    let both = first_same p p (records h ++ rest) (records (h ++ x ∷ more) ++ s) are.0 are.0 (sym (append_assoc (body_of p) (records h) rest) ∙ tails 1 1 _ _ is ∙ append_assoc (body_of p) (records (h ++ x ∷ more)) s) in
+    unended_behind h more x rest s are.1 broken both.1
+
+-- a file isn't damaged behind payloads where the record of one more stands
+pub unended : (file s : List ℕ) (h more : Payloads) (x : List ℕ) (place : ℕ) → file ≡ front (h ++ x ∷ more) ++ s → ArePayloads (h ++ x ∷ more) → IsDamagedAt place file h → ⊥
+unended file s h more x place whole are d = unended_behind h more x d.rest s are d.broken
+    (same_back header header (records h ++ d.rest) (records (h ++ x ∷ more) ++ s) refl (sym (append_assoc header (records h) d.rest) ∙ sym d.whole ∙ whole ∙ append_assoc header (records (h ++ x ∷ more)) s))
 
 -- a file that stands for payloads is born
 pub born : (file : List ℕ) (h : Payloads) → StandsFor file h → IsBorn file

@@ -4,5 +4,6 @@ pub mod Histories
 pub mod Images
 pub mod Legality
 pub mod NoFault
+pub mod OneFault
 pub mod Openings
 pub mod Sound

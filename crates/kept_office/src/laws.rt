@@ -17,6 +17,11 @@ pub fn unfaulty()
     ensures { (file : List ℕ) (history : List Filing) (place : ℕ) → Recovers file history → IsFaultyAt file place → ⊥ }
 {}
 
+/// A file has one faulty place at most, so that the place that an opening names is the place.
+pub fn one_fault()
+    ensures { (file : List ℕ) (place other : ℕ) → IsFaultyAt file place → IsFaultyAt file other → place ≡ other }
+{}
+
 /// After any list of turns, faults, crashes and openings a file that a crash left recovers the history before, and
 /// after it each filing that was admitted, each that was uncertain at a crash or not, and no other, in the order in
 /// which they were filed. The history that it recovers is legal, so no key stands twice in it.

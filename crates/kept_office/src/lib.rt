@@ -12,4 +12,4 @@ mod tests;
 
 pub use filing_journal::OpenError;
 pub use kept::{FoundFault, KeptOffice};
-pub use laws::{lives, once, unfaulty};
+pub use laws::{lives, once, one_fault, unfaulty};
