@@ -16,7 +16,7 @@ use Rattle.kept_office.proofs.Faults.{read_nothing}
 use Rattle.aid_office.specs.Words.{IsFile}
 use Rattle.aid_office.specs.Refusals.{open_stop}
 use Rattle.aid_office.specs.Ending.{HasReason, HasStopped, IsStopped, IsUnopened, Suits, fault_line, is_disk_fault, reported, status_of, unreported}
-use Rattle.aid_office.specs.RowStops.{IsLate, IsOfFile, IsOfFiling, IsOfReading}
+use Rattle.aid_office.specs.RowStops.{IsLate, IsOfFile, IsOfFiling, IsOfFounding, IsOfReading}
 use Rattle.aid_office.specs.declared.stop.Stop.{Stop}
 use Rattle.aid_office.specs.declared.stop.Stop.TheVariants.{Usage, Read, Write, DiskFault, NoOffice, NotJournal, Exists, Damaged, TooLong, NoMemory}
 
@@ -151,6 +151,16 @@ pub of_reading : (stop : Stop) → (stop ≡ Read) ⊎ ((stop ≡ TooLong) ⊎ (
 of_reading stop (inl is) = subst IsOfReading (sym is) tt
 of_reading stop (inr (inl is)) = subst IsOfReading (sym is) tt
 of_reading stop (inr (inr is)) = subst IsOfReading (sym is) tt
+
+-- neither of these two comes from the journal or after it
+pub not_filing : {U : Type 0} (ended : Result U Stop) (P : Type 0) → IfErr ended IsOfFiling → (ended ≡ Err Read) ⊎ (ended ≡ Err TooLong) → P
+not_filing {U} ended P of (inl is) = absurd (subst (λ (e : Result U Stop). IfErr e IsOfFiling) is of)
+not_filing {U} ended P of (inr is) = absurd (subst (λ (e : Result U Stop). IfErr e IsOfFiling) is of)
+
+-- nor from a founding
+pub not_founding : {U : Type 0} (ended : Result U Stop) (P : Type 0) → IfErr ended IsOfFounding → (ended ≡ Err Read) ⊎ (ended ≡ Err TooLong) → P
+not_founding {U} ended P of (inl is) = absurd (subst (λ (e : Result U Stop). IfErr e IsOfFounding) is of)
+not_founding {U} ended P of (inr is) = absurd (subst (λ (e : Result U Stop). IfErr e IsOfFounding) is of)
 
 pub read_of_file : (stop : Stop) → (stop ≡ Read) ⊎ ((stop ≡ TooLong) ⊎ (stop ≡ NoMemory)) → IsOfFile stop
 read_of_file stop (inl is) = subst IsOfFile (sym is) tt

@@ -64,6 +64,43 @@ read_before (Err stop) status old new Whole h low high of = from of (fault_of st
     from (inl reading) (inl is) = absurd (not_reading stop (omega (arith, low, is)) (omega (arith, high, is)) reading)
     from (inl reading) (inr four) = absurd (omega (arith, low, four.0))
 
+-- the stops with the statuses of a read and of the limit
+reading_of : (stop : Stop) → (status_of stop ≡ 3) ⊎ (status_of stop ≡ 8) → (stop ≡ Read) ⊎ (stop ≡ TooLong)
+reading_of Read s = inl refl
+reading_of TooLong s = inr refl
+reading_of Usage (inl is) = absurd (omega (arith, is))
+reading_of Usage (inr is) = absurd (omega (arith, is))
+reading_of Write (inl is) = absurd (omega (arith, is))
+reading_of Write (inr is) = absurd (omega (arith, is))
+reading_of (DiskFault undecided) (inl is) = absurd (omega (arith, is))
+reading_of (DiskFault undecided) (inr is) = absurd (omega (arith, is))
+reading_of NoOffice (inl is) = absurd (omega (arith, is))
+reading_of NoOffice (inr is) = absurd (omega (arith, is))
+reading_of NotJournal (inl is) = absurd (omega (arith, is))
+reading_of NotJournal (inr is) = absurd (omega (arith, is))
+reading_of Exists (inl is) = absurd (omega (arith, is))
+reading_of Exists (inr is) = absurd (omega (arith, is))
+reading_of (Damaged place) (inl is) = absurd (omega (arith, is))
+reading_of (Damaged place) (inr is) = absurd (omega (arith, is))
+reading_of NoMemory (inl is) = absurd (omega (arith, is))
+reading_of NoMemory (inr is) = absurd (omega (arith, is))
+
+named : {U : Type 0} (ended : Result U Stop) (stop : Stop) → ended ≡ Err stop → (stop ≡ Read) ⊎ (stop ≡ TooLong) → (ended ≡ Err Read) ⊎ (ended ≡ Err TooLong)
+named ended stop e (inl is) = inl (e ∙ ap Err is)
+named ended stop e (inr is) = inr (e ∙ ap Err is)
+
+stopped_at : {U : Type 0} (ended : Result U Stop) (stop : Stop) (status old new : ℕ) → ended ≡ Err stop → (status ≡ 3) ⊎ (status ≡ 8) →
+    (status ≡ status_of stop) ⊎ ((status ≡ 4) × Rose old new) → (ended ≡ Err Read) ⊎ (ended ≡ Err TooLong)
+stopped_at ended stop status old new e (inl three) (inl is) = named ended stop e (reading_of stop (inl (sym is ∙ three)))
+stopped_at ended stop status old new e (inr eight) (inl is) = named ended stop e (reading_of stop (inr (sym is ∙ eight)))
+stopped_at ended stop status old new e (inl three) (inr four) = absurd (omega (arith, three, four.0))
+stopped_at ended stop status old new e (inr eight) (inr four) = absurd (omega (arith, eight, four.0))
+
+pub read_stop : {U : Type 0} (ended : Result U Stop) (status old new : ℕ) → HasStatus ended status old new → (status ≡ 3) ⊎ (status ≡ 8) → (ended ≡ Err Read) ⊎ (ended ≡ Err TooLong)
+read_stop (Ok u) status old new h (inl is) = absurd (omega (arith, is, not_done u status old new h))
+read_stop (Ok u) status old new h (inr is) = absurd (omega (arith, is, not_done u status old new h))
+read_stop (Err stop) status old new h s = stopped_at (Err stop) stop status old new refl s (fault_of stop status old new h)
+
 split : (m n : ℕ) → m ≤ n → (m ≡ n) ⊎ (m < n)
 split zero zero le = inl refl
 split zero (suc n) le = inr (omega arith)

@@ -158,6 +158,7 @@ fn file_input<D: Disk, S: Source, K: Sink>(
         → OnOk result.0 ((length (S.left input.old) ≤ INPUT_LIMIT) × (S.left input.new ≡ [])) }
     ensures read_first { IsTrue (S.honest input.old)
         → IfErr result.0 (λ stop. IsOfReading stop ⊎ ((length (S.left input.old) ≤ INPUT_LIMIT) × (S.left input.new ≡ []))) }
+    ensures unopened { (result.0 ≡ Err Stop.Read) ⊎ (result.0 ≡ Err Stop.TooLong) → result.1 ≡ disk }
     ensures recovered { IsHonest (D.tells disk) → OnOk result.0 ((past : List Filing) × Recovers (D.tells disk).reads past) }
     ensures answered { IsHonest (D.tells disk) → IsTrue (S.honest input.old) → IsTrue (K.honest out.old)
         → (past : List Filing) → Recovers (D.tells disk).reads past
@@ -252,7 +253,8 @@ pub fn run<D: Disk, S: Source, K: Sink>(
     ensures past_limit { IsTrue (S.honest input.old) → INPUT_LIMIT + length (S.left input.new) < length (S.left input.old)
         → ((result.0 ≡ 8) ⊎ (result.0 ≡ 4) ⊎ (result.0 ≡ 9)) × (result.1 ≡ disk) }
 
-    // 5, 6 and 7 come only after the input was read to its end: the journal isn't opened before.
+    // At 3 and 8 the disk is as it was. 5, 6 and 7 come from `file` only where the input was read to its end.
+    ensures unopened { (result.0 ≡ 3) ⊎ (result.0 ≡ 8) → result.1 ≡ disk }
     ensures read_first { IsFile (map string_bytes words.now.items) → IsTrue (S.honest input.old) → 5 ≤ result.0 → result.0 ≤ 7
         → (length (S.left input.old) ≤ INPUT_LIMIT) × (S.left input.new ≡ []) }
 

@@ -1,6 +1,6 @@
 // What no clause says: worked texts and files, that memory suffices for them, and what each fault leaves.
 use crate::session::{INPUT_LIMIT, run};
-use aid_edges::{MemorySink, SteadySource};
+use aid_edges::{MemorySink, MemorySource, SteadySource};
 use disk_model::{Fill, MemoryDisk, Stop};
 use std::alloc::{AllocError, Global};
 use std::test::Fail;
@@ -10,6 +10,13 @@ const FIRST: &[u8] = b"school,0,1,110,2,12\nprior,0,2,5001,550000\n";
 const ACCEPTED: &[u8] = b"1 0 accepted 1 noted\n2 1 accepted 2 noted\n";
 
 const AGAIN: &[u8] = b"1 2 again 1 noted\n2 2 again 2 noted\n";
+
+// Each of these breaks a rule once the two first filings stand, but for the last, which is the first again.
+const REFUSED: &[u8] =
+    b"school,0,4,110,3,24\nprior,0,5,5001,1\nprior,0,6,5002,600001\nprior,110,1,5002,1\nschool,0,1,110,2,12\n";
+
+const REFUSALS: &[u8] =
+    b"1 2 refused 13 1 110\n2 2 refused 80 2 5001\n3 2 refused 81 600001 600000\n4 2 refused 14 110 0\n5 2 again 1 noted\n";
 
 // A founded file without filings.
 const EMPTY: &[u8] = b"\x01AIDPELL1\x01\0\0\0\0\0\0\0";
@@ -46,7 +53,7 @@ fn ran(
 #[test]
 fn runs_follow_each_other(rt: HostRuntime) -> Result<(), Fail> {
     let alloc = rt.alloc();
-    let rows: [(&str, &[u8], u8, &[u8], usize); 10] = [
+    let rows: [(&str, &[u8], u8, &[u8], usize); 11] = [
         ("file", FIRST, 6, b"fault no office\n", 0),
         ("found", b"", 0, b"founded\n", 17),
         ("file", FIRST, 0, ACCEPTED, 71),
@@ -59,6 +66,7 @@ fn runs_follow_each_other(rt: HostRuntime) -> Result<(), Fail> {
             b"1 2 refused 15 2 2\n",
             71,
         ),
+        ("file", REFUSED, 0, REFUSALS, 71),
         ("file", b"prior,0,x,5001,1", 0, b"1 error 3 3\n", 71),
         ("file", b"loan,0,9", 0, b"1 error 1 1\n", 71),
         ("quote", b"", 2, b"fault usage\n", 71),
@@ -171,6 +179,28 @@ fn write_faults_end_a_run(rt: HostRuntime) -> Result<(), Fail> {
         assert_eq!(rt; status, 4, "{word} {call}");
         assert_eq!(rt; sink.text(), text, "{word} {call}");
         assert_eq!(rt; after.image().len(), size, "{word} {call}");
+    }
+    Ok(())
+}
+
+// The input is read by two calls, the last of which finds its end.
+#[test]
+fn read_faults_end_a_run(rt: HostRuntime) -> Result<(), Fail> {
+    let alloc = rt.alloc();
+    let words = vec![in alloc; String::from_str(alloc, "file")?]?;
+    for call in [1, 2] {
+        let mut source = MemorySource::new(FIRST.to_vec(alloc)?, vec![in alloc; call]?);
+        let mut sink = MemorySink::new(alloc, Vec::new(alloc));
+        let (status, after) = run(
+            alloc,
+            &words,
+            disk(alloc, EMPTY, &[], None)?,
+            &mut source,
+            &mut sink,
+        );
+        assert_eq!(rt; status, 3, "{call}");
+        assert_eq!(rt; sink.text(), b"fault read\n".as_slice(), "{call}");
+        assert_eq!(rt; after.image(), EMPTY, "{call}");
     }
     Ok(())
 }

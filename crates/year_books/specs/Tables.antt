@@ -1,5 +1,5 @@
 -- The tables of a book: their rows, and the first row that does not go on from the one before it. Each row of a table by
--- amount begins with the value that the one before it has there (HEA 475(e), 476(e), 477(d)); a table by age rises (HEA 475(d)).
+-- amount begins with the value that the one before it has there (HEA 475(e), 477(d), 478(c)); a table by age rises (HEA 478(d)).
 use Rattle.std.specs.Prelude.{ℕ, suc, ◌+◌, ◌-◌, ℤ, pos, int_lt, Bool, ◌&&◌, List, [], ◌∷◌, Option, Some, None, slice_index_or, if◌then◌else◌}
 use Rattle.std.specs.Ordering.{int_eq}
 use Rattle.aid_num.specs.Nearest.{share}

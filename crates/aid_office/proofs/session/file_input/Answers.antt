@@ -7,7 +7,7 @@ use Rattle.desk_forms.specs.Rows.{rows_of_text}
 use Rattle.aid_office.specs.Ending.{IsStopped, IsStoppedOver, RecoversFront, WasOpened}
 use Rattle.aid_office.specs.FileText.{file_text, history_after}
 use Rattle.aid_office.specs.RowStops.{IsOfFile, IsOfFiling}
-use Rattle.aid_office.proofs.Reasons.{any_ok, err_map, filing_of_file, of_reading, read_no_fault, read_of_file, read_reason, read_stopped, read_unopened}
+use Rattle.aid_office.proofs.Reasons.{any_ok, err_map, filing_of_file, not_filing, of_reading, read_no_fault, read_of_file, read_reason, read_stopped, read_unopened}
 use Rattle.aid_office.proofs.session.file_input.Goals as goal
 
 pub returns-in-Ok-clause-whole : goal.returns-in-Ok-clause-whole
@@ -16,6 +16,9 @@ returns-in-Ok-clause-whole g c source = any_ok c.file_journal.result.0 _ (c.in-O
 pub returns-in-Ok-clause-read_first : goal.returns-in-Ok-clause-read_first
 returns-in-Ok-clause-read_first g c source =
     err_map c.file_journal.result.0 IsOfFiling _ (λ stop of. inr (c.in-Ok.ensures.whole source)) c.file_journal.ensures.causes
+
+pub returns-in-Ok-clause-unopened : goal.returns-in-Ok-clause-unopened
+returns-in-Ok-clause-unopened g c = not_filing c.file_journal.result.0 (c.file_journal.result.1 ≡ c.args.disk) c.file_journal.ensures.causes
 
 pub returns-in-Ok-clause-answered : goal.returns-in-Ok-clause-answered
 returns-in-Ok-clause-answered g c honest source sink past recovers =

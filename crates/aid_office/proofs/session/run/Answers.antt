@@ -1,4 +1,4 @@
-use Rattle.std.proofs.Common.{◌∙◌, Err, Global, IsTrue, Result, ap, arith, map, refl, string_bytes, subst, sym}
+use Rattle.std.proofs.Common.{◌≡◌, ◌∙◌, Err, Global, IsTrue, Result, ap, arith, map, refl, string_bytes, subst, sym}
 use Rattle.aid_office.specs.Ending.{HasReason, IsFoundStopped, IsStopped, IsStoppedOver, is_disk_fault}
 use Rattle.aid_edges.specs.Faults.{Rose}
 use Rattle.aid_office.specs.Words.{IsFile, IsFound, IsRow}
@@ -7,14 +7,19 @@ use Rattle.aid_office.specs.declared.stop.Stop.TheVariants.{Usage}
 use Rattle.desk_forms.specs.Rows.{rows_of_text}
 use Rattle.kept_office.proofs.Faults.{read_nothing}
 use Rattle.aid_office.proofs.Complete.{filed_all, founded_all}
-use Rattle.aid_office.proofs.Reasons.{err_both, err_map, has_stopped}
-use Rattle.aid_office.proofs.Statuses.{is_status, past_status, read_before, rose_after, rose_before}
+use Rattle.aid_office.proofs.Reasons.{err_both, err_map, has_stopped, not_founding}
+use Rattle.aid_office.proofs.Statuses.{is_status, past_status, read_before, read_stop, rose_after, rose_before}
 use Rattle.aid_office.proofs.Usage.{found_reads_nothing, found_takes_nothing, unnamed}
 use Rattle.aid_office.proofs.session.run.Goals as goal
 
 pub returns-then-are_word-clause-status : goal.returns-then-are_word-clause-status
 returns-then-are_word-clause-status g c =
     is_status c.found_office-ended.result.0 c.end.result (g.K.Sink.faults c.found_office-ended.new.out) (g.K.Sink.faults c.end.new.out) record { well = c.end.ensures.well; fault = c.end.ensures.status }
+
+pub returns-then-are_word-clause-unopened : goal.returns-then-are_word-clause-unopened
+returns-then-are_word-clause-unopened g c reading =
+    not_founding c.found_office-ended.result.0 (c.found_office-ended.result.1 ≡ c.args.disk) c.found_office-ended.ensures.causes
+    (read_stop c.found_office-ended.result.0 c.end.result (g.K.Sink.faults c.found_office-ended.new.out) (g.K.Sink.faults c.end.new.out) record { well = c.end.ensures.well; fault = c.end.ensures.status } reading)
 
 pub returns-then-are_word-clause-reason : goal.returns-then-are_word-clause-reason
 returns-then-are_word-clause-reason g c honest sink ne =
@@ -75,6 +80,11 @@ pub returns-then-are_word-2-clause-read_first : goal.returns-then-are_word-2-cla
 returns-then-are_word-2-clause-read_first g c file source low high =
     read_before c.file_input-ended.result.0 c.end-then-are_word-2.result (g.K.Sink.faults c.file_input-ended.new.out) (g.K.Sink.faults c.end-then-are_word-2.new.out) _
     record { well = c.end-then-are_word-2.ensures.well; fault = c.end-then-are_word-2.ensures.status } low high (c.file_input-ended.ensures.read_first source)
+
+pub returns-then-are_word-2-clause-unopened : goal.returns-then-are_word-2-clause-unopened
+returns-then-are_word-2-clause-unopened g c reading =
+    c.file_input-ended.ensures.unopened
+    (read_stop c.file_input-ended.result.0 c.end-then-are_word-2.result (g.K.Sink.faults c.file_input-ended.new.out) (g.K.Sink.faults c.end-then-are_word-2.new.out) record { well = c.end-then-are_word-2.ensures.well; fault = c.end-then-are_word-2.ensures.status } reading)
 
 pub returns-then-are_word-2-clause-complete : goal.returns-then-are_word-2-clause-complete
 returns-then-are_word-2-clause-complete g c file source fits honest born whole no_source no_sink no_disk =
