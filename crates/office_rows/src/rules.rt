@@ -238,6 +238,41 @@ fn a_correction_against_the_award(rt: HostRuntime) -> Result<(), Fail> {
     assert_filed(&rt, &mut office, rows)
 }
 
+// Under the corrected award of 2,295 dollars each of three terms and the two main ones are within their limits, and one
+// and a half awards are 3,442.50.
+#[test]
+fn a_correction_against_the_year(rt: HostRuntime) -> Result<(), Fail> {
+    let mut office = base(&rt, rt.alloc())?;
+    let rows = [
+        (filing(110, 20, enrol(5001, 3, 12)), noted()),
+        (
+            filing(110, 21, pay(5001, 1, Program::Pell, 114_800)),
+            paid(114_800, 15_524),
+        ),
+        (
+            filing(110, 22, pay(5001, 2, Program::Pell, 114_700)),
+            paid(229_500, 31_034),
+        ),
+        (
+            filing(110, 23, pay(5001, 3, Program::Pell, 114_800)),
+            paid(344_300, 46_558),
+        ),
+        (
+            filing(110, 24, What::Apply(application(5001, 2, 84_987))),
+            refused(93, 344_300, 344_250),
+        ),
+        (
+            filing(110, 25, adjust(5001, 3, Program::Pell, 100)),
+            noted(),
+        ),
+        (
+            filing(110, 24, What::Apply(application(5001, 2, 84_987))),
+            indexed(5100, Way::Calculated, 2295),
+        ),
+    ];
+    assert_filed(&rt, &mut office, rows)
+}
+
 // Under the corrected award of 2,290 dollars, 1,145 are half of a year's use.
 #[test]
 fn a_correction_against_the_lifetime_limit(rt: HostRuntime) -> Result<(), Fail> {
@@ -493,6 +528,42 @@ fn what_could_have_been_disbursed(rt: HostRuntime) -> Result<(), Fail> {
         (filing(110, 20, within), returned(10, 0, 0, 24_000)),
     ];
     assert_filed(&rt, &mut office, rows)
+}
+
+// The other main term has 3,698 of the 7,395 dollars of the year.
+#[test]
+fn what_could_have_been_disbursed_in_the_year(rt: HostRuntime) -> Result<(), Fail> {
+    let mut office = base(&rt, rt.alloc())?;
+    let day = (20_325, 20_325);
+    let past = withdraw(5001, 1, day, 0, [0, 0, 0, 369_800, 0, 0]);
+    let within = withdraw(5001, 1, day, 0, [0, 0, 0, 369_700, 0, 0]);
+    let rows = [
+        (
+            filing(110, 20, pay(5001, 2, Program::Pell, 369_800)),
+            paid(369_800, 50_007),
+        ),
+        (filing(110, 21, past), refused(63, 739_600, 739_500)),
+        (filing(110, 21, within), returned(10, 0, 0, 3697)),
+    ];
+    assert_filed(&rt, &mut office, rows)
+}
+
+// 3,698 dollars of 7,395 take 50,007 units.
+#[test]
+fn what_could_have_been_disbursed_in_a_lifetime(rt: HostRuntime) -> Result<(), Fail> {
+    for (units, verdict) in [
+        (549_994, refused(63, 600_001, 600_000)),
+        (549_993, returned(10, 0, 0, 3698)),
+    ] {
+        let mut office = base(&rt, rt.alloc())?;
+        let withdrawn = withdraw(5001, 1, (20_325, 20_325), 0, [0, 0, 0, 369_800, 0, 0]);
+        let rows = [
+            (filing(0, 20, prior(5001, units)), noted()),
+            (filing(110, 20, withdrawn), verdict),
+        ];
+        assert_filed(&rt, &mut office, rows)?;
+    }
+    Ok(())
 }
 
 // 300 dollars in all may be paid after the withdrawal, and 100 of them as Pell.
