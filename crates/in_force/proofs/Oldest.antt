@@ -1,7 +1,7 @@
 -- A search from the oldest filing on finds the position that the history tells.
-use Rattle.std.proofs.Common.{◌≡◌, ℕ, zero, suc, ◌+◌, refl, sym, ap, ◌∙◌, cond, arith, Bool, true, false, not, List, [], ◌∷◌, ◌++◌, length, reverse, Option, Some, None, length-append, Bor}
+use Rattle.std.proofs.Common.{◌≡◌, ℕ, zero, suc, ◌+◌, refl, sym, ap, ◌∙◌, cond, arith, Bool, ◌||◌, true, false, not, List, [], ◌∷◌, ◌++◌, length, reverse, Option, Some, None, length-append, Bor}
 use Rattle.std.specs.Prelude.{nat_lt}
-use Rattle.std.specs.List.{position, position_or_len}
+use Rattle.std.specs.List.{position, position_or_len, list_any}
 use Rattle.std.proofs.lemmas.List.{reverse-append}
 use Rattle.std.proofs.lemmas.Bool.Decides.{nat_tests}
 use Rattle.std.proofs.lemmas.Iterator.{YieldsList-from_slice}
@@ -66,7 +66,20 @@ found_first p (f ∷ h) =
     ∙ sym (first_at-oldest p (reverse h) f)
     ∙ ap (first_at p) (sym (reverse-append (f ∷ []) h))
 
--- the same of a closure that tests each filing
+-- a filing passes where there is a first that does
+one_passes : (b : Bool) (n : ℕ) → (b || nat_lt 0 n) ≡ nat_lt 0 (shifted b n)
+one_passes true n = refl
+one_passes false zero = refl
+one_passes false (suc n) = grind (arith, nat_tests)
+
+pub any_first : (p : Filing → Bool) (h : List Filing) → list_any p h ≡ nat_lt 0 (first_at p (reverse h))
+any_first p [] = refl
+any_first p (f ∷ h) =
+    ap (λ (b : Bool). p f || b) (any_first p h)
+    ∙ one_passes (p f) (first_at p (reverse h))
+    ∙ ap (nat_lt 0) (sym (first_at-oldest p (reverse h) f) ∙ ap (first_at p) (sym (reverse-append (f ∷ []) h)))
+
+-- the position that a closure finds, which tests each filing
 pub placed : {F : Type 0} (test : Filing → Bool) (g : Mut F (Bor Filing × Unit {0}) Bool) (f : F) (s u : Iter Filing) (h : List Filing) (r : Option ℕ)
     → iter_rest s ≡ h → FindsPosition iter_steps g s f r u
     → ((x : Bor Filing) (b : Bool) (q : F) → Called g f (x, tt) b q → (q ≡ f) × (b ≡ test x.now))

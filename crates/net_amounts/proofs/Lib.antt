@@ -1,4 +1,5 @@
 pub mod Sixes
+pub mod Strangers
 pub mod TermDays
 pub mod Ranges
 pub mod Prefixes

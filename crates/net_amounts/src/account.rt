@@ -1,9 +1,10 @@
 //! What moved in a student's term at a school.
-ghost use Rattle.std.specs.Prelude.{◌≡◌, ◌≤◌, reverse};
+ghost use Rattle.std.specs.Prelude.{◌≡◌, ◌≤◌, length, reverse, take};
 ghost use Rattle.aid_types.specs.Programs.{rank as rank_of};
 ghost use Rattle.office_history.specs.Answer.{IsLegal};
 ghost use Rattle.office_history.specs.FactsOf.{cell_at};
 ghost use Rattle.office_history.specs.Net.{is_cell, in_term, net_at as net_of_cell, owed as owed_at, repaid as repaid_at, post as post_at, paid_after as paid_after_at};
+ghost use Rattle.in_force.specs.Names.{NoneNames};
 ghost use Rattle.net_amounts.specs.Accounts.{IsAccount, HasSums, both, joined, AreSums};
 
 use crate::entry::{Place, entry};
@@ -71,16 +72,19 @@ fn sums(amounts: &[u64; 6], more: &[u64; 6]) -> [u64; 6]
     ]
 }
 
-/// A student's account in a term of a school's year, over all the filings. A withdrawal is worked out on what moved in its
-/// own term before it.
+/// A student's account in a term of a school's year, over all the filings, of which none before `since` is about the student.
+/// A withdrawal is worked out on what moved in its own term before it.
 pub fn account_of(
     history: &[Filing],
+    since: usize,
     school: School,
     student: Student,
     year: Year,
     term: u8,
 ) -> Account
-    requires { IsLegal (reverse history.now) }
+    requires legal { IsLegal (reverse history.now) }
+    requires since { since ≤ length history.now }
+    requires none { NoneNames student (reverse (take since history.now)) }
     ensures { IsAccount (reverse history.now) school student year term result }
 {
     let place = Place {
@@ -90,8 +94,8 @@ pub fn account_of(
         term,
     };
     let mut so_far = Account::EMPTY;
-    for (index, filing) in history.iter().enumerate() {
-        if let Some(moved) = entry(&history[..index], filing, &place, &so_far) {
+    for index in since..history.len() {
+        if let Some(moved) = entry(&history[..index], &history[index], &place, &so_far) {
             so_far = so_far.joined(&moved);
         }
     }
@@ -102,17 +106,20 @@ pub fn account_of(
 /// adjustments.
 pub fn net_at(
     history: &[Filing],
+    since: usize,
     school: School,
     student: Student,
     year: Year,
     term: u8,
     program: Program,
 ) -> u64
-    requires { IsLegal (reverse history.now) }
+    requires legal { IsLegal (reverse history.now) }
+    requires since { since ≤ length history.now }
+    requires none { NoneNames student (reverse (take since history.now)) }
     ensures value { result ≡ net_of_cell (reverse history.now) (cell_at school student year term (rank_of program)) }
     ensures at_most { result ≤ 99999999 }
 {
-    let moved = account_of(history, school, student, year, term);
+    let moved = account_of(history, since, school, student, year, term);
     let rank = program.rank();
     moved.paid[rank].saturating_sub(moved.taken[rank])
 }
@@ -120,69 +127,90 @@ pub fn net_at(
 /// What withdrawals left a student to repay of a program in a term of a school, in cents.
 pub fn owed(
     history: &[Filing],
+    since: usize,
     school: School,
     student: Student,
     year: Year,
     term: u8,
     program: Program,
 ) -> u64
-    requires { IsLegal (reverse history.now) }
+    requires legal { IsLegal (reverse history.now) }
+    requires since { since ≤ length history.now }
+    requires none { NoneNames student (reverse (take since history.now)) }
     ensures { result ≡ owed_at (reverse history.now) (is_cell (cell_at school student year term (rank_of program))) }
 {
-    account_of(history, school, student, year, term).owed[program.rank()]
+    account_of(history, since, school, student, year, term).owed[program.rank()]
 }
 
 /// What a student repaid of a program in a term of a school, in cents.
 pub fn repaid(
     history: &[Filing],
+    since: usize,
     school: School,
     student: Student,
     year: Year,
     term: u8,
     program: Program,
 ) -> u64
-    requires { IsLegal (reverse history.now) }
+    requires legal { IsLegal (reverse history.now) }
+    requires since { since ≤ length history.now }
+    requires none { NoneNames student (reverse (take since history.now)) }
     ensures value { result ≡ repaid_at (reverse history.now) (is_cell (cell_at school student year term (rank_of program))) }
     ensures at_most { result ≤ 20000000000000 }
 {
-    account_of(history, school, student, year, term).repaid[program.rank()]
+    account_of(history, since, school, student, year, term).repaid[program.rank()]
 }
 
 /// What was paid of a program to a student in a term of a school after the withdrawal from it, in cents.
 pub fn paid_after(
     history: &[Filing],
+    since: usize,
     school: School,
     student: Student,
     year: Year,
     term: u8,
     program: Program,
 ) -> u64
-    requires { IsLegal (reverse history.now) }
+    requires legal { IsLegal (reverse history.now) }
+    requires since { since ≤ length history.now }
+    requires none { NoneNames student (reverse (take since history.now)) }
     ensures value { result ≡ paid_after_at (reverse history.now) (is_cell (cell_at school student year term (rank_of program))) }
     ensures at_most { result ≤ 20000000000000 }
 {
-    account_of(history, school, student, year, term).after[program.rank()]
+    account_of(history, since, school, student, year, term).after[program.rank()]
 }
 
 /// The same of all programs.
 pub fn paid_after_all(
     history: &[Filing],
+    since: usize,
     school: School,
     student: Student,
     year: Year,
     term: u8,
 ) -> u64
-    requires { IsLegal (reverse history.now) }
+    requires legal { IsLegal (reverse history.now) }
+    requires since { since ≤ length history.now }
+    requires none { NoneNames student (reverse (take since history.now)) }
     ensures value { result ≡ paid_after_at (reverse history.now) (in_term school student year term) }
     ensures at_most { result ≤ 20000000000000 }
 {
-    account_of(history, school, student, year, term).after_all
+    account_of(history, since, school, student, year, term).after_all
 }
 
 /// The post-withdrawal amount of a student's term at a school, in cents.
-pub fn post(history: &[Filing], school: School, student: Student, year: Year, term: u8) -> u64
-    requires { IsLegal (reverse history.now) }
+pub fn post(
+    history: &[Filing],
+    since: usize,
+    school: School,
+    student: Student,
+    year: Year,
+    term: u8,
+) -> u64
+    requires legal { IsLegal (reverse history.now) }
+    requires since { since ≤ length history.now }
+    requires none { NoneNames student (reverse (take since history.now)) }
     ensures { result ≡ post_at (reverse history.now) (in_term school student year term) }
 {
-    account_of(history, school, student, year, term).post
+    account_of(history, since, school, student, year, term).post
 }

@@ -1,12 +1,13 @@
 //! Nets of many cells: a student's program in a year, or all programs at a school.
-ghost use Rattle.std.specs.Prelude.{◌≡◌, ◌≤◌, ◌∷◌, reverse, if◌then◌else◌};
+ghost use Rattle.std.specs.Prelude.{◌≡◌, ◌≤◌, ◌∷◌, length, reverse, take, if◌then◌else◌};
 ghost use Rattle.aid_types.specs.Programs.{rank as rank_of};
 ghost use Rattle.office_history.specs.Answer.{IsLegal};
 ghost use Rattle.office_history.specs.FactsOf.{cell_at};
 ghost use Rattle.office_history.specs.Net.{net, in_year, pell_main, at_school_in_year, cell_of, moved, moves_at, net_at, payments_in, takings_in, sheet as sheet_after};
 ghost use Rattle.office_history.specs.Past.{the_term, is_extra as is_extra_term};
 ghost use Rattle.office_history.specs.Sheets.{CanBeWorkedOut};
-ghost use Rattle.net_amounts.specs.CellTests.{test_of, are_of};
+ghost use Rattle.in_force.specs.Names.{NoneNames};
+ghost use Rattle.net_amounts.specs.CellTests.{test_of, are_of, student_of};
 
 use crate::sheets::sheet;
 use aid_types::{Amount, Filing, Key, Program, School, Student, What, WithdrawFacts, Year};
@@ -22,41 +23,62 @@ pub enum Cells {
 }
 
 /// A student's net of a program in a year, at all schools, in cents.
-pub fn net_in_year(history: &[Filing], student: Student, year: Year, program: Program) -> u64
-    requires { IsLegal (reverse history.now) }
+pub fn net_in_year(
+    history: &[Filing],
+    since: usize,
+    student: Student,
+    year: Year,
+    program: Program,
+) -> u64
+    requires legal { IsLegal (reverse history.now) }
+    requires since { since ≤ length history.now }
+    requires none { NoneNames student (reverse (take since history.now)) }
     ensures value { result ≡ net (reverse history.now) (in_year student year (rank_of program)) }
     ensures at_most { result ≤ 20000000000000 }
 {
-    net_of(history, &Cells::InYear(student, year, program))
+    net_of(history, since, &Cells::InYear(student, year, program))
 }
 
 /// A student's net Pell in the main terms of a year, at all schools, in cents.
-pub fn net_of_main_terms(history: &[Filing], student: Student, year: Year) -> u64
-    requires { IsLegal (reverse history.now) }
+pub fn net_of_main_terms(history: &[Filing], since: usize, student: Student, year: Year) -> u64
+    requires legal { IsLegal (reverse history.now) }
+    requires since { since ≤ length history.now }
+    requires none { NoneNames student (reverse (take since history.now)) }
     ensures value { result ≡ pell_main (reverse history.now) student year }
     ensures at_most { result ≤ 20000000000000 }
 {
-    net_of(history, &Cells::InMainTerms(student, year))
+    net_of(history, since, &Cells::InMainTerms(student, year))
 }
 
 /// A student's net of all programs at a school in a year, in cents.
-pub fn net_at_school(history: &[Filing], school: School, student: Student, year: Year) -> u64
-    requires { IsLegal (reverse history.now) }
+pub fn net_at_school(
+    history: &[Filing],
+    since: usize,
+    school: School,
+    student: Student,
+    year: Year,
+) -> u64
+    requires legal { IsLegal (reverse history.now) }
+    requires since { since ≤ length history.now }
+    requires none { NoneNames student (reverse (take since history.now)) }
     ensures value { result ≡ net (reverse history.now) (at_school_in_year school student year) }
     ensures at_most { result ≤ 20000000000000 }
 {
-    net_of(history, &Cells::AtSchool(school, student, year))
+    net_of(history, since, &Cells::AtSchool(school, student, year))
 }
 
 // Payments less school returns, repayments and adjustments at the cells.
-fn net_of(history: &[Filing], cells: &Cells) -> u64
-    requires { IsLegal (reverse history.now) }
+fn net_of(history: &[Filing], since: usize, cells: &Cells) -> u64
+    requires legal { IsLegal (reverse history.now) }
+    requires since { since ≤ length history.now }
+    requires none { NoneNames (student_of cells.now) (reverse (take since history.now)) }
     ensures value { result ≡ net (reverse history.now) (test_of (reverse history.now) cells.now) }
     ensures at_most { result ≤ 20000000000000 }
 {
     let mut paid = 0;
     let mut taken = 0;
-    for (index, filing) in history.iter().enumerate() {
+    for index in since..history.len() {
+        let filing = &history[index];
         paid += paid_by(filing, history, cells);
         taken += taken_by(&history[..index], filing, history, cells);
     }
@@ -120,7 +142,7 @@ fn returned_at(
     if !cells.are_of(withdrawal.student, withdrawal.year) {
         return 0;
     }
-    let returned = sheet(past, key, withdrawal).returned;
+    let returned = sheet(past, 0, key, withdrawal).returned;
     let mut sum = 0;
     for program in 0..6 {
         if cells.holds(

@@ -1,10 +1,11 @@
 //! The worksheet of a withdrawal, on the filings before it.
-ghost use Rattle.std.specs.Prelude.{◌≡◌, ◌≤◌, reverse};
+ghost use Rattle.std.specs.Prelude.{◌≡◌, ◌≤◌, length, reverse, take};
 ghost use Rattle.enrolment.specs.Terms.{IsLawful, days_upto};
 ghost use Rattle.office_history.specs.Answer.{IsLegal};
 ghost use Rattle.office_history.specs.Net.{sheet as sheet_after};
 ghost use Rattle.office_history.specs.Sheets.{CanBeWorkedOut};
 ghost use Rattle.withdrawal_returns.specs.Worksheet.{remains};
+ghost use Rattle.in_force.specs.Names.{NoneNames};
 ghost use Rattle.net_amounts.specs.Accounts.{IsAccount};
 
 use crate::account::{Account, account_of};
@@ -14,13 +15,16 @@ use in_force::term;
 use withdrawal_returns::{Inputs, Lines, worksheet};
 
 /// The worksheet of a withdrawal on the filings before it (34 CFR 668.22).
-pub fn sheet(history: &[Filing], key: &Key, withdrawal: &WithdrawFacts) -> Lines
+pub fn sheet(history: &[Filing], since: usize, key: &Key, withdrawal: &WithdrawFacts) -> Lines
     requires legal { IsLegal (reverse history.now) }
+    requires since { since ≤ length history.now }
+    requires none { NoneNames withdrawal.now.student (reverse (take since history.now)) }
     requires worked_out { CanBeWorkedOut (reverse history.now) key.now withdrawal.now }
     ensures { result ≡ sheet_after (reverse history.now) key.now withdrawal.now }
 {
     let moved = account_of(
         history,
+        since,
         key.school,
         withdrawal.student,
         withdrawal.year,

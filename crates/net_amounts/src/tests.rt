@@ -25,12 +25,12 @@ fn counts_the_use_before_this_office(rt: HostRuntime) {
             units: 550_000,
         }),
     }];
-    assert_eq!(rt; used(&history, STUDENT), 550_000);
-    assert_eq!(rt; used(&history, Student(5002)), 0);
-    assert_eq!(rt; used_else(&history, STUDENT, YEAR), 550_000);
-    assert_eq!(rt; net_in_year(&history, STUDENT, YEAR, Program::Pell), 0);
+    assert_eq!(rt; used(&history, 0, STUDENT), 550_000);
+    assert_eq!(rt; used(&history, 0, Student(5002)), 0);
+    assert_eq!(rt; used_else(&history, 0, STUDENT, YEAR), 550_000);
+    assert_eq!(rt; net_in_year(&history, 0, STUDENT, YEAR, Program::Pell), 0);
     assert_eq!(rt;
-        account_of(&history, SCHOOL, STUDENT, YEAR, 1),
+        account_of(&history, 0, SCHOOL, STUDENT, YEAR, 1),
         Account::EMPTY
     );
 }
@@ -78,7 +78,7 @@ fn works_out_a_withdrawal(rt: HostRuntime) {
         charges: 250_000,
         could: [0, 0, 0, 100_000, 0, 0],
     };
-    let lines = sheet(&history, &key, &withdrawal);
+    let lines = sheet(&history, 0, &key, &withdrawal);
     assert_eq!(rt; lines.percent, 375);
     assert_eq!(rt; lines.post, 37_500);
     assert_eq!(rt; lines.returned, [0; 6]);

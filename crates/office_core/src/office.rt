@@ -120,6 +120,7 @@ impl Office {
     {
         net_at(
             self.filings.as_slice(),
+            0,
             school,
             student,
             year,

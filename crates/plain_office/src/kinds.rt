@@ -1,9 +1,10 @@
 //! The facts that the rules read of a list of filings.
-ghost use Rattle.std.specs.Prelude.{◌≡◌, ℕ, ◌≤◌, ◌∷◌, [], length, reverse};
+ghost use Rattle.std.specs.Prelude.{◌≡◌, ℕ, ◌≤◌, ◌∷◌, [], length, reverse, take};
 ghost use Rattle.aid_types.specs.Programs.{rank as rank_of};
 ghost use Rattle.filing_rules.specs.InRange.{IsInRange};
 ghost use Rattle.aid_types.specs.declared.number.Key.{Key as AnyKey};
 ghost use Rattle.aid_types.specs.declared.filing.What.TheVariants.{Calendar, Enrol, Originate, Repay, Adjust};
+ghost use Rattle.in_force.specs.Names.{NoneNames};
 ghost use Rattle.office_history.specs.Answer.{IsLegal};
 ghost use Rattle.office_history.specs.Award.{unfit_under};
 ghost use Rattle.office_history.specs.Past.{the_book, application as application_in_force};
@@ -16,9 +17,10 @@ use aid_types::{
 };
 use filing_rules::Facts;
 use in_force::{
-    application, award, book, cost, credits, main_terms, overlapping_term, position_of_book,
-    position_of_cost, position_of_pell, position_of_prior, position_of_school, position_of_term,
-    position_of_withdrawal, scheduled, school, term, withdrawal,
+    application_since, award, before_student, book, cost_since, credits_since, main_terms,
+    overlapping_term, position_of_book, position_of_cost_since, position_of_pell,
+    position_of_prior, position_of_school, position_of_term, position_of_withdrawal_since,
+    scheduled_since, school, term, withdrawal_since,
 };
 use net_amounts::{
     net_at, net_at_school, net_in_year, net_of_main_terms, owed, paid_after, paid_after_all, post,
@@ -60,7 +62,10 @@ fn facts_of_kind(history: &[Filing], filing: &Filing) -> Facts
         What::Enrol(enrolment) => enrol_facts(history, school, enrolment),
         What::Originate(origination) => originate_facts(history, school, origination),
         What::Pay(a) => payment_facts(history, school, a.student, a.year, a.term, a.program),
-        What::Withdraw(w) => aid_facts(history, school, w.student, w.year, w.term),
+        What::Withdraw(w) => {
+            let since = before_student(history, w.student);
+            aid_facts(history, since, school, w.student, w.year, w.term)
+        }
         What::Repay(amount) => repay_facts(history, school, amount),
         What::Adjust(amount) => adjust_facts(history, school, amount),
     }
@@ -129,24 +134,33 @@ fn desk_facts(history: &[Filing], code: School) -> Facts
 
 // What a payment and a withdrawal read.
 #[tactic(auto, using(crate::proofs::Short::counted))]
-fn aid_facts(history: &[Filing], school: School, student: Student, year: Year, number: u8) -> Facts
+fn aid_facts(
+    history: &[Filing],
+    since: usize,
+    school: School,
+    student: Student,
+    year: Year,
+    number: u8,
+) -> Facts
     requires legal { IsLegal (reverse history.now) }
+    requires since { since ≤ length history.now }
+    requires none { NoneNames student (reverse (take since history.now)) }
     ensures value { result ≡ aid_facts_of (reverse history.now) school student year number }
 {
     Facts {
         term_at: position_of_term(history, school, year, number),
         term: term(history, school, year, number),
-        transaction: transaction(history, student, year),
-        scheduled: scheduled(history, student, year),
-        cost_at: position_of_cost(history, school, student, year),
-        cost: cost(history, school, student, year),
-        credits: credits(history, school, student, year, number),
-        withdrawn_at: position_of_withdrawal(history, school, student, year, number),
-        pell_term: net_at(history, school, student, year, number, Program::Pell),
-        pell_year: net_in_year(history, student, year, Program::Pell),
-        fseog_year: net_in_year(history, student, year, Program::Fseog),
-        net_all: net_at_school(history, school, student, year),
-        used_else: used_else(history, student, year),
+        transaction: transaction(history, since, student, year),
+        scheduled: scheduled_since(history, since, student, year),
+        cost_at: position_of_cost_since(history, since, school, student, year),
+        cost: cost_since(history, since, school, student, year),
+        credits: credits_since(history, since, school, student, year, number),
+        withdrawn_at: position_of_withdrawal_since(history, since, school, student, year, number),
+        pell_term: net_at(history, since, school, student, year, number, Program::Pell),
+        pell_year: net_in_year(history, since, student, year, Program::Pell),
+        fseog_year: net_in_year(history, since, student, year, Program::Fseog),
+        net_all: net_at_school(history, since, school, student, year),
+        used_else: used_else(history, since, student, year),
         ..desk_facts(history, school)
     }
 }
@@ -178,17 +192,18 @@ fn facts_of_payment(
     requires legal { IsLegal (reverse history.now) }
     ensures { result ≡ payment_facts_of (reverse history.now) school student year number (rank_of program) }
 {
-    let could = match withdrawal(history, school, student, year, number) {
+    let since = before_student(history, student);
+    let could = match withdrawal_since(history, since, school, student, year, number) {
         Some(facts) => facts.could,
         None => [0; 6],
     };
     Facts {
-        other_school: other_school(history, school, student, year, number),
-        after: paid_after(history, school, student, year, number, program),
-        after_all: paid_after_all(history, school, student, year, number),
-        post: post(history, school, student, year, number),
+        other_school: other_school(history, since, school, student, year, number),
+        after: paid_after(history, since, school, student, year, number, program),
+        after_all: paid_after_all(history, since, school, student, year, number),
+        post: post(history, since, school, student, year, number),
         could,
-        ..aid_facts(history, school, student, year, number)
+        ..aid_facts(history, since, school, student, year, number)
     }
 }
 
@@ -211,16 +226,17 @@ fn apply_facts(history: &[Filing], school: School, filed: &Application) -> Facts
     requires legal { IsLegal (reverse history.now) }
     ensures { result ≡ apply_facts_of (reverse history.now) school filed.now (award_filed_of (reverse history.now) filed.now) }
 {
+    let since = before_student(history, filed.student);
     let next_scheduled = award_filed(history, filed);
     Facts {
         book_at: position_of_book(history, filed.year),
-        transaction: transaction(history, filed.student, filed.year),
-        pell_year: net_in_year(history, filed.student, filed.year, Program::Pell),
-        pell_main: net_of_main_terms(history, filed.student, filed.year),
-        used_else: used_else(history, filed.student, filed.year),
+        transaction: transaction(history, since, filed.student, filed.year),
+        pell_year: net_in_year(history, since, filed.student, filed.year, Program::Pell),
+        pell_main: net_of_main_terms(history, since, filed.student, filed.year),
+        used_else: used_else(history, since, filed.student, filed.year),
         unfit: unfit(history, filed),
         next_scheduled,
-        term_over: term_over(history, next_scheduled, filed.student, filed.year),
+        term_over: term_over(history, since, next_scheduled, filed.student, filed.year),
         ..desk_facts(history, school)
     }
 }
@@ -247,10 +263,12 @@ fn award_filed(history: &[Filing], filed: &Application) -> u32
 }
 
 // The transaction in force, 0 where there is none.
-fn transaction(history: &[Filing], student: Student, year: Year) -> u32
+fn transaction(history: &[Filing], since: usize, student: Student, year: Year) -> u32
+    requires since { since ≤ length history.now }
+    requires none { NoneNames student (reverse (take since history.now)) }
     ensures { result ≡ transaction_of (application_in_force (reverse history.now) student year) }
 {
-    match application(history, student, year) {
+    match application_since(history, since, student, year) {
         Some(application) => u32::from(application.transaction),
         None => 0,
     }
@@ -261,11 +279,22 @@ fn enrol_facts(history: &[Filing], school: School, e: &EnrolFacts) -> Facts
     requires legal { IsLegal (reverse history.now) }
     ensures { (key : AnyKey) → key.school ≡ school → result ≡ facts_of (reverse history.now) key (Enrol e.now) }
 {
+    let since = before_student(history, e.student);
     Facts {
         term_at: position_of_term(history, school, e.year, e.term),
-        scheduled: scheduled(history, e.student, e.year),
-        withdrawn_at: position_of_withdrawal(history, school, e.student, e.year, e.term),
-        pell_term: net_at(history, school, e.student, e.year, e.term, Program::Pell),
+        scheduled: scheduled_since(history, since, e.student, e.year),
+        withdrawn_at: position_of_withdrawal_since(
+            history, since, school, e.student, e.year, e.term,
+        ),
+        pell_term: net_at(
+            history,
+            since,
+            school,
+            e.student,
+            e.year,
+            e.term,
+            Program::Pell,
+        ),
         ..desk_facts(history, school)
     }
 }
@@ -275,9 +304,10 @@ fn originate_facts(history: &[Filing], school: School, o: &OriginateFacts) -> Fa
     requires legal { IsLegal (reverse history.now) }
     ensures { (key : AnyKey) → key.school ≡ school → result ≡ facts_of (reverse history.now) key (Originate o.now) }
 {
+    let since = before_student(history, o.student);
     Facts {
-        transaction: transaction(history, o.student, o.year),
-        cost_at: position_of_cost(history, school, o.student, o.year),
+        transaction: transaction(history, since, o.student, o.year),
+        cost_at: position_of_cost_since(history, since, school, o.student, o.year),
         ..desk_facts(history, school)
     }
 }
@@ -286,9 +316,10 @@ fn repay_facts(history: &[Filing], school: School, a: &Amount) -> Facts
     requires legal { IsLegal (reverse history.now) }
     ensures { (key : AnyKey) → key.school ≡ school → result ≡ facts_of (reverse history.now) key (Repay a.now) }
 {
+    let since = before_student(history, a.student);
     Facts {
-        owed: owed(history, school, a.student, a.year, a.term, a.program),
-        repaid: repaid(history, school, a.student, a.year, a.term, a.program),
+        owed: owed(history, since, school, a.student, a.year, a.term, a.program),
+        repaid: repaid(history, since, school, a.student, a.year, a.term, a.program),
         ..desk_facts(history, school)
     }
 }
@@ -298,10 +329,13 @@ fn adjust_facts(history: &[Filing], school: School, a: &Amount) -> Facts
     requires legal { IsLegal (reverse history.now) }
     ensures { (key : AnyKey) → key.school ≡ school → result ≡ facts_of (reverse history.now) key (Adjust a.now) }
 {
+    let since = before_student(history, a.student);
     Facts {
         term_at: position_of_term(history, school, a.year, a.term),
-        withdrawn_at: position_of_withdrawal(history, school, a.student, a.year, a.term),
-        net: net_at(history, school, a.student, a.year, a.term, a.program),
+        withdrawn_at: position_of_withdrawal_since(
+            history, since, school, a.student, a.year, a.term,
+        ),
+        net: net_at(history, since, school, a.student, a.year, a.term, a.program),
         ..desk_facts(history, school)
     }
 }

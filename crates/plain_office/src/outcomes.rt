@@ -9,7 +9,7 @@ ghost use Rattle.plain_office.specs.Outcomes.{IsWithPayment, paid_with, returned
 
 use crate::award::decision;
 use aid_types::{Amount, Application, Book, Filing, Key, Outcome, Program, What, WithdrawFacts};
-use in_force::{application, book, scheduled};
+use in_force::{application_since, before_student, book, scheduled_since};
 use lifetime_ledger::use_of;
 use net_amounts::{net_in_year, sheet, used, used_else};
 use sai_index::formula_of;
@@ -44,7 +44,9 @@ fn outcome_of_application(history: &[Filing], filed: &Application) -> Outcome
     ensures { result ≡ indexed (the_book (reverse history.now) filed.now.year)
         (higher (Some filed.now) (application_in_force (reverse history.now) filed.now.student filed.now.year)) }
 {
-    let newest = higher_of(*filed, application(history, filed.student, filed.year));
+    let since = before_student(history, filed.student);
+    let before = application_since(history, since, filed.student, filed.year);
+    let newest = higher_of(*filed, before);
     match book(history, filed.year) {
         Some(book) => indexed_under(book, &newest),
         None => Outcome::Noted,
@@ -81,13 +83,18 @@ fn outcome_of_payment(history: &[Filing], amount: &Amount) -> Outcome
     ensures year { IsBetween 2000 2099 amount.now.year }
 {
     let _year = amount.year.number();
-    let paid = net_in_year(history, amount.student, amount.year, amount.program) + amount.cents;
+    let since = before_student(history, amount.student);
+    let before = net_in_year(history, since, amount.student, amount.year, amount.program);
+    let paid = before + amount.cents;
     let used = match amount.program {
         Program::Pell => {
-            used_else(history, amount.student, amount.year)
-                + use_of(paid, scheduled(history, amount.student, amount.year))
+            used_else(history, since, amount.student, amount.year)
+                + use_of(
+                    paid,
+                    scheduled_since(history, since, amount.student, amount.year),
+                )
         }
-        _ => used(history, amount.student),
+        _ => used(history, since, amount.student),
     };
     Outcome::Paid { paid, used }
 }
@@ -98,7 +105,8 @@ fn outcome_of_withdrawal(history: &[Filing], key: &Key, withdrawal: &WithdrawFac
     requires worked_out { CanBeWorkedOut (reverse history.now) key.now withdrawal.now }
     ensures { result ≡ returned_by (sheet_after (reverse history.now) key.now withdrawal.now) }
 {
-    let lines = sheet(history, key, withdrawal);
+    let since = before_student(history, withdrawal.student);
+    let lines = sheet(history, since, key, withdrawal);
     Outcome::Returned {
         percent: lines.percent,
         school: lines.school,

@@ -9,7 +9,7 @@ use crate::kinds::payment_facts;
 use aid_types::{
     Application, Book, Filing, Formula, Program, School, StandingRow, Student, Way, Year,
 };
-use in_force::{application, book};
+use in_force::{application_since, before_student, book};
 use net_amounts::{net_in_year, used};
 use sai_index::formula_of;
 
@@ -32,9 +32,10 @@ pub fn standing(history: &[Filing], student: Student, year: Year) -> StandingRow
     requires legal { IsLegal (reverse history.now) }
     ensures { result ≡ standing_of (reverse history.now) student year }
 {
-    let paid = net_in_year(history, student, year, Program::Pell);
-    let used = used(history, student);
-    let Some(application) = application(history, student, year) else {
+    let since = before_student(history, student);
+    let paid = net_in_year(history, since, student, year, Program::Pell);
+    let used = used(history, since, student);
+    let Some(application) = application_since(history, since, student, year) else {
         return without_award(paid, used);
     };
     match book(history, year) {

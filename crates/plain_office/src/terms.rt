@@ -1,28 +1,32 @@
 //! Terms on file that a rule compares with others.
-ghost use Rattle.std.specs.Prelude.{◌≡◌, ℕ, ◌≤◌, ◌∷◌, true, List, Some, reverse};
+ghost use Rattle.std.specs.Prelude.{◌≡◌, ℕ, ◌≤◌, ◌∷◌, true, List, Some, length, reverse, take};
 ghost use Rattle.std.specs.Option.{option_copied};
 ghost use Rattle.aid_types.specs.declared.filing.Filing.{Filing as AnyFiling};
 ghost use Rattle.enrolment.specs.Terms.{shares_day as shares_day_of};
 ghost use Rattle.office_history.specs.Answer.{IsLegal};
 ghost use Rattle.office_history.specs.FactsOf.{is_over as is_over_of, is_paid_beside as is_paid_beside_of, least_code, lesser_code, payment_at as payment_of_term, term_over as term_over_of};
 ghost use Rattle.office_history.specs.Past.{the_term, terms_on_file};
+ghost use Rattle.in_force.specs.Names.{NoneNames};
 ghost use Rattle.plain_office.specs.Terms.{calendar_in as calendar_filed, earlier_place, first_place, on_file_at};
 
 use aid_types::{CalendarFacts, Filing, Program, Refusal, School, Student, Term, What, Year};
 use enrolment::{intensity, period_pay};
-use in_force::{credits, school, term};
+use in_force::{credits_since, school, term};
 use net_amounts::net_at;
 
 /// The least code of another school that has a term which shares a day with this one and holds net Pell of the student;
 /// 0 where there is none.
 pub fn other_school(
     history: &[Filing],
+    since: usize,
     school: School,
     student: Student,
     year: Year,
     number: u8,
 ) -> u32
     requires legal { IsLegal (reverse history.now) }
+    requires since { since ≤ length history.now }
+    requires none { NoneNames student (reverse (take since history.now)) }
     ensures { result ≡ least_code (is_paid_beside_of (reverse history.now) school student (the_term (reverse history.now) school year number)) (terms_on_file (reverse history.now)) }
 {
     let Some(this) = term(history, school, year, number) else {
@@ -30,7 +34,7 @@ pub fn other_school(
     };
     let mut least = 0;
     for filing in history {
-        least = with_paid_beside(history, school, student, &this, filing, least);
+        least = with_paid_beside(history, since, school, student, &this, filing, least);
     }
     least
 }
@@ -38,6 +42,7 @@ pub fn other_school(
 // The least code of those schools with a filing more.
 fn with_paid_beside(
     history: &[Filing],
+    since: usize,
     school: School,
     student: Student,
     this: &Term,
@@ -45,6 +50,8 @@ fn with_paid_beside(
     least: u32,
 ) -> u32
     requires legal { IsLegal (reverse history.now) }
+    requires since { since ≤ length history.now }
+    requires none { NoneNames student (reverse (take since history.now)) }
     ensures { (before : List AnyFiling) → least ≡ least_code (is_paid_beside_of (reverse history.now) school student (Some this.now)) (terms_on_file before)
         → result ≡ least_code (is_paid_beside_of (reverse history.now) school student (Some this.now)) (terms_on_file (filing.now ∷ before)) }
 {
@@ -52,7 +59,7 @@ fn with_paid_beside(
         return least;
     };
     let other = filing.key.school;
-    if !is_paid_beside(history, school, student, this, other, calendar) {
+    if !is_paid_beside(history, since, school, student, this, other, calendar) {
         return least;
     }
     lesser(other.0, least)
@@ -77,28 +84,44 @@ fn lesser(code: u32, least: u32) -> u32
 
 /// The first term of the year, by school and number, that holds more net Pell of the student than an award gives it, told
 /// as a refusal.
-pub fn term_over(history: &[Filing], award: u32, student: Student, year: Year) -> Option<Refusal>
+pub fn term_over(
+    history: &[Filing],
+    since: usize,
+    award: u32,
+    student: Student,
+    year: Year,
+) -> Option<Refusal>
     requires legal { IsLegal (reverse history.now) }
+    requires since { since ≤ length history.now }
+    requires none { NoneNames student (reverse (take since history.now)) }
     requires award { award ≤ 100000 }
     ensures { result ≡ term_over_of (reverse history.now) award student year }
 {
-    let (school, number) = least_over(history, award, student, year)?;
+    let (school, number) = least_over(history, since, award, student, year)?;
     Some(Refusal {
         rule: 93,
-        kept: net_at(history, school, student, year, number, Program::Pell),
-        bound: payment_at(history, award, school, student, year, number),
+        kept: net_at(history, since, school, student, year, number, Program::Pell),
+        bound: payment_at(history, since, award, school, student, year, number),
     })
 }
 
 // The school and the number of that term.
-fn least_over(history: &[Filing], award: u32, student: Student, year: Year) -> Option<(School, u8)>
+fn least_over(
+    history: &[Filing],
+    since: usize,
+    award: u32,
+    student: Student,
+    year: Year,
+) -> Option<(School, u8)>
     requires legal { IsLegal (reverse history.now) }
+    requires since { since ≤ length history.now }
+    requires none { NoneNames student (reverse (take since history.now)) }
     requires award { award ≤ 100000 }
     ensures { result ≡ first_place (is_over_of (reverse history.now) award student year) (terms_on_file (reverse history.now)) }
 {
     let mut least = None;
     for filing in history {
-        least = with_term_over(history, award, student, year, filing, least);
+        least = with_term_over(history, since, award, student, year, filing, least);
     }
     least
 }
@@ -106,6 +129,7 @@ fn least_over(history: &[Filing], award: u32, student: Student, year: Year) -> O
 // The place of that term with a filing more.
 fn with_term_over(
     history: &[Filing],
+    since: usize,
     award: u32,
     student: Student,
     year: Year,
@@ -113,6 +137,8 @@ fn with_term_over(
     least: Option<(School, u8)>,
 ) -> Option<(School, u8)>
     requires legal { IsLegal (reverse history.now) }
+    requires since { since ≤ length history.now }
+    requires none { NoneNames student (reverse (take since history.now)) }
     requires award { award ≤ 100000 }
     ensures { (before : List AnyFiling) → least ≡ first_place (is_over_of (reverse history.now) award student year) (terms_on_file before)
         → result ≡ first_place (is_over_of (reverse history.now) award student year) (terms_on_file (filing.now ∷ before)) }
@@ -121,7 +147,7 @@ fn with_term_over(
         return least;
     };
     let school = filing.key.school;
-    if !is_over(history, award, student, year, school, calendar) {
+    if !is_over(history, since, award, student, year, school, calendar) {
         return least;
     }
     Some(earlier(school, calendar.term, least))
@@ -141,6 +167,7 @@ fn earlier(school: School, number: u8, least: Option<(School, u8)>) -> (School, 
 // Whether a term of another school shares a day with this one and holds net Pell of the student.
 fn is_paid_beside(
     history: &[Filing],
+    since: usize,
     school: School,
     student: Student,
     this: &Term,
@@ -148,12 +175,15 @@ fn is_paid_beside(
     calendar: &CalendarFacts,
 ) -> bool
     requires legal { IsLegal (reverse history.now) }
+    requires since { since ≤ length history.now }
+    requires none { NoneNames student (reverse (take since history.now)) }
     ensures { (position : ℕ) → result ≡ is_paid_beside_of (reverse history.now) school student (Some this.now) (on_file_at other position calendar.now) }
 {
     other != school
         && shares_day(this, &calendar.to_term())
         && 0 < net_at(
             history,
+            since,
             other,
             student,
             calendar.year,
@@ -172,6 +202,7 @@ fn shares_day(term: &Term, other: &Term) -> bool
 // Whether a term of the year holds more net Pell of the student than an award gives it.
 fn is_over(
     history: &[Filing],
+    since: usize,
     award: u32,
     student: Student,
     year: Year,
@@ -179,17 +210,28 @@ fn is_over(
     calendar: &CalendarFacts,
 ) -> bool
     requires legal { IsLegal (reverse history.now) }
+    requires since { since ≤ length history.now }
+    requires none { NoneNames student (reverse (take since history.now)) }
     requires award { award ≤ 100000 }
     ensures { (position : ℕ) → result ≡ is_over_of (reverse history.now) award student year (on_file_at school position calendar.now) }
 {
     calendar.year == year
-        && payment_at(history, award, school, student, year, calendar.term)
-            < net_at(history, school, student, year, calendar.term, Program::Pell)
+        && payment_at(history, since, award, school, student, year, calendar.term)
+            < net_at(
+                history,
+                since,
+                school,
+                student,
+                year,
+                calendar.term,
+                Program::Pell,
+            )
 }
 
 // The payment of a term in cents, at the credits in force and an award in dollars.
 fn payment_at(
     history: &[Filing],
+    since: usize,
     award: u32,
     code: School,
     student: Student,
@@ -197,13 +239,15 @@ fn payment_at(
     number: u8,
 ) -> u64
     requires legal { IsLegal (reverse history.now) }
+    requires since { since ≤ length history.now }
+    requires none { NoneNames student (reverse (take since history.now)) }
     requires award { award ≤ 100000 }
     ensures { result ≡ payment_of_term (reverse history.now) award code student year number }
 {
     let Some(facts) = school(history, code.0) else {
         return 0;
     };
-    let credits = credits(history, code, student, year, number);
+    let credits = credits_since(history, since, code, student, year, number);
     if credits == 0 {
         return 0;
     }

@@ -4,6 +4,7 @@ use Rattle.net_amounts.specs.declared.account.Account.{Account}
 use Rattle.net_amounts.specs.Accounts.{IsAccount, IsEntry, or_nothing}
 use Rattle.net_amounts.proofs.Prefixes.{one_more, legal_at}
 use Rattle.net_amounts.proofs.AccountSteps.{account-joined, account-kept, account-sums, entry-sums}
+use Rattle.net_amounts.proofs.Strangers.{account_none}
 use Rattle.net_amounts.proofs.account.account_of.Goals.{in-Some, in_default}
 use Rattle.net_amounts.proofs.account.account_of.Goals as goal
 
@@ -12,19 +13,22 @@ moves : (past : List Filing) (f : Filing) (school student year term : ℕ) (o p 
     IsEntry past f.key f.what school student year term (or_nothing o) → IsEntry past f.key f.what school student year term (or_nothing p)
 moves past f school student year term o p is k = subst (λ (x : Option Account). IsEntry past f.key f.what school student year term (or_nothing x)) is k
 
+pub loop-index-init : goal.loop-index-init
+loop-index-init c = account_none (reverse (take c.args.since c.args.history.now)) c.args.school c.args.student c.args.year c.args.term c.requires.none
+
 pub entry-requires-clause-legal : goal.entry-requires-clause-legal
 entry-requires-clause-legal c =
-    legal_at c.args.history.now c.loop-index.index c.index-history-index.result c.loop-index-test.true c.index-history-index.is c.requires
+    legal_at c.args.history.now c.loop-index.index c.index-history-index.result c.loop-index-test.true c.index-history-index.is c.requires.legal
 
 pub joined-so_far-requires-clause-ours : goal.joined-so_far-requires-clause-ours
 joined-so_far-requires-clause-ours c =
-    let legal = legal_at c.args.history.now c.loop-index.index c.index-history-index.result c.loop-index-test.true c.index-history-index.is c.requires in
+    let legal = legal_at c.args.history.now c.loop-index.index c.index-history-index.result c.loop-index-test.true c.index-history-index.is c.requires.legal in
     account-sums _ c.args.school c.args.student c.args.year c.args.term c.loop-index.so_far legal.0 c.loop-index.invariant
 
 pub joined-so_far-requires-clause-theirs : goal.joined-so_far-requires-clause-theirs
 joined-so_far-requires-clause-theirs c =
     let f = c.index-history-index.result in
-    let legal = legal_at c.args.history.now c.loop-index.index f c.loop-index-test.true c.index-history-index.is c.requires in
+    let legal = legal_at c.args.history.now c.loop-index.index f c.loop-index-test.true c.index-history-index.is c.requires.legal in
     entry-sums _ f c.args.school c.args.student c.args.year c.args.term c.in-Some.moved legal (moves _ f c.args.school c.args.student c.args.year c.args.term _ _ c.in-Some.is c.entry.ensures)
 
 pub loop-index-preserved : goal.loop-index-preserved

@@ -8,8 +8,8 @@ use Rattle.net_amounts.proofs.lifetime.used_in_year.Goals as goal
 
 pub use_of-requires : goal.use_of-requires
 use_of-requires c =
-    let within = year_holds (reverse c.args.history.now) c.requires c.args.student c.args.year in
-    record { within = omega (arith, within, c.net_in_year-paid.ensures.value, c.scheduled.ensures.value) }
+    let within = year_holds (reverse c.args.history.now) c.requires.legal c.args.student c.args.year in
+    record { within = omega (arith, within, c.net_in_year-paid.ensures.value, c.scheduled_since.ensures.value) }
 
 pub returns-then-paid-eq0 : goal.returns-then-paid-eq0
 returns-then-paid-eq0 c =

@@ -1,21 +1,22 @@
-use Rattle.std.proofs.Common.{◌∙◌, sym, reverse, arith}
-use Rattle.std.proofs.lemmas.List.{length-reverse}
-use Rattle.office_history.proofs.Legal.{legal_is_short}
+use Rattle.std.proofs.Common.{◌≡◌, ◌∙◌, ◌≤◌, ℕ, zero, suc, refl, sym, reverse, arith, false, nat_lt, ltb-false}
+use Rattle.office_history.specs.FactsOf.{pell_at}
 use Rattle.net_amounts.proofs.NoPell.{none_used}
 use Rattle.net_amounts.specs.Years.{use_but}
 use Rattle.net_amounts.proofs.YearSums.{years_first, years_next, years_last, years_most}
 use Rattle.net_amounts.proofs.lifetime.used_in_years.Goals as goal
 
-pub position_of_pell-requires : goal.position_of_pell-requires
-position_of_pell-requires c = omega (arith, legal_is_short (reverse c.args.history.now) c.requires, length-reverse c.args.history.now)
+not_above : (n : ℕ) → nat_lt 0 n ≡ false → n ≡ 0
+not_above zero h = refl
+not_above (suc n) h = let k : suc n ≤ 0 = ltb-false 0 (suc n) h in absurd (omega arith)
 
-pub returns-then-position_of_pell-eq0-clause-value : goal.returns-then-position_of_pell-eq0-clause-value
-returns-then-position_of_pell-eq0-clause-value c =
-    sym (none_used (reverse c.args.history.now) c.args.student c.args.out.now (sym c.position_of_pell.ensures.value ∙ c.if-position_of_pell-eq0.true))
+pub returns-then-not-is_paid_pell_since-clause-value : goal.returns-then-not-is_paid_pell_since-clause-value
+returns-then-not-is_paid_pell_since-clause-value c =
+    sym (none_used (reverse c.args.history.now) c.args.student c.args.out.now
+    (not_above (pell_at (reverse c.args.history.now) c.args.student) (sym c.is_paid_pell_since.ensures ∙ c.if-not-is_paid_pell_since.true)))
 
-pub returns-then-position_of_pell-eq0-clause-at_most : goal.returns-then-position_of_pell-eq0-clause-at_most
-returns-then-position_of_pell-eq0-clause-at_most c =
-    let most = years_most (reverse c.args.history.now) c.requires c.args.student c.args.out.now in
+pub returns-then-not-is_paid_pell_since-clause-at_most : goal.returns-then-not-is_paid_pell_since-clause-at_most
+returns-then-not-is_paid_pell_since-clause-at_most c =
+    let most = years_most (reverse c.args.history.now) c.requires.legal c.args.student c.args.out.now in
     omega (arith, most)
 
 pub loop-year-init : goal.loop-year-init
@@ -25,7 +26,7 @@ pub overflow_add-units : goal.overflow_add-units
 overflow_add-units c =
     let past = reverse c.args.history.now in
     let next = years_next (use_but past c.args.student c.args.out.now) c.loop-year.year c.loop-year-test.true in
-    let most = years_most past c.requires c.args.student c.args.out.now in
+    let most = years_most past c.requires.legal c.args.student c.args.out.now in
     omega (arith, next, most, c.loop-year.invariant, c.used_unless_out-units.ensures)
 
 pub loop-year-preserved : goal.loop-year-preserved
@@ -40,5 +41,5 @@ returns-clause-value c =
 
 pub returns-clause-at_most : goal.returns-clause-at_most
 returns-clause-at_most c =
-    let most = years_most (reverse c.args.history.now) c.requires c.args.student c.args.out.now in
+    let most = years_most (reverse c.args.history.now) c.requires.legal c.args.student c.args.out.now in
     omega (arith, most, c.loop-year.invariant)

@@ -11,14 +11,14 @@ use Rattle.plain_office.proofs.terms.payment_at.Goals as goal
 pub intensity-requires-clause-credits : goal.intensity-requires-clause-credits
 intensity-requires-clause-credits c =
     let few = credits_in_range (reverse c.args.history.now) c.requires.legal c.args.code c.args.student c.args.year c.args.number in
-    (omega (arith, c.if-credits-eq0.false), omega (arith, few, c.credits-credits.ensures))
+    (omega (arith, c.if-credits-eq0.false), omega (arith, few, c.credits_since-credits.ensures))
 
 -- no credits, and no school
 pub returns-then-credits-eq0 : goal.returns-then-credits-eq0
 returns-then-credits-eq0 c =
     let past = reverse c.args.history.now in
     let here = the_school past c.args.code in
-    let none : credits past c.args.code c.args.student c.args.year c.args.number ≡ 0 = omega (arith, c.credits-credits.ensures, c.if-credits-eq0.true) in
+    let none : credits past c.args.code c.args.student c.args.year c.args.number ≡ 0 = omega (arith, c.credits_since-credits.ensures, c.if-credits-eq0.true) in
     sym (ap (λ (n : ℕ). 100 * payment_of c.args.award (intensity_of n (full_of here)) (terms_of here)) none
     ∙ ap (λ (n : ℕ). 100 * n) (no_credits c.args.award (full_of here) (terms_of here)))
 
