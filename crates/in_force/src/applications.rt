@@ -1,16 +1,15 @@
 //! The application in force, and the award that it gives.
 ghost use Rattle.std.specs.Prelude.{◌≡◌, ◌≤◌, reverse};
 ghost use Rattle.office_history.specs.Past.{application as application_of};
-ghost use Rattle.office_history.specs.Award.{scheduled as scheduled_award, scheduled_of};
+ghost use Rattle.office_history.specs.Award.{scheduled_of};
 
-use crate::found::book;
 use crate::questions::application_in;
 use aid_types::{Application, Book, Filing, Student, Year};
 use pell_schedule::decide;
 use sai_index::index;
 
 /// The student's application in force in the year: that with the highest transaction.
-pub fn application(history: &[Filing], student: Student, year: Year) -> Option<Application>
+pub(crate) fn application(history: &[Filing], student: Student, year: Year) -> Option<Application>
     ensures { result ≡ application_of (reverse history.now) student year }
 {
     history
@@ -29,16 +28,4 @@ pub fn award(book: &Book, application: &Application) -> u32
     ensures at_most { result ≤ 100000 }
 {
     decide(book, application, index(book, application).index).scheduled
-}
-
-/// The Scheduled Award in dollars that the application in force gives under the year's book, 0 where one of them is
-/// missing (HEA 401(b)).
-pub fn scheduled(history: &[Filing], student: Student, year: Year) -> u32
-    ensures value { result ≡ scheduled_award (reverse history.now) student year }
-    ensures at_most { result ≤ 100000 }
-{
-    match (book(history, year), application(history, student, year)) {
-        (Some(book), Some(application)) => award(book, &application),
-        _ => 0,
-    }
 }

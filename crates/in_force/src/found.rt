@@ -57,7 +57,7 @@ pub fn withdrawal(
 }
 
 /// The student's use of the lifetime limit before this office, in thousandths of a percent, 0 where none is on file.
-pub fn prior_units(history: &[Filing], student: Student) -> u32
+pub(crate) fn prior_units(history: &[Filing], student: Student) -> u32
     ensures { result ≡ prior_units_of (reverse history.now) student }
 {
     history
@@ -67,7 +67,7 @@ pub fn prior_units(history: &[Filing], student: Student) -> u32
 }
 
 /// The student's cost of attendance at the school in the year in dollars, 0 where none is on file (HEA 472).
-pub fn cost(history: &[Filing], school: School, student: Student, year: Year) -> u32
+pub(crate) fn cost(history: &[Filing], school: School, student: Student, year: Year) -> u32
     ensures { result ≡ cost_of (reverse history.now) school student year }
 {
     history
@@ -77,7 +77,13 @@ pub fn cost(history: &[Filing], school: School, student: Student, year: Year) ->
 }
 
 /// The student's credits in the school's term, 0 where none are on file. Those filed last are in force.
-pub fn credits(history: &[Filing], school: School, student: Student, year: Year, term: u8) -> u8
+pub(crate) fn credits(
+    history: &[Filing],
+    school: School,
+    student: Student,
+    year: Year,
+    term: u8,
+) -> u8
     ensures { result ≡ credits_in_force (reverse history.now) school student year term }
 {
     history

@@ -10,11 +10,11 @@ mod terms;
 #[cfg(test)]
 mod tests;
 
-pub use applications::{application, award, scheduled};
-pub use found::{book, cost, credits, prior_units, school, term, withdrawal};
+pub use applications::award;
+pub use found::{book, school, term, withdrawal};
 pub use positions::{
-    position_of_book, position_of_cost, position_of_filing, position_of_key, position_of_pell,
-    position_of_prior, position_of_school, position_of_term, position_of_withdrawal,
+    position_of_book, position_of_filing, position_of_key, position_of_pell, position_of_prior,
+    position_of_school, position_of_term,
 };
 pub use since::{
     application_since, before_student, cost_since, credits_since, is_paid_pell_since,

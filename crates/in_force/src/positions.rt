@@ -101,7 +101,12 @@ pub fn position_of_pell(history: &[Filing], student: Student) -> u32
 }
 
 /// The position of the student's cost of attendance at the school in the year.
-pub fn position_of_cost(history: &[Filing], school: School, student: Student, year: Year) -> u32
+pub(crate) fn position_of_cost(
+    history: &[Filing],
+    school: School,
+    student: Student,
+    year: Year,
+) -> u32
     requires { length history.now < 2 ^ 32 }
     ensures value { result ≡ cost_at (reverse history.now) school student year }
     ensures within { result ≤ length history.now }
@@ -110,7 +115,7 @@ pub fn position_of_cost(history: &[Filing], school: School, student: Student, ye
 }
 
 /// The position of the student's withdrawal from the school's term.
-pub fn position_of_withdrawal(
+pub(crate) fn position_of_withdrawal(
     history: &[Filing],
     school: School,
     student: Student,

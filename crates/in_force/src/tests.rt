@@ -3,8 +3,9 @@ ghost use Rattle.std.specs.Prelude.{◌≡◌, ◌≤◌};
 ghost use Rattle.aid_types.specs.Ranges.{IsBetween};
 
 use crate::{
-    application, cost, credits, main_terms, overlapping_term, position_of_cost, position_of_term,
-    prior_units, scheduled, term, withdrawal,
+    application_since, before_student, cost_since, credits_since, is_paid_pell_since, main_terms,
+    overlapping_term, position_of_cost_since, position_of_term, prior_units_since, scheduled_since,
+    term, withdrawal, withdrawal_since,
 };
 use aid_types::{
     Breaks, CalendarFacts, Day, EnrolFacts, Filing, Key, OriginateFacts, PriorFacts, School,
@@ -95,14 +96,22 @@ fn history() -> [Filing; 8] {
 #[test]
 fn looks_up_what_is_in_force(rt: HostRuntime) {
     let history = history();
-    assert_eq!(rt; credits(&history, SCHOOL, STUDENT, YEAR, 1), 9);
-    assert_eq!(rt; credits(&history, OTHER, STUDENT, YEAR, 1), 0);
-    assert_eq!(rt; cost(&history, SCHOOL, STUDENT, YEAR), 20_000);
-    assert_eq!(rt; position_of_cost(&history, SCHOOL, STUDENT, YEAR), 5);
-    assert_eq!(rt; prior_units(&history, STUDENT), 550_000);
+    let since = before_student(&history, STUDENT);
+    assert_eq!(rt; since, 3);
+    assert_eq!(rt; credits_since(&history, since, SCHOOL, STUDENT, YEAR, 1), 9);
+    assert_eq!(rt; credits_since(&history, since, OTHER, STUDENT, YEAR, 1), 0);
+    assert_eq!(rt; cost_since(&history, since, SCHOOL, STUDENT, YEAR), 20_000);
+    assert_eq!(rt;
+        position_of_cost_since(&history, since, SCHOOL, STUDENT, YEAR),
+        5
+    );
+    assert_eq!(rt; prior_units_since(&history, since, STUDENT), 550_000);
+    assert!(rt; withdrawal_since(&history, since, SCHOOL, STUDENT, YEAR, 1).is_none());
     assert!(rt; withdrawal(&history, SCHOOL, STUDENT, YEAR, 1).is_none());
-    assert!(rt; application(&history, STUDENT, YEAR).is_none());
-    assert_eq!(rt; scheduled(&history, STUDENT, YEAR), 0);
+    assert!(rt; application_since(&history, since, STUDENT, YEAR).is_none());
+    assert_eq!(rt; scheduled_since(&history, since, STUDENT, YEAR), 0);
+    assert!(rt; !is_paid_pell_since(&history, since, STUDENT));
+    assert_eq!(rt; before_student(&history, Student(5002)), history.len());
 }
 
 #[test]
