@@ -1,5 +1,6 @@
 //! What is in force of a student, looked up from the first filing about the student on.
-ghost use Rattle.std.specs.Prelude.{◌≡◌, ◌≤◌, ◌<◌, ◌^◌, nat_lt, length, reverse, take};
+ghost use Rattle.std.specs.Prelude.{◌≡◌, ◌≤◌, ◌<◌, ◌^◌, IfSome, IsTrue, nat_lt, length, reverse, take};
+ghost use Rattle.std.specs.List.{slice_get};
 ghost use Rattle.office_history.specs.Past.{
   application as application_of,
   cost as cost_of,
@@ -37,6 +38,7 @@ fn is_about(what: &What, student: Student) -> bool
 pub fn before_student(history: &[Filing], student: Student) -> usize
     ensures within { result ≤ length history.now }
     ensures none { NoneNames student (reverse (take result history.now)) }
+    ensures first { IfSome (slice_get history.now result) (λ filing. IsTrue (names student filing.what)) }
 {
     for (index, filing) in history.iter().enumerate() {
         if is_about(&filing.what, student) {
