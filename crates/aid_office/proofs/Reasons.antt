@@ -2,7 +2,7 @@
 use Rattle.std.proofs.Common.{◌≡◌, ◌≢◌, ◌⊎◌, inl, inr, ℕ, ◌++◌, List, Some, None, Result, Ok, Err, IsTrue, refl, sym, subst}
 use Rattle.std.specs.Prelude.{IfErr, IsOk, OnOk, ◌↔◌}
 use Rattle.std.proofs.lemmas.List.{append-nil}
-use Rattle.aid_types.specs.declared.filing.Filing.{Filing}
+use Rattle.aid_filings.specs.declared.filing.Filing.{Filing}
 use Rattle.desk_forms.specs.declared.error.RowError.{RowError}
 use Rattle.aid_edges.specs.Whole.{IsCutShort}
 use Rattle.disk_model.specs.Telling.{EachImage, IsRead, Telling}

@@ -1,7 +1,7 @@
 -- What the kept office leaves on its disk between rows.
 use Rattle.std.proofs.Common.{◌≡◌, ℕ, List, ◌∷◌, ◌++◌, length, Some, None, Result, Ok, Err, ◌∙◌, ap, subst}
 use Rattle.std.specs.Prelude.{OnOk}
-use Rattle.aid_types.specs.declared.filing.Filing.{Filing}
+use Rattle.aid_filings.specs.declared.filing.Filing.{Filing}
 use Rattle.desk_forms.specs.declared.error.RowError.{RowError}
 use Rattle.disk_model.specs.Telling.{EachImage, EachMoment, IsQuiet}
 use Rattle.disk_model.specs.declared.disk.Disk.{Ghosts}

@@ -3,7 +3,7 @@ use Rattle.std.proofs.Common.{◌≡◌, inl, inr, ℕ, zero, suc, ◌+◌, ◌<
 use Rattle.std.proofs.Math.Seq.{take-add}
 use Rattle.std.proofs.lemmas.List.{append-nil, map-id}
 use Rattle.aid_edges.specs.Whole.{IsCutShort}
-use Rattle.aid_types.specs.declared.filing.Filing.{Filing}
+use Rattle.aid_filings.specs.declared.filing.Filing.{Filing}
 use Rattle.desk_forms.specs.declared.error.RowError.{RowError}
 use Rattle.disk_model.specs.Telling.{EachImage, Telling}
 use Rattle.kept_office.specs.Recovers.{Recovers, RecoversEither}

@@ -1,12 +1,12 @@
 -- What a turn of the kept office makes of a filing.
 use Rattle.std.proofs.Common.{◌≡◌, inl, inr, ℕ, zero, suc, Bool, true, false, IsTrue, List, ◌∷◌, Option, Some, None, Ok, refl, sym, ◌∙◌, ap, subst, if◌then◌else◌}
-use Rattle.aid_types.specs.declared.filing.Filing.{Filing}
-use Rattle.aid_types.specs.declared.reply.Ask.TheVariants.{File}
-use Rattle.aid_types.specs.declared.reply.Reply.{Reply}
-use Rattle.aid_types.specs.declared.reply.Reply.TheVariants.{Quoted, Standing, DiskFault, NoMemory}
-use Rattle.aid_types.specs.declared.reply.Refusal.{Refusal}
-use Rattle.aid_types.specs.declared.reply.StandingRow.{StandingRow}
-use Rattle.aid_types.specs.declared.reply.Verdict.TheVariants as verdicts
+use Rattle.aid_filings.specs.declared.filing.Filing.{Filing}
+use Rattle.aid_replies.specs.declared.reply.Ask.TheVariants.{File}
+use Rattle.aid_replies.specs.declared.reply.Reply.{Reply}
+use Rattle.aid_replies.specs.declared.reply.Reply.TheVariants.{Quoted, Standing, DiskFault, NoMemory}
+use Rattle.aid_types.specs.declared.award.Refusal.{Refusal}
+use Rattle.aid_replies.specs.declared.reply.StandingRow.{StandingRow}
+use Rattle.aid_replies.specs.declared.reply.Verdict.TheVariants as verdicts
 use Rattle.office_history.specs.Past.{filing_at, key_at}
 use Rattle.office_history.specs.Answer.{answer_at, answer_new, answer_of, breaks, is_admit, judged}
 use Rattle.kept_office.specs.Recovers.{Recovers, RecoversEither}

@@ -1,6 +1,6 @@
 -- How far a run has come that ended early. Own.
 use Rattle.std.specs.Prelude.{◌≡◌, ◌⊎◌, ◌+◌, ◌++◌, ℕ, Bool, true, false, IsTrue, List, [], codes, decimal, drop, length, take, Some, None, Result}
-use Rattle.aid_types.specs.declared.filing.Filing.{Filing}
+use Rattle.aid_filings.specs.declared.filing.Filing.{Filing}
 use Rattle.desk_forms.specs.declared.error.RowError.{RowError}
 use Rattle.aid_edges.specs.Whole.{IsCutShort}
 use Rattle.disk_model.specs.Telling.{EachImage, EachMoment, IsQuiet, IsRead, Telling}

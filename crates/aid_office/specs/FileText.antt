@@ -1,10 +1,10 @@
 -- What the command `file` prints and files. A history is read newest first. Own.
 use Rattle.std.specs.Prelude.{ℕ, ◌+◌, List, [], ◌∷◌, ◌++◌, length, Result, Ok, Err, if◌then◌else◌}
-use Rattle.aid_types.specs.declared.filing.Filing.{Filing}
-use Rattle.aid_types.specs.declared.reply.Reply.{Reply}
-use Rattle.aid_types.specs.declared.reply.Reply.TheVariants as replies
-use Rattle.aid_types.specs.declared.reply.Verdict.{Verdict}
-use Rattle.aid_types.specs.declared.reply.Verdict.TheVariants.{Again, Refused, Admit, Quoted, Standing}
+use Rattle.aid_filings.specs.declared.filing.Filing.{Filing}
+use Rattle.aid_replies.specs.declared.reply.Reply.{Reply}
+use Rattle.aid_replies.specs.declared.reply.Reply.TheVariants as replies
+use Rattle.aid_replies.specs.declared.reply.Verdict.{Verdict}
+use Rattle.aid_replies.specs.declared.reply.Verdict.TheVariants.{Again, Refused, Admit, Quoted, Standing}
 use Rattle.office_history.specs.Answer.{answer_of, is_admit}
 use Rattle.desk_forms.specs.declared.error.RowError.{RowError}
 use Rattle.desk_forms.specs.Lines.{error_line, line_of}

@@ -1,6 +1,6 @@
 -- What a row leaves at which a run stops. Own.
 use Rattle.std.specs.Prelude.{◌≡◌, ◌+◌, ℕ, List, ◌∷◌, length, Option, Some, None, Result}
-use Rattle.aid_types.specs.declared.filing.Filing.{Filing}
+use Rattle.aid_filings.specs.declared.filing.Filing.{Filing}
 use Rattle.desk_forms.specs.declared.error.RowError.{RowError}
 use Rattle.aid_office.specs.FileText.{after_row}
 use Rattle.aid_office.specs.declared.stop.Stop.{Stop}

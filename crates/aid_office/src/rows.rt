@@ -1,7 +1,7 @@
 //! The rows of one input, filed in order.
 ghost use Rattle.std.specs.Prelude.{◌≡◌, ◌≤◌, ◌+◌, ◌<◌, ◌^◌, ◌++◌, All, Err, IsTrue, IsSome, IfErr, None, OnOk, OnErr, length, vec_capacity, vec_len};
 ghost use Rattle.aid_edges.specs.Faults.{Rose};
-ghost use Rattle.aid_types.specs.Fields.{kind_of};
+ghost use Rattle.filing_numbers.specs.Fields.{kind_of};
 ghost use Rattle.desk_forms.specs.Rows.{HasFields};
 ghost use Rattle.disk_model.specs.Telling.{EachMoment, IsHonest};
 ghost use Rattle.kept_office.specs.Kept.{IsSound, kept_disk, kept_history, kept_pending};
@@ -12,7 +12,8 @@ ghost use Rattle.aid_office.specs.RowStops.{IsLate, StopsRow};
 
 use crate::stop::Stop;
 use aid_edges::{Sink, write_whole};
-use aid_types::{Ask, Filing, Reply};
+use aid_filings::Filing;
+use aid_replies::{Ask, Reply};
 use desk_forms::{RowError, Rows, put_error, put_line};
 use disk_model::Disk;
 use kept_office::KeptOffice;

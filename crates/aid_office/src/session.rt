@@ -1,6 +1,6 @@
 //! A run of the program: its words, its input, its journal, what it writes, and its status.
 ghost use Rattle.std.specs.Prelude.{◌≡◌, ◌≢◌, ◌⊎◌, ◌≤◌, ◌+◌, ◌++◌, ◌↔◌, ◌∷◌, ◌^◌, ◌<◌, [], ℕ, List, All, Ok, Err, IsOk, IsTrue, IfOk, IfErr, OnOk, codes, length, map, string_bytes};
-ghost use Rattle.aid_types.specs.declared.filing.Filing.{Filing};
+ghost use Rattle.aid_filings.specs.declared.filing.Filing.{Filing};
 ghost use Rattle.desk_forms.specs.Rows.{HasFields, rows_of_text};
 ghost use Rattle.aid_edges.specs.Faults.{Rose};
 ghost use Rattle.disk_model.specs.Telling.{EachImage, EachMoment, IsHonest};

@@ -1,5 +1,5 @@
 -- The derived `==` of these types is equality.
-use Rattle.std.proofs.Common.{◌≡◌, ℕ, ℤ, Bool, true, false, ◌&&◌, ◌≤ℤ◌, refl, ap, subst, arith, sym, ◌∙◌, Decides}
+use Rattle.std.proofs.Common.{◌≡◌, ℕ, ℤ, Bool, true, false, ◌&&◌, ◌≤ℤ◌, List, [], ◌∷◌, length, take, refl, ap, subst, arith, sym, ◌∙◌, Decides}
 use Rattle.std.specs.Prelude.{nat_eq, T}
 use Rattle.std.specs.Ordering.{int_eq}
 use Rattle.std.specs.Coded.{×_prop, le_prop}
@@ -8,6 +8,9 @@ use Rattle.std.proofs.lemmas.Bool.{and_parts, and_from, eqb-true, eq-eqb, true�
 use Rattle.std.proofs.lemmas.Bool.Decides.{Decides-int_eq}
 use Rattle.std.proofs.lemmas.Cmp.{int_eq_equiv}
 use Rattle.std.proofs.lemmas.Int.{ints}
+use lib.Pointwise.{pointwise}
+use Rattle.aid_types.proofs.FilledLemmas.{take-filled}
+use Rattle.aid_types.specs.Filled.{filled}
 use Rattle.aid_types.specs.Ranges.{IsAmount, IsBetween, IsSignedAmount}
 use Rattle.aid_types.specs.declared.number.Key.{Key}
 use Rattle.aid_types.specs.declared.application.Side.{Side}
@@ -96,3 +99,33 @@ tells_side = tells_by side_parts side_whole (tells_pair tells_ℤ (tells_pair te
 -- what a derive above compares by
 pub key_eq-Decides : (a b : Key) → Decides (key_ghosts.eq a b) (a ≡ b)
 key_eq-Decides a b = decides tells_key a b (key_ghosts.eq a b) refl
+
+-- ---- tables, which are told by their rows and how many they are
+pointwise_same : {A : Type 0} {q : A → A → Bool} → Tells q → (xs ys : List A) → pointwise q xs ys ≡ true → xs ≡ ys
+pointwise_same t [] [] h = refl
+pointwise_same t [] (y ∷ ys) h = absurd (true≢false (sym h))
+pointwise_same t (x ∷ xs) [] h = absurd (true≢false (sym h))
+pointwise_same {A} {q} t (x ∷ xs) (y ∷ ys) h =
+    let k = and_parts (q x y) (pointwise q xs ys) h in
+    let head = t.same x y k.0 in
+    let tail = pointwise_same t xs ys k.1 in
+    cc
+
+pointwise_told : {A : Type 0} {q : A → A → Bool} → Tells q → (xs : List A) → pointwise q xs xs ≡ true
+pointwise_told t [] = refl
+pointwise_told {A} {q} t (x ∷ xs) = and_from (q x x) (pointwise q xs xs) (t.told x) (pointwise_told t xs)
+
+pub tells_list : {A : Type 0} {q : A → A → Bool} → Tells q → Tells (λ (xs ys : List A). pointwise q xs ys)
+tells_list t = record { same = λ xs ys h. pointwise_same t xs ys h; told = λ xs. pointwise_told t xs }
+
+pub tells_filled : {A : Type 0} {q : A → A → Bool} (room : ℕ) (fill : A) → Tells q → Tells (λ (xs ys : List A). pointwise q (filled room fill xs) (filled room fill ys) && nat_eq (length xs) (length ys))
+tells_filled {A} {q} room fill t = record {
+  same = λ xs ys h.
+      let k = and_parts (pointwise q (filled room fill xs) (filled room fill ys)) (nat_eq (length xs) (length ys)) h in
+      let len = eqb-true (length xs) (length ys) k.1 in
+      sym (take-filled room fill xs)
+      ∙ ap (take (length xs)) (pointwise_same t (filled room fill xs) (filled room fill ys) k.0)
+      ∙ ap (λ (n : ℕ). take n (filled room fill ys)) len
+      ∙ take-filled room fill ys;
+  told = λ xs. and_from (pointwise q (filled room fill xs) (filled room fill xs)) (nat_eq (length xs) (length xs)) (pointwise_told t (filled room fill xs)) (eq-eqb (length xs) (length xs) refl);
+}

@@ -30,12 +30,7 @@ tells_region = record { same = same; told = told } where
   same Contiguous Contiguous h = refl
   same Alaska Alaska h = refl
   same Hawaii Hawaii h = refl
-  same Contiguous Alaska h = absurd (true≢false (sym h))
-  same Contiguous Hawaii h = absurd (true≢false (sym h))
-  same Alaska Contiguous h = absurd (true≢false (sym h))
-  same Alaska Hawaii h = absurd (true≢false (sym h))
-  same Hawaii Contiguous h = absurd (true≢false (sym h))
-  same Hawaii Alaska h = absurd (true≢false (sym h))
+  same _ _ h = absurd (true≢false (sym h))
 
   told : (x : Region) → region_eq.it x x ≡ true
   told Contiguous = refl

@@ -1,5 +1,5 @@
 //! The numbers that name years, students and schools.
-ghost use Rattle.std.specs.Prelude.{◌≡◌, ◌<◌, ◌↔◌, IsTrue};
+ghost use Rattle.std.specs.Prelude.{◌≡◌, ◌<◌};
 ghost use Rattle.aid_types.specs.Ranges.{IsBetween};
 
 use std::marker::Model;
@@ -90,15 +90,6 @@ pub struct Key {
     pub school: School,
     pub number: u64,
     pub ghost in_range: { IsBetween 1 999999999999 number },
-}
-
-impl Key {
-    /// Whether two keys are equal.
-    pub fn is_same(&self, other: &Key) -> bool
-        ensures { IsTrue result ↔ (self.now ≡ other.now) }
-    {
-        *self == *other
-    }
 }
 
 impl Year {

@@ -1,12 +1,12 @@
 -- The filing of a kind that has given numbers is the one filing of that kind with them.
 use Rattle.std.proofs.Common.{◌≡◌, ℕ, ℤ, pos, negsuc, List, [], ◌∷◌, Some, refl, sym, ◌∙◌}
 use Rattle.std.specs.Prelude.{unsigned_abs}
-use Rattle.aid_types.specs.Fields.{AreInRange, fields_of, kind_of, numbers_of}
+use Rattle.filing_numbers.specs.Fields.{AreInRange, fields_of, kind_of, numbers_of}
 use Rattle.aid_types.specs.Ranges.{IsWithin}
-use Rattle.aid_types.specs.declared.fields.Kind.{Kind}
-use Rattle.aid_types.specs.declared.fields.Kind.TheVariants as kinds
-use Rattle.aid_types.specs.declared.filing.Filing.{Filing}
-use Rattle.aid_types.proofs.NumbersLemmas.{same_filing}
+use Rattle.filing_numbers.specs.declared.fields.Kind.{Kind}
+use Rattle.filing_numbers.specs.declared.fields.Kind.TheVariants as kinds
+use Rattle.aid_filings.specs.declared.filing.Filing.{Filing}
+use Rattle.filing_numbers.proofs.NumbersLemmas.{same_filing}
 use Rattle.desk_forms.specs.Filings.{filing_of}
 
 -- a number that isn't negative

@@ -6,7 +6,7 @@ use Rattle.csv.specs.Records.{field_at}
 use Rattle.aid_num.specs.Whole.{whole_between}
 use Rattle.aid_num.specs.declared.text.Malformed.{Malformed}
 use Rattle.aid_num.specs.declared.text.Malformed.TheVariants.{Range, Spelling}
-use Rattle.aid_types.specs.declared.fields.Field.{Field}
+use Rattle.filing_numbers.specs.declared.fields.Field.{Field}
 use Rattle.desk_forms.specs.declared.error.RowError.{RowError}
 use Rattle.desk_forms.specs.Numbers.{judged, number_of, numbers_from, refused, with_first}
 

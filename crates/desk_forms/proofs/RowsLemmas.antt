@@ -4,9 +4,9 @@ use Rattle.std.proofs.lemmas.List.Elements.{All-nil, All-cons}
 use Rattle.std.specs.Prelude.{Result, Ok, Err, All, IfOk, is_some, option_and_then, if◌then◌else◌, ◌==◌}
 use Rattle.csv.specs.Reading.{default_config, records, strip_bom}
 use Rattle.csv.specs.Records.{field_at}
-use Rattle.aid_types.specs.Fields.{AreInRange, fields_of, kind_of, numbers_of}
-use Rattle.aid_types.specs.declared.fields.Kind.{Kind}
-use Rattle.aid_types.specs.declared.filing.Filing.{Filing}
+use Rattle.filing_numbers.specs.Fields.{AreInRange, fields_of, kind_of, numbers_of}
+use Rattle.filing_numbers.specs.declared.fields.Kind.{Kind}
+use Rattle.aid_filings.specs.declared.filing.Filing.{Filing}
 use Rattle.desk_forms.specs.Numbers.{numbers_from, numbers_from-in_range, refused}
 use Rattle.desk_forms.specs.Rows.{HasFields, filing_read, kind_named, row_meaning, row_of, row_of_kind, rows_from, rows_of_text}
 use Rattle.desk_forms.specs.declared.error.RowError.{RowError}

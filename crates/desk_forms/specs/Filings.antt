@@ -1,12 +1,12 @@
 -- The filing of a kind that has given numbers.
 use Rattle.std.specs.Prelude.{ℕ, ℤ, pos, negsuc, List, [], ◌∷◌, unsigned_abs}
 use Rattle.std.proofs.Math.Facts.{leb_yes}
-use Rattle.aid_types.specs.Fields.{AreInRange, fields_of}
+use Rattle.filing_numbers.specs.Fields.{AreInRange, fields_of}
 use Rattle.aid_types.specs.Ranges.{IsBetween, IsWithin}
-use Rattle.aid_types.specs.declared.fields.Kind.{Kind}
-use Rattle.aid_types.specs.declared.fields.Kind.TheVariants as kinds
-use Rattle.aid_types.specs.declared.filing.What.TheVariants.{School, Prior}
-use Rattle.aid_types.specs.declared.filing.Filing.{Filing}
+use Rattle.filing_numbers.specs.declared.fields.Kind.{Kind}
+use Rattle.filing_numbers.specs.declared.fields.Kind.TheVariants as kinds
+use Rattle.aid_filings.specs.declared.filing.What.TheVariants.{School, Prior}
+use Rattle.aid_filings.specs.declared.filing.Filing.{Filing}
 
 -- a range of numbers that aren't negative holds for the number without its sign
 pub between : (low high : ℕ) (z : ℤ) → IsWithin (pos low) (pos high) z → IsBetween low high (unsigned_abs z)

@@ -3,4 +3,4 @@ pub mod Lines
 pub mod Numbers
 pub mod Rows
 pub use Rattle.aid_num.specs.Whole
-pub use Rattle.aid_types.specs.Fields
+pub use Rattle.filing_numbers.specs.Fields

@@ -2,15 +2,15 @@
 use Rattle.std.specs.Prelude.{ℕ, ◌/◌, ◌%◌, List, [], ◌++◌, ⊤, codes, decimal}
 use Rattle.aid_num.specs.Cents.{cents_text}
 use Rattle.aid_num.specs.Whole.{whole_text}
-use Rattle.aid_types.specs.declared.reply.Formula.{Formula}
-use Rattle.aid_types.specs.declared.reply.Formula.TheVariants.{A, B, C}
-use Rattle.aid_types.specs.declared.reply.Way.{Way}
-use Rattle.aid_types.specs.declared.reply.Way.TheVariants.{Maximum, Calculated, Minimum, Nothing}
-use Rattle.aid_types.specs.declared.reply.Outcome.{Outcome}
-use Rattle.aid_types.specs.declared.reply.Outcome.TheVariants.{Noted, Indexed, Paid, Returned}
-use Rattle.aid_types.specs.declared.reply.Refusal.{Refusal}
-use Rattle.aid_types.specs.declared.reply.Reply.{Reply}
-use Rattle.aid_types.specs.declared.reply.Reply.TheVariants.{Accepted, Again, Refused, Quoted, Standing, DiskFault, NoMemory}
+use Rattle.aid_types.specs.declared.award.Formula.{Formula}
+use Rattle.aid_types.specs.declared.award.Formula.TheVariants.{A, B, C}
+use Rattle.aid_types.specs.declared.award.Way.{Way}
+use Rattle.aid_types.specs.declared.award.Way.TheVariants.{Maximum, Calculated, Minimum, Nothing}
+use Rattle.aid_replies.specs.declared.reply.Outcome.{Outcome}
+use Rattle.aid_replies.specs.declared.reply.Outcome.TheVariants.{Noted, Indexed, Paid, Returned}
+use Rattle.aid_types.specs.declared.award.Refusal.{Refusal}
+use Rattle.aid_replies.specs.declared.reply.Reply.{Reply}
+use Rattle.aid_replies.specs.declared.reply.Reply.TheVariants.{Accepted, Again, Refused, Quoted, Standing, DiskFault, NoMemory}
 use Rattle.desk_forms.specs.declared.error.RowError.{RowError}
 
 -- how a formula and a way to an award are written

@@ -4,9 +4,9 @@ use Rattle.std.specs.Bool.{passes}
 use Rattle.std.specs.Int.Signed.{le_z_yes}
 use Rattle.csv.specs.Records.{field_at}
 use Rattle.aid_num.specs.Whole.{whole_of}
-use Rattle.aid_types.specs.Fields.{AreInRange}
+use Rattle.filing_numbers.specs.Fields.{AreInRange}
 use Rattle.aid_types.specs.Ranges.{IsWithin}
-use Rattle.aid_types.specs.declared.fields.Field.{Field}
+use Rattle.filing_numbers.specs.declared.fields.Field.{Field}
 use Rattle.desk_forms.specs.declared.error.RowError.{RowError}
 
 -- why a row is no filing

@@ -2,10 +2,10 @@
 use Rattle.std.specs.Prelude.{⊤, ℕ, suc, ℤ, List, [], ◌∷◌, length, codes, bytes_eq, ◌==◌, if◌then◌else◌, Option, Some, None, IsSome, option_and_then, Result, Ok, Err, IfOk}
 use Rattle.csv.specs.Reading.{default_config, records, strip_bom}
 use Rattle.csv.specs.Records.{field_at}
-use Rattle.aid_types.specs.Fields.{AreInRange, fields_of, kind_of}
-use Rattle.aid_types.specs.declared.fields.Kind.{Kind}
-use Rattle.aid_types.specs.declared.fields.Kind.TheVariants.{School, Prior}
-use Rattle.aid_types.specs.declared.filing.Filing.{Filing}
+use Rattle.filing_numbers.specs.Fields.{AreInRange, fields_of, kind_of}
+use Rattle.filing_numbers.specs.declared.fields.Kind.{Kind}
+use Rattle.filing_numbers.specs.declared.fields.Kind.TheVariants.{School, Prior}
+use Rattle.aid_filings.specs.declared.filing.Filing.{Filing}
 use Rattle.desk_forms.specs.Filings.{filing_of}
 use Rattle.desk_forms.specs.Numbers.{numbers_from, numbers_from-in_range, refused}
 use Rattle.desk_forms.specs.declared.error.RowError.{RowError}

@@ -6,7 +6,8 @@ ghost use Rattle.aid_num.specs.Whole.{whole_text};
 ghost use Rattle.desk_forms.specs.Lines.{HasLine, error_line, formula_text, line_of, outcome_text, percent_text, refused_text, standing_text, way_text};
 
 use crate::error::RowError;
-use aid_types::{Formula, Outcome, Refusal, Reply, Way};
+use aid_replies::{Outcome, Reply};
+use aid_types::{Formula, Refusal, Way};
 use arrayvec::ArrayString;
 use itoa::Buffer;
 use std::alloc::AllocError;

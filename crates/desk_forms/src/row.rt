@@ -7,7 +7,8 @@ ghost use Rattle.desk_forms.specs.Rows.{kind_named, row_meaning, row_of_kind};
 
 use crate::error::RowError;
 use aid_num::{Malformed, read_whole};
-use aid_types::{Field, Filing, Kind, Numbers};
+use aid_filings::Filing;
+use filing_numbers::{Field, Kind, Numbers, from_numbers};
 use csv::ByteRecord;
 
 // The cause of an unknown kind, of a wrong number of fields, of a wrong spelling and of a number out of its range.
@@ -61,7 +62,7 @@ fn filing_of_kind(row: u32, texts: &ByteRecord, kind: Kind) -> Result<Filing, Ro
         return Err(refused(row, 0, WRONG_COUNT));
     }
     let numbers = numbers_of(row, texts, fields)?;
-    Ok(Filing::from_numbers(kind, numbers.as_slice()))
+    Ok(from_numbers(kind, numbers.as_slice()))
 }
 
 // The numbers of the fields after the kind.

@@ -5,7 +5,7 @@ ghost use Rattle.desk_forms.specs.Rows.{HasFields, rows_of_text};
 
 use crate::error::RowError;
 use crate::row::filing_of_row;
-use aid_types::Filing;
+use aid_filings::Filing;
 use csv::{ErrorKind, ReaderBuilder};
 use std::alloc::{AllocError, Global};
 use std::marker::Model;
@@ -18,7 +18,7 @@ pub struct Rows {
 
 impl Model for Rows {
     ghost use Rattle.std.specs.Prelude.{List, Result};
-    ghost use Rattle.aid_types.specs.declared.filing.Filing.{Filing};
+    ghost use Rattle.aid_filings.specs.declared.filing.Filing.{Filing};
     ghost use Rattle.desk_forms.specs.declared.error.RowError.{RowError};
 
     ghost Value = { List (Result Filing RowError) };

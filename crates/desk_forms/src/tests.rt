@@ -1,6 +1,8 @@
 //! What rows say and how lines are written.
 use super::*;
-use aid_types::{Formula, Outcome, Refusal, Reply, Way};
+use aid_replies::{Outcome, Reply};
+use filing_numbers::numbers_in;
+use aid_types::{Formula, Refusal, Way};
 use itoa::Buffer;
 use std::alloc::Global;
 use std::process::Abort;
@@ -13,7 +15,7 @@ fn told(rt: &impl Abort, alloc: Global, text: &[u8]) -> Result<Vec<u8>, Fail> {
     for row in rows_of(alloc, text)?.into_rows() {
         match row {
             Ok(filing) => {
-                for number in filing.numbers().as_slice() {
+                for number in numbers_in(&filing).as_slice() {
                     let mut digits = Buffer::new();
                     out.extend_from_slice(digits.format(*number).as_bytes())?;
                     out.push(b' ')?;

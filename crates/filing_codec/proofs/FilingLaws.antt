@@ -4,12 +4,12 @@ use Rattle.std.specs.Prelude.{IfOk}
 use Rattle.std.proofs.lemmas.List.{append-nil, nil_from_length, drop_at}
 use Rattle.std.proofs.lemmas.Bool.{eqb-true}
 use Rattle.std.proofs.lemmas.Int.{ints}
-use Rattle.aid_types.specs.declared.fields.Field.{Field}
-use Rattle.aid_types.specs.declared.fields.Kind.{Kind}
-use Rattle.aid_types.specs.declared.fields.Kind.TheVariants.{School, Prior}
-use Rattle.aid_types.specs.declared.filing.Filing.{Filing}
-use Rattle.aid_types.specs.Fields.{width_of, code_of, kind_of, fields_of, numbers_of, AreInRange, AreOfKind, IsFiling}
-use Rattle.aid_types.proofs.NumbersLemmas.{same_filing}
+use Rattle.filing_numbers.specs.declared.fields.Field.{Field}
+use Rattle.filing_numbers.specs.declared.fields.Kind.{Kind}
+use Rattle.filing_numbers.specs.declared.fields.Kind.TheVariants.{School, Prior}
+use Rattle.aid_filings.specs.declared.filing.Filing.{Filing}
+use Rattle.filing_numbers.specs.Fields.{width_of, code_of, kind_of, fields_of, numbers_of, AreInRange, AreOfKind, IsFiling}
+use Rattle.filing_numbers.proofs.NumbersLemmas.{same_filing}
 use Rattle.filing_codec.specs.declared.reading.TakeError.{TakeError}
 use Rattle.filing_codec.specs.declared.reading.TakeError.TheVariants.{NotFiling, NoMemory}
 use Rattle.filing_codec.specs.Spelling.{number_bytes, numbers_bytes, bytes_of, spelling, IsAlone}

@@ -6,10 +6,10 @@ use Rattle.std.proofs.lemmas.Int.{ints}
 use Rattle.std.proofs.lemmas.List.{take_at, length-take, length-take-le, get_or-take, get_or-drop, get_or_past, take-append-drop}
 use Rattle.std.proofs.lemmas.Nat.{le_bytes_8, from_le_bytes-to_le_bytes_8}
 use Rattle.aid_types.specs.Ranges.{IsWithin}
-use Rattle.aid_types.specs.declared.fields.Width.{Width}
-use Rattle.aid_types.specs.declared.fields.Width.TheVariants.{One, Two, Four, Eight}
-use Rattle.aid_types.specs.declared.fields.Field.{Field}
-use Rattle.aid_types.specs.Fields.{width_of}
+use Rattle.filing_numbers.specs.declared.fields.Width.{Width}
+use Rattle.filing_numbers.specs.declared.fields.Width.TheVariants.{One, Two, Four, Eight}
+use Rattle.filing_numbers.specs.declared.fields.Field.{Field}
+use Rattle.filing_numbers.specs.Fields.{width_of}
 use Rattle.filing_codec.specs.Spelling.{number_bytes}
 use Rattle.filing_codec.specs.Taking.{is_in_range, tested, number_at}
 use Rattle.filing_codec.proofs.RangeTests.{is_within, in_range_from}

@@ -4,7 +4,7 @@ use Rattle.std.specs.Prelude.{T, int_le, Some, None}
 use Rattle.std.proofs.lemmas.Bool.{and_parts, and_from}
 use Rattle.std.proofs.lemmas.Int.{ints}
 use Rattle.aid_types.specs.Ranges.{IsWithin}
-use Rattle.aid_types.specs.declared.fields.Field.{Field}
+use Rattle.filing_numbers.specs.declared.fields.Field.{Field}
 use Rattle.filing_codec.specs.Taking.{is_in_range, tested}
 
 fact_of : (b : Bool) → b ≡ true → T b

@@ -1,7 +1,7 @@
 -- Reading numbers one after the other, as a loop does.
 use Rattle.std.proofs.Common.{◌≡◌, ℕ, ◌+◌, ◌<◌, ℤ, List, [], ◌∷◌, ◌++◌, length, drop, get_or, Option, Some, Result, Ok, Err, refl, sym, ap, ◌∙◌, drop-cons, add-one, append_assoc}
-use Rattle.aid_types.specs.declared.fields.Field.{Field}
-use Rattle.aid_types.specs.Fields.{width_of}
+use Rattle.filing_numbers.specs.declared.fields.Field.{Field}
+use Rattle.filing_numbers.specs.Fields.{width_of}
 use Rattle.filing_codec.specs.Taking.{number_at, put_first, numbers_at}
 
 -- what was read before, and what is still read

@@ -1,6 +1,6 @@
 -- The bytes of numbers, one number after the other.
 use Rattle.std.proofs.Common.{◌≡◌, ℕ, ◌+◌, ◌<◌, ℤ, List, ◌++◌, length, drop, get_or, refl, sym, ap, ◌∙◌, drop-cons, add-one, append_assoc}
-use Rattle.aid_types.specs.declared.fields.Field.{Field}
+use Rattle.filing_numbers.specs.declared.fields.Field.{Field}
 use Rattle.filing_codec.specs.Spelling.{number_bytes, numbers_bytes}
 
 numbers_bytes-drop : (fs : List Field) (zs : List ℤ) (i : ℕ) (f : Field) (z : ℤ) → i < length fs → i < length zs

@@ -1,3 +1,3 @@
-pub use Rattle.aid_types.specs.Fields
+pub use Rattle.filing_numbers.specs.Fields
 pub mod Spelling
 pub mod Taking

@@ -2,11 +2,11 @@
 -- fields, each at its field's width with the lowest byte first.
 use Rattle.std.specs.Prelude.{◌≡◌, ℕ, ℤ, List, [], ◌∷◌, ◌++◌, take, Option, Some, None}
 use Rattle.std.specs.Int.{w64, to_le_bytes, cast_unsigned}
-use Rattle.aid_types.specs.declared.fields.Width.{Width}
-use Rattle.aid_types.specs.declared.fields.Field.{Field}
-use Rattle.aid_types.specs.declared.fields.Kind.{Kind}
-use Rattle.aid_types.specs.declared.filing.Filing.{Filing}
-use Rattle.aid_types.specs.Fields.{width_of, code_of, kind_of, fields_of, numbers_of}
+use Rattle.filing_numbers.specs.declared.fields.Width.{Width}
+use Rattle.filing_numbers.specs.declared.fields.Field.{Field}
+use Rattle.filing_numbers.specs.declared.fields.Kind.{Kind}
+use Rattle.aid_filings.specs.declared.filing.Filing.{Filing}
+use Rattle.filing_numbers.specs.Fields.{width_of, code_of, kind_of, fields_of, numbers_of}
 
 -- the lowest bytes of a number, the lowest first
 abbrev pub number_bytes : Width → ℤ → List ℕ

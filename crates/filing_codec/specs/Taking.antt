@@ -1,11 +1,11 @@
 -- Reading a filing's bytes from left to right, with the place of the first fault.
 use Rattle.std.specs.Prelude.{◌≡◌, ℕ, ◌+◌, ℤ, pos, int_le, Bool, ◌&&◌, List, [], ◌∷◌, length, take, drop, Option, Some, None, Result, Ok, Err, find, nat_lt, ◌==◌, if◌then◌else◌}
 use Rattle.std.specs.Int.{w64, from_le_bytes}
-use Rattle.aid_types.specs.declared.fields.Field.{Field}
-use Rattle.aid_types.specs.declared.fields.Kind.{Kind}
-use Rattle.aid_types.specs.declared.fields.Kind.TheVariants.{School, Prior}
-use Rattle.aid_types.specs.declared.filing.Filing.{Filing}
-use Rattle.aid_types.specs.Fields.{width_of, code_of, kind_of, fields_of, numbers_of}
+use Rattle.filing_numbers.specs.declared.fields.Field.{Field}
+use Rattle.filing_numbers.specs.declared.fields.Kind.{Kind}
+use Rattle.filing_numbers.specs.declared.fields.Kind.TheVariants.{School, Prior}
+use Rattle.aid_filings.specs.declared.filing.Filing.{Filing}
+use Rattle.filing_numbers.specs.Fields.{width_of, code_of, kind_of, fields_of, numbers_of}
 use Rattle.filing_codec.specs.declared.reading.TakeError.{TakeError}
 use Rattle.filing_codec.specs.declared.reading.TakeError.TheVariants.{NotFiling, NoMemory}
 

@@ -1,12 +1,13 @@
 //! A filing from bytes.
 ghost use Rattle.std.specs.Prelude.{◌≡◌, ◌≢◌, ◌≤◌, length, pos, Ok, Err, IfOk, IfSome};
 ghost use Rattle.std.specs.Int.{w64, from_le_bytes};
-ghost use Rattle.aid_types.specs.declared.filing.Filing.{Filing};
-ghost use Rattle.aid_types.specs.Fields.{IsFiling, width_of};
+ghost use Rattle.aid_filings.specs.declared.filing.Filing.{Filing};
+ghost use Rattle.filing_numbers.specs.Fields.{IsFiling, width_of};
 ghost use Rattle.filing_codec.specs.Spelling.{spelling};
 ghost use Rattle.filing_codec.specs.Taking.{Gives, kind_at as kind_in, number_at as number_in, numbers_at as numbers_in, taken, tested as tested_in};
 
-use aid_types::{Field, Filing, Kind, Numbers};
+use aid_filings::Filing;
+use filing_numbers::{Field, Kind, Numbers, from_numbers};
 use std::alloc::Global;
 
 /// Why bytes are no filing.
@@ -44,7 +45,7 @@ fn filing_in(bytes: &[u8]) -> Result<Filing, TakeError>
         return Err(TakeError::NotFiling(0));
     };
     match numbers_at(kind.fields(), rest) {
-        Ok(numbers) => Ok(Filing::from_numbers(kind, numbers.as_slice())),
+        Ok(numbers) => Ok(from_numbers(kind, numbers.as_slice())),
         Err(place) => Err(TakeError::NotFiling(place)),
     }
 }

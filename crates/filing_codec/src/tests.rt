@@ -1,8 +1,9 @@
 ghost use Rattle.std.specs.Prelude.{IsSome};
-ghost use Rattle.aid_types.specs.Fields.{kind_of};
+ghost use Rattle.filing_numbers.specs.Fields.{kind_of};
 
 use super::*;
-use aid_types::{Filing, Key, PriorFacts, School, SchoolFacts, Student, What};
+use aid_filings::{Filing, PriorFacts, SchoolFacts, What};
+use aid_types::{Key, School, Student};
 use std::alloc::Global;
 use std::test::*;
 

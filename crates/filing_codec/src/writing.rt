@@ -1,11 +1,12 @@
 //! A filing as bytes.
 ghost use Rattle.std.specs.Prelude.{◌≡◌, ◌+◌, ◌*◌, ◌≤◌, ◌++◌, length, List, ℕ, IsSome};
-ghost use Rattle.aid_types.specs.declared.filing.Filing.{Filing};
-ghost use Rattle.aid_types.specs.Fields.{IsFiling, kind_of};
+ghost use Rattle.aid_filings.specs.declared.filing.Filing.{Filing};
+ghost use Rattle.filing_numbers.specs.Fields.{IsFiling, kind_of};
 ghost use Rattle.filing_codec.specs.Spelling.{number_bytes, numbers_bytes, spelling, IsAlone};
 
-use crate::room::{CAPACITY, Room};
-use aid_types::{Field, Filing};
+use payload::{CAPACITY, Room};
+use aid_filings::Filing;
+use filing_numbers::{Field, kind, numbers_in};
 
 /// Puts the one spelling of a filing into the room, in place of what the room held. The filing is of a kind that has
 /// fields. It takes no memory.
@@ -26,12 +27,12 @@ fn put_parts(filing: &Filing, room: &mut Room)
     ensures spelled { room.new ≡ spelling filing.now }
     ensures is_filing { IsFiling filing.now }
 {
-    let Some(kind) = filing.what.kind() else {
+    let Some(kind) = kind(&filing.what) else {
         unreachable!();
     };
     room.clear();
     room.append(&[kind.code()]);
-    put_numbers(kind.fields(), filing.numbers().as_slice(), room);
+    put_numbers(kind.fields(), numbers_in(filing).as_slice(), room);
 }
 
 fn put_numbers(fields: &[Field], numbers: &[i64], room: &mut Room)

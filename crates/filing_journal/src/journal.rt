@@ -6,7 +6,7 @@ ghost use Rattle.disk_model.specs.Telling.{IsHonest, EachMoment, IsKept, IsKeptW
 ghost use Rattle.filing_journal.specs.Stands.{Payloads, IsPayload, BeforeOrWith, body_of};
 
 use disk_model::{Disk, Failed, write_kept};
-use filing_codec::CAPACITY;
+use payload::CAPACITY;
 
 const OPEN: u8 = 1;
 

@@ -7,7 +7,7 @@ ghost use Rattle.filing_journal.specs.Stands.{Payloads, StandsFor, gate_place};
 use crate::Journal;
 use crate::record::{Record, read_record};
 use disk_model::{Disk, Failed, trim};
-use filing_codec::Room;
+use payload::Room;
 
 /// Why a journal can't be opened.
 #[derive(Clone, Copy, Debug, PartialEq, Eq)]

@@ -5,7 +5,7 @@ ghost use Rattle.disk_model.specs.Telling.{IsHonest, IsRead};
 ghost use Rattle.filing_journal.specs.Record.{RecordAt, StartsWith, IfSize, IfWhole};
 
 use disk_model::{Disk, Failed};
-use filing_codec::{CAPACITY, Room};
+use payload::{CAPACITY, Room};
 
 // The greatest number of bytes that are read at once.
 const PIECE: usize = 4096;

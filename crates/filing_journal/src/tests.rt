@@ -7,7 +7,7 @@ ghost use Rattle.filing_journal.specs.Opening.{HasGiven, HasAll, HasEnded, openi
 
 use crate::*;
 use disk_model::{Disk, Fill, MemoryDisk, Stop};
-use filing_codec::Room;
+use payload::Room;
 use std::alloc::Global;
 use std::test::Fail;
 

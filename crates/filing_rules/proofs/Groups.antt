@@ -1,13 +1,13 @@
 -- The first broken rule of lists that are put together: that of the first list, or else that of the second.
 use Rattle.std.proofs.Common.{◌≡◌, cond, ℕ, refl, ap, ◌∙◌, Bool, true, false, List, [], ◌∷◌, ◌++◌, Option, Some, None}
 use Rattle.std.specs.Prelude.{◌==◌, sum, slice_index}
-use Rattle.aid_types.specs.Calendars.{term_of}
+use Rattle.aid_filings.specs.Calendars.{term_of}
 use Rattle.aid_types.specs.Programs.{rank}
-use Rattle.aid_types.specs.declared.filing.Amount.{Amount}
-use Rattle.aid_types.specs.declared.filing.CalendarFacts.{CalendarFacts}
-use Rattle.aid_types.specs.declared.filing.WithdrawFacts.{WithdrawFacts}
-use Rattle.aid_types.specs.declared.filing.What.TheVariants.{Calendar, Pay, Withdraw}
-use Rattle.aid_types.specs.declared.reply.Refusal.{Refusal}
+use Rattle.aid_filings.specs.declared.filing.Amount.{Amount}
+use Rattle.aid_filings.specs.declared.filing.CalendarFacts.{CalendarFacts}
+use Rattle.aid_filings.specs.declared.filing.WithdrawFacts.{WithdrawFacts}
+use Rattle.aid_filings.specs.declared.filing.What.TheVariants.{Calendar, Pay, Withdraw}
+use Rattle.aid_types.specs.declared.award.Refusal.{Refusal}
 use Rattle.aid_types.specs.declared.term.Term.{Term}
 use Rattle.filing_rules.specs.declared.facts.Facts.{Facts}
 use Rattle.filing_rules.specs.Rules.{Check, first_broken, told_by, lines_of, only, too_early, year_of_program, past_payment, past_lifetime, past_cost, past_fseog, rule_21, rule_22, rule_23, rule_24, rule_52, rule_62, rule_63}

@@ -1,8 +1,8 @@
 -- The lines of the rules in groups, as the code tries them.
 use Rattle.std.specs.Prelude.{ℕ, ◌==◌, nat_lt, List, [], ◌∷◌, ◌++◌}
 use Rattle.aid_types.specs.Programs.{rank}
-use Rattle.aid_types.specs.declared.filing.Amount.{Amount}
-use Rattle.aid_types.specs.declared.filing.WithdrawFacts.{WithdrawFacts}
+use Rattle.aid_filings.specs.declared.filing.Amount.{Amount}
+use Rattle.aid_filings.specs.declared.filing.WithdrawFacts.{WithdrawFacts}
 use Rattle.aid_types.specs.declared.term.Term.{Term}
 use Rattle.filing_rules.specs.declared.facts.Facts.{Facts}
 use Rattle.filing_rules.specs.Rules.{Check, only, too_early, rule_12, rule_20, rule_21, rule_22, rule_23, rule_24, rule_30, rule_31, rule_40, rule_50, rule_52, rule_53, rule_58, rule_61, rule_62, rule_90, not_enrolled, past_cost, past_fseog, past_lifetime, past_payment, past_year}

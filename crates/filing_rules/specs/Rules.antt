@@ -1,13 +1,13 @@
 -- The rules on a filing, as lines of data on the facts: when a rule is broken, what it then tells, and each kind's order.
 -- The rule numbers, the orders and the numbers told are the office's own; docs/DEFINITIONS.md has the source of what each rule keeps.
 use Rattle.std.specs.Prelude.{ℕ, ◌+◌, ◌*◌, ◌%◌, ◌==◌, ◌&&◌, ◌||◌, Bool, true, false, not, nat_lt, nat_le, List, [], ◌∷◌, ◌++◌, length, sum, slice_index, Option, Some, None, if◌then◌else◌}
-use Rattle.aid_types.specs.Calendars.{term_of}
+use Rattle.aid_filings.specs.Calendars.{term_of}
 use Rattle.aid_types.specs.Programs.{rank}
 use Rattle.aid_types.specs.declared.number.Key.{Key}
 use Rattle.aid_types.specs.declared.term.Term.{Term}
-use Rattle.aid_types.specs.declared.filing.What.{What}
-use Rattle.aid_types.specs.declared.filing.What.TheVariants.{Book as BookFiled, School, Calendar, Prior, Apply, Enrol, Originate, Pay, Withdraw, Repay, Adjust}
-use Rattle.aid_types.specs.declared.reply.Refusal.{Refusal}
+use Rattle.aid_filings.specs.declared.filing.What.{What}
+use Rattle.aid_filings.specs.declared.filing.What.TheVariants.{Book as BookFiled, School, Calendar, Prior, Apply, Enrol, Originate, Pay, Withdraw, Repay, Adjust}
+use Rattle.aid_types.specs.declared.award.Refusal.{Refusal}
 use Rattle.enrolment.specs.Terms.{intensity_of, payment_of}
 use Rattle.lifetime_ledger.specs.Used.{use_of}
 use Rattle.filing_rules.specs.declared.facts.Facts.{Facts}

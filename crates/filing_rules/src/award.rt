@@ -1,6 +1,6 @@
 //! The rules on applications and their corrections.
 ghost use Rattle.std.specs.Prelude.{◌≡◌};
-ghost use Rattle.aid_types.specs.declared.filing.What.TheVariants.{Apply};
+ghost use Rattle.aid_filings.specs.declared.filing.What.TheVariants.{Apply};
 ghost use Rattle.filing_rules.specs.Rules.{first_broken, lines_of, rule_93};
 
 use crate::facts::Facts;

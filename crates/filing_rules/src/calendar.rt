@@ -1,12 +1,13 @@
 //! The rules on a term that a school files.
 ghost use Rattle.std.specs.Prelude.{◌≡◌, [], ◌∷◌};
-ghost use Rattle.aid_types.specs.declared.filing.What.TheVariants.{Calendar};
+ghost use Rattle.aid_filings.specs.declared.filing.What.TheVariants.{Calendar};
 ghost use Rattle.filing_rules.specs.Lines.{calendar_standing, term_lines};
 ghost use Rattle.filing_rules.specs.Rules.{breaks_in_order, first_broken, lines_of, rule_21, rule_22, rule_23, rule_24};
 
 use crate::facts::Facts;
 use crate::refusal::{broken_by_school, refused};
-use aid_types::{CalendarFacts, Day, Refusal, School, Term};
+use aid_filings::CalendarFacts;
+use aid_types::{Day, Refusal, School, Term};
 
 /// The first broken rule of a term that a school files.
 #[tactic(auto, using(crate::proofs::Groups::calendar_groups))]

@@ -1,12 +1,14 @@
 //! The rules on what the office's own desk files: books, schools and prior use.
 ghost use Rattle.std.specs.Prelude.{◌≡◌};
 ghost use Rattle.filing_rules.specs.Rules.{first_broken, lines_of};
-ghost use Rattle.aid_types.specs.declared.filing.What.TheVariants.{Book as BookFiled, School as SchoolFiled, Prior as PriorFiled};
+ghost use Rattle.aid_filings.specs.declared.filing.What.TheVariants.{Book as BookFiled, School as SchoolFiled, Prior as PriorFiled};
 
 use crate::facts::Facts;
 use crate::limits::MOST_UNITS;
 use crate::refusal::{broken_by_desk, refused};
-use aid_types::{BoxedBook, PriorFacts, Refusal, School, SchoolFacts};
+use aid_books::BoxedBook;
+use aid_filings::{PriorFacts, SchoolFacts};
+use aid_types::{Refusal, School};
 
 /// The first broken rule of an award year's tables.
 pub(crate) fn broken_book(f: &Facts, school: School, book: &BoxedBook) -> Option<Refusal>

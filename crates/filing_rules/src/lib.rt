@@ -17,7 +17,8 @@ mod school;
 mod tests;
 mod withdrawal;
 
-use aid_types::{Key, Refusal, What};
+use aid_filings::What;
+use aid_types::{Key, Refusal};
 pub use facts::Facts;
 pub use limits::{MOST_UNITS, limit_of_year, payment_at};
 pub use refusal::MOST_FILINGS;

@@ -1,7 +1,7 @@
 //! The rules on a payment.
 ghost use Rattle.std.specs.Prelude.{◌≡◌, ◌≤◌, ◌<◌, ◌++◌, [], ◌∷◌, IsNone};
 ghost use Rattle.aid_types.specs.Programs.{rank};
-ghost use Rattle.aid_types.specs.declared.filing.What.TheVariants.{Pay};
+ghost use Rattle.aid_filings.specs.declared.filing.What.TheVariants.{Pay};
 ghost use Rattle.filing_rules.specs.InRange.{IsInRange};
 ghost use Rattle.filing_rules.specs.Lines.{fseog_lines, pell_lines, pell_standing, payment_standing, unlimited_lines};
 ghost use Rattle.filing_rules.specs.Rules.{first_broken, lines_of, rule_52};
@@ -9,7 +9,8 @@ ghost use Rattle.filing_rules.specs.Rules.{first_broken, lines_of, rule_52};
 use crate::facts::Facts;
 use crate::limits::{PellRules, broken_by_cost, broken_by_fseog, broken_by_pell};
 use crate::refusal::{broken_by_school, refused};
-use aid_types::{Amount, Program, Refusal, School};
+use aid_filings::Amount;
+use aid_types::{Program, Refusal, School};
 
 /// The rules on a payment of Pell past a limit.
 const PAYMENT_RULES: PellRules = PellRules {

@@ -2,12 +2,13 @@
 ghost use Rattle.std.specs.Prelude.{◌≡◌};
 ghost use Rattle.filing_rules.specs.InRange.{IsInRange};
 ghost use Rattle.filing_rules.specs.Rules.{first_broken, lines_of};
-ghost use Rattle.aid_types.specs.declared.filing.What.TheVariants.{Enrol, Originate, Repay, Adjust};
+ghost use Rattle.aid_filings.specs.declared.filing.What.TheVariants.{Enrol, Originate, Repay, Adjust};
 
 use crate::facts::Facts;
 use crate::limits::payment_at;
 use crate::refusal::{broken_by_school, refused};
-use aid_types::{Amount, EnrolFacts, OriginateFacts, Refusal, School};
+use aid_filings::{Amount, EnrolFacts, OriginateFacts};
+use aid_types::{Refusal, School};
 
 /// The most credits of a student in a term: the office's own.
 const MOST_CREDITS: u8 = 40;

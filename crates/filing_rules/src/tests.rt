@@ -7,7 +7,8 @@ mod terms;
 mod withdrawals;
 
 use crate::Facts;
-use aid_types::{Amount, Breaks, Day, Key, Program, Refusal, School, Student, Term, Year};
+use aid_filings::Amount;
+use aid_types::{Breaks, Day, Key, Program, Refusal, School, Student, Term, Year};
 
 const STUDENT: Student = Student(5001);
 

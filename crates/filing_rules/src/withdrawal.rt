@@ -1,7 +1,7 @@
 //! The rules on a withdrawal.
 ghost use Rattle.std.specs.Prelude.{◌≡◌, ◌≤◌, ◌<◌, [], ◌∷◌, IsNone, sum, length};
 ghost use Rattle.aid_types.specs.Ranges.{EachIsCents};
-ghost use Rattle.aid_types.specs.declared.filing.What.TheVariants.{Withdraw};
+ghost use Rattle.aid_filings.specs.declared.filing.What.TheVariants.{Withdraw};
 ghost use Rattle.filing_rules.specs.InRange.{IsInRange};
 ghost use Rattle.filing_rules.specs.Lines.{cost_could, fseog_could, pell_could, withdrawal_days, withdrawal_standing};
 ghost use Rattle.filing_rules.specs.Rules.{first_broken, lines_of, rule_63};
@@ -9,7 +9,8 @@ ghost use Rattle.filing_rules.specs.Rules.{first_broken, lines_of, rule_63};
 use crate::facts::Facts;
 use crate::limits::{PellRules, broken_by_cost, broken_by_fseog, broken_by_pell};
 use crate::refusal::{broken_by_school, refused};
-use aid_types::{Program, Refusal, School, WithdrawFacts};
+use aid_filings::WithdrawFacts;
+use aid_types::{Program, Refusal, School};
 
 /// The rule on a withdrawal after which what could have been disbursed of Pell is past a limit.
 const WITHDRAWAL_RULES: PellRules = PellRules {

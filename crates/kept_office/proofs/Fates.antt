@@ -1,9 +1,9 @@
 -- What a life of an office keeps.
 use Rattle.std.proofs.Common.{◌≡◌, inl, inr, ℕ, List, [], ◌∷◌, ◌++◌, Option, Some, None, refl, ◌∙◌, ap, subst}
-use Rattle.aid_types.specs.declared.filing.Filing.{Filing}
-use Rattle.aid_types.specs.declared.reply.Ask.{Ask}
-use Rattle.aid_types.specs.declared.reply.Reply.{Reply}
-use Rattle.aid_types.specs.declared.reply.Reply.TheVariants as reply
+use Rattle.aid_filings.specs.declared.filing.Filing.{Filing}
+use Rattle.aid_replies.specs.declared.reply.Ask.{Ask}
+use Rattle.aid_replies.specs.declared.reply.Reply.{Reply}
+use Rattle.aid_replies.specs.declared.reply.Reply.TheVariants as reply
 use Rattle.disk_model.specs.declared.disk.Disk.{Ghosts}
 use Rattle.kept_office.specs.Recovers.{Recovers, RecoversEither}
 use Rattle.kept_office.specs.Turns.{Answers, MayRecover, asked, settled}

@@ -1,8 +1,8 @@
 -- A file recovers one history at most.
 use Rattle.std.proofs.Common.{◌≡◌, ℕ, List, [], ◌∷◌, ◌++◌, length, refl, ap, ◌∙◌, arith, length-append}
 use Rattle.std.proofs.lemmas.List.{append-nil}
-use Rattle.aid_types.specs.declared.filing.Filing.{Filing}
-use Rattle.aid_types.specs.Fields.{IsFiling}
+use Rattle.aid_filings.specs.declared.filing.Filing.{Filing}
+use Rattle.filing_numbers.specs.Fields.{IsFiling}
 use Rattle.filing_codec.specs.Spelling.{spelling}
 use Rattle.filing_codec.proofs.FilingLaws.{is_alone}
 use Rattle.filing_journal.specs.Stands.{Payloads}

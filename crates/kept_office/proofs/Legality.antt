@@ -1,13 +1,13 @@
 -- What an answer says of a legal history.
 use Rattle.std.proofs.Common.{◌≡◌, ℕ, zero, suc, ◌+◌, refl, sym, ap, arith, Bool, true, false, List, [], ◌∷◌, length, Option, Some, None}
 use Rattle.std.specs.Prelude.{Contains}
-use Rattle.aid_types.specs.declared.filing.Filing.{Filing}
-use Rattle.aid_types.specs.declared.reply.Outcome.{Outcome}
-use Rattle.aid_types.specs.declared.reply.Refusal.{Refusal}
-use Rattle.aid_types.specs.declared.reply.Verdict.TheVariants.{Again}
+use Rattle.aid_filings.specs.declared.filing.Filing.{Filing}
+use Rattle.aid_replies.specs.declared.reply.Outcome.{Outcome}
+use Rattle.aid_types.specs.declared.award.Refusal.{Refusal}
+use Rattle.aid_replies.specs.declared.reply.Verdict.TheVariants.{Again}
 use Rattle.office_history.specs.Past.{key_at, filing_at, first_of_two, same_filing}
 use Rattle.office_history.specs.Answer.{answer_of, answer_at, answer_new, judged, breaks}
-use Rattle.aid_types.proofs.SameFiling.{tells_filing}
+use Rattle.aid_filings.proofs.SameFiling.{tells_filing}
 
 -- where a filing is found it stands
 found_stands : (past : List Filing) (f : Filing) (n : ℕ) → filing_at f past ≡ suc n → Contains past f

@@ -1,7 +1,7 @@
 -- A file has one faulty place at most.
 use Rattle.std.proofs.Common.{◌≡◌, ◌⊎◌, inl, inr, ℕ, List, [], ◌∷◌, ◌++◌, length, refl, sym, ◌∙◌, ap, subst, append_assoc, arith, length-append}
 use Rattle.std.proofs.lemmas.List.{append-nil}
-use Rattle.aid_types.specs.declared.filing.Filing.{Filing}
+use Rattle.aid_filings.specs.declared.filing.Filing.{Filing}
 use Rattle.filing_codec.specs.Spelling.{spelling}
 use Rattle.filing_journal.specs.Stands.{Payloads, ArePayloads, front, body_of, gate_place}
 use Rattle.filing_journal.proofs.Gates.{front-push, payloads-front}

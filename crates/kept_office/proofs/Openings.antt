@@ -1,6 +1,6 @@
 -- Opening leaves what stands.
 use Rattle.std.proofs.Common.{◌≡◌, List, ℕ, sym, subst}
-use Rattle.aid_types.specs.declared.filing.Filing.{Filing}
+use Rattle.aid_filings.specs.declared.filing.Filing.{Filing}
 use Rattle.disk_model.specs.Telling.{Telling, EachImage, EachMoment, IsRead}
 use Rattle.disk_model.proofs.Moments.{weaken, join, read_moments}
 use Rattle.filing_journal.specs.Stands.{Payloads, StandsFor}

@@ -1,13 +1,13 @@
 -- The two states of a kept office.
 use Rattle.std.proofs.Common.{◌≡◌, ◌≢◌, ℕ, false, List, ◌∷◌, Option, Some, None, Result, Ok, Err, refl, sym, ◌∙◌, subst, ◌++◌, []}
 use Rattle.std.specs.Prelude.{MatchOption, IfErr, IfSome, IsErrAnd, Contains}
-use Rattle.aid_types.specs.declared.filing.Filing.{Filing}
-use Rattle.aid_types.specs.declared.reply.Ask.{Ask}
-use Rattle.aid_types.specs.declared.reply.Ask.TheVariants.{File, Quote, Standing}
-use Rattle.aid_types.specs.declared.reply.Outcome.{Outcome}
-use Rattle.aid_types.specs.declared.reply.Verdict.{Verdict}
-use Rattle.aid_types.specs.declared.reply.Verdict.TheVariants.{Again, Refused, Admit, Quoted, Standing as StandingTold}
-use Rattle.aid_types.specs.Fields.{IsFiling}
+use Rattle.aid_filings.specs.declared.filing.Filing.{Filing}
+use Rattle.aid_replies.specs.declared.reply.Ask.{Ask}
+use Rattle.aid_replies.specs.declared.reply.Ask.TheVariants.{File, Quote, Standing}
+use Rattle.aid_replies.specs.declared.reply.Outcome.{Outcome}
+use Rattle.aid_replies.specs.declared.reply.Verdict.{Verdict}
+use Rattle.aid_replies.specs.declared.reply.Verdict.TheVariants.{Again, Refused, Admit, Quoted, Standing as StandingTold}
+use Rattle.filing_numbers.specs.Fields.{IsFiling}
 use Rattle.disk_model.specs.Telling.{Telling, EachMoment}
 use Rattle.disk_model.specs.declared.disk.Disk.{Ghosts}
 use Rattle.disk_model.proofs.Moments.{weaken}

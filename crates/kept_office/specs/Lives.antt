@@ -1,9 +1,9 @@
 -- What is kept over any list of turns, faults, crashes and openings.
 use Rattle.std.specs.Prelude.{◌≡◌, ◌⊎◌, ℕ, List, [], ◌∷◌, Option, Some, None}
-use Rattle.aid_types.specs.declared.filing.Filing.{Filing}
-use Rattle.aid_types.specs.declared.reply.Ask.{Ask}
-use Rattle.aid_types.specs.declared.reply.Reply.{Reply}
-use Rattle.aid_types.specs.declared.reply.Reply.TheVariants as reply
+use Rattle.aid_filings.specs.declared.filing.Filing.{Filing}
+use Rattle.aid_replies.specs.declared.reply.Ask.{Ask}
+use Rattle.aid_replies.specs.declared.reply.Reply.{Reply}
+use Rattle.aid_replies.specs.declared.reply.Reply.TheVariants as reply
 use Rattle.disk_model.specs.Telling.{EachMoment}
 use Rattle.disk_model.specs.declared.disk.Disk.{Ghosts}
 use Rattle.kept_office.specs.Recovers.{Recovers}

@@ -1,6 +1,6 @@
 -- How far an office was read from a journal.
 use Rattle.std.specs.Prelude.{List}
-use Rattle.aid_types.specs.declared.filing.Filing.{Filing}
+use Rattle.aid_filings.specs.declared.filing.Filing.{Filing}
 use Rattle.disk_model.specs.declared.disk.Disk.{Ghosts}
 use Rattle.filing_journal.specs.Opening.{HasGiven}
 use Rattle.filing_journal.specs.declared.opening.OpenError.{OpenError}

@@ -1,15 +1,15 @@
 -- What a turn of an office makes of an ask.
 use Rattle.std.specs.Prelude.{◌≡◌, ◌⊎◌, ◌+◌, ℕ, Bool, true, false, IsTrue, List, ◌∷◌, length, Option, Some, None, IfSome, IsSome}
-use Rattle.aid_types.specs.declared.filing.Filing.{Filing}
-use Rattle.aid_types.specs.declared.reply.Ask.{Ask}
-use Rattle.aid_types.specs.declared.reply.Ask.TheVariants.{File}
-use Rattle.aid_types.specs.declared.reply.Outcome.{Outcome}
-use Rattle.aid_types.specs.declared.reply.Refusal.{Refusal}
-use Rattle.aid_types.specs.declared.reply.Reply.{Reply}
-use Rattle.aid_types.specs.declared.reply.Reply.TheVariants.{Accepted, Again, Refused, Quoted, Standing, DiskFault, NoMemory}
-use Rattle.aid_types.specs.declared.reply.StandingRow.{StandingRow}
-use Rattle.aid_types.specs.Fields.{kind_of}
-use Rattle.aid_types.specs.declared.reply.Verdict.TheVariants as verdict
+use Rattle.aid_filings.specs.declared.filing.Filing.{Filing}
+use Rattle.aid_replies.specs.declared.reply.Ask.{Ask}
+use Rattle.aid_replies.specs.declared.reply.Ask.TheVariants.{File}
+use Rattle.aid_replies.specs.declared.reply.Outcome.{Outcome}
+use Rattle.aid_types.specs.declared.award.Refusal.{Refusal}
+use Rattle.aid_replies.specs.declared.reply.Reply.{Reply}
+use Rattle.aid_replies.specs.declared.reply.Reply.TheVariants.{Accepted, Again, Refused, Quoted, Standing, DiskFault, NoMemory}
+use Rattle.aid_replies.specs.declared.reply.StandingRow.{StandingRow}
+use Rattle.filing_numbers.specs.Fields.{kind_of}
+use Rattle.aid_replies.specs.declared.reply.Verdict.TheVariants as verdict
 use Rattle.office_history.specs.Answer.{answer_to, is_admit}
 use Rattle.kept_office.specs.Recovers.{Recovers}
 

@@ -11,9 +11,11 @@ ghost use Rattle.filing_journal.specs.Journal.{IsDecided, IsUndecided, journal_c
 ghost use Rattle.office_history.specs.Answer.{answer_of, answer_to, is_admit, IsLegal};
 
 use crate::reading::{judge, read_all};
-use aid_types::{Ask, Filing, Outcome, Reply, Verdict};
+use aid_filings::Filing;
+use aid_replies::{Ask, Outcome, Reply, Verdict};
 use disk_model::Disk;
-use filing_codec::{Room, put};
+use filing_codec::put;
+use payload::Room;
 use filing_journal::{FoundError, Journal, OpenError, PutError};
 use office_core::Office;
 use std::alloc::{AllocError, Global};
@@ -48,10 +50,10 @@ pub struct KeptOffice<D: Disk> {
 }
 
 impl<D: Disk> KeptOffice<D> {
-    ghost use Rattle.aid_types.specs.declared.filing.Filing.{Filing};
+    ghost use Rattle.aid_filings.specs.declared.filing.Filing.{Filing};
     ghost use Rattle.kept_office.specs.Recovers.{Recovers, RecoversEither};
     ghost use Rattle.kept_office.specs.Faulty.{IsFaultyAt};
-    ghost use Rattle.aid_types.specs.Fields.{kind_of};
+    ghost use Rattle.filing_numbers.specs.Fields.{kind_of};
     ghost use Rattle.kept_office.specs.Turns.{Answers, HasBytes, Turns, MayRecover, settled, asked, is_accepted, is_acknowledged, is_fault};
     ghost use Rattle.kept_office.specs.Kept.{IsSound, IsSettled, kept_disk, kept_history, kept_pending, kept_room};
 

@@ -1,6 +1,6 @@
 // What follows from the contracts alone, said of no call. Each of these functions does nothing.
 ghost use Rattle.std.specs.Prelude.{◌≡◌, ◌++◌, ℕ, List};
-ghost use Rattle.aid_types.specs.declared.filing.Filing.{Filing};
+ghost use Rattle.aid_filings.specs.declared.filing.Filing.{Filing};
 ghost use Rattle.kept_office.specs.Recovers.{Recovers};
 ghost use Rattle.kept_office.specs.Faulty.{IsFaultyAt};
 ghost use Rattle.kept_office.specs.Lives.{Fate, Left, Life, MayHave};

@@ -1,8 +1,8 @@
 //! An office from the filings of a journal.
 ghost use Rattle.std.specs.Prelude.{◌≡◌, ◌⊎◌, ◌+◌, ◌≤◌, ◌<◌, ◌∷◌, [], ℕ, ⊤, List, length, None, IfOk, IfErr, IfNone, OnOk, OnErr, MatchBool, MatchOption};
 ghost use Rattle.aid_edges.specs.Faults.{Rose};
-ghost use Rattle.aid_types.specs.declared.filing.Filing.{Filing};
-ghost use Rattle.aid_types.specs.Fields.{IsFiling};
+ghost use Rattle.aid_filings.specs.declared.filing.Filing.{Filing};
+ghost use Rattle.filing_numbers.specs.Fields.{IsFiling};
 ghost use Rattle.disk_model.specs.Telling.{IsHonest, IsRead};
 ghost use Rattle.filing_journal.specs.Opening.{HasGiven, HasAll, HasEnded, opening_disk, opening_count, opening_refusal};
 ghost use Rattle.filing_journal.specs.Stands.{gate_place};
@@ -11,11 +11,14 @@ ghost use Rattle.kept_office.specs.Recovers.{payloads_of, AreFilings};
 ghost use Rattle.kept_office.specs.Faulty.{IsFaultyAt};
 ghost use Rattle.kept_office.specs.Reading.{HasRead, IsReadRefusal};
 
-use aid_types::{Ask, Filing, Verdict};
+use aid_filings::Filing;
+use aid_replies::{Ask, Verdict};
 use disk_model::Disk;
-use filing_codec::{Room, TakeError, take};
+use filing_codec::{TakeError, take};
+use payload::Room;
 use filing_journal::{OpenError, Opening};
-use office_core::{Office, Steps};
+use office_core::Office;
+use steps::Steps;
 use std::alloc::Global;
 use std::marker::Brand;
 use std::sync::ledger::{Blank, Ledger};

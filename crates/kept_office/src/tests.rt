@@ -1,15 +1,15 @@
 // What no clause says: worked rows, the answers to named files, and stops in the middle of a turn.
 ghost use Rattle.std.specs.Prelude.{◌≤◌, IfOk, IsSome};
-ghost use Rattle.aid_types.specs.Fields.{kind_of};
+ghost use Rattle.filing_numbers.specs.Fields.{kind_of};
 ghost use Rattle.aid_types.specs.Ranges.{IsBetween};
 ghost use Rattle.disk_model.specs.Telling.{IsHonest};
 ghost use Rattle.kept_office.specs.Kept.{IsSound, kept_disk};
 ghost use Rattle.kept_office.specs.Turns.{HasBytes};
 
 use super::*;
-use aid_types::{
-    Ask, Filing, Key, Outcome, PriorFacts, Refusal, Reply, School, SchoolFacts, Student, What,
-};
+use aid_filings::{Filing, PriorFacts, SchoolFacts, What};
+use aid_replies::{Ask, Outcome, Reply};
+use aid_types::{Key, Refusal, School, Student};
 use disk_model::{Disk, Fill, MemoryDisk, Stop};
 use std::alloc::Global;
 use std::test::Fail;

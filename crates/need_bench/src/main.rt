@@ -4,7 +4,8 @@
 mod sequence;
 
 use crate::sequence::Sequence;
-use aid_types::{Application, Book};
+use aid_books::Book;
+use aid_types::Application;
 use pell_schedule::decide;
 use sai_index::index;
 use specimen::specimen_book;

@@ -6,11 +6,12 @@ use crate::generator::{
     Draws, FIRST_DAY, YEAR, application, enrolment, origination, payment, withdrawal,
 };
 use crate::tally::Tally;
-use aid_types::{
-    Ask, BoxedBook, Breaks, CalendarFacts, Day, Filing, Key, School, SchoolFacts, Student, Verdict,
-    What, Year,
-};
-use office_core::{Office, Steps};
+use aid_books::BoxedBook;
+use aid_filings::{CalendarFacts, Filing, SchoolFacts, What};
+use aid_replies::{Ask, Verdict};
+use aid_types::{Breaks, Day, Key, School, Student, Year};
+use office_core::Office;
+use steps::Steps;
 use specimen::specimen_book;
 use std::alloc::{AllocError, Global};
 use std::marker::Brand;

@@ -2,10 +2,8 @@
 ghost use Rattle.std.specs.Prelude.{◌<◌, ◌≤◌};
 ghost use Rattle.aid_types.specs.Ranges.{IsAmount, IsBetween};
 
-use aid_types::{
-    Amount, Application, Day, EnrolFacts, OriginateFacts, Program, Region, Side, Student, What,
-    WithdrawFacts, Year,
-};
+use aid_filings::{Amount, EnrolFacts, OriginateFacts, What, WithdrawFacts};
+use aid_types::{Application, Day, Program, Region, Side, Student, Year};
 
 /// The award year of all filings.
 pub const YEAR: u16 = 2025;

@@ -1,5 +1,5 @@
 //! What came of the filings.
-use aid_types::{Outcome, Verdict};
+use aid_replies::{Outcome, Verdict};
 use std::fmt;
 
 /// How many filings were accepted and refused, and the cents of the Pell payments and of the schools' returns among the

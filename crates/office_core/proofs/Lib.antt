@@ -1,2 +1,8 @@
 mod Quoted
 mod Standing
+pub mod Indexed
+pub mod OutcomeLemmas
+pub mod Owed
+pub mod Payments
+pub mod Places
+pub mod Short

@@ -1,10 +1,10 @@
 -- A Pell payment that the rules on its facts let through breaks no rule.
 use Rattle.std.proofs.Common.{◌≡◌, ℕ, ◌*◌, sym, subst, ap, List, None}
 use Rattle.aid_types.specs.Programs.{rank}
-use Rattle.aid_types.specs.declared.filing.Amount.{Amount}
-use Rattle.aid_types.specs.declared.filing.Filing.{Filing}
-use Rattle.aid_types.specs.declared.filing.What.{What}
-use Rattle.aid_types.specs.declared.filing.What.TheVariants.{Pay}
+use Rattle.aid_filings.specs.declared.filing.Amount.{Amount}
+use Rattle.aid_filings.specs.declared.filing.Filing.{Filing}
+use Rattle.aid_filings.specs.declared.filing.What.{What}
+use Rattle.aid_filings.specs.declared.filing.What.TheVariants.{Pay}
 use Rattle.aid_types.specs.declared.number.Program.TheVariants.{Pell}
 use Rattle.filing_rules.specs.Rules.{broken_of, first_broken, payment_lines}
 use Rattle.office_history.specs.Answer.{breaks}

@@ -1,7 +1,7 @@
 -- An office as its callers see it.
 use Rattle.std.specs.Prelude.{ℕ, zero, suc, List, reverse, Option, None}
 use Rattle.std.specs.List.{slice_get}
-use Rattle.aid_types.specs.declared.filing.Filing.{Filing}
+use Rattle.aid_filings.specs.declared.filing.Filing.{Filing}
 
 -- its filings, the newest first, and how many more it takes without asking for memory
 pub record Register : Type 0 where

@@ -1,11 +1,16 @@
-//! The office: which filings stand, what it answers to an ask, and how a filing is admitted.
+//! The office: which filings stand, what it answers to an ask, and how a filing is admitted. Each answer is computed afresh from the filings so far.
 #![tactic(auto)]
 
+mod answers;
+mod award;
+mod kinds;
 mod office;
-mod steps;
+mod outcomes;
+mod standings;
+mod terms;
 
+pub use answers::{answer, is_legal};
+pub use kinds::{facts, payment_facts};
+pub use outcomes::{outcome, past_outcome};
+pub use standings::{quote, standing};
 pub use office::Office;
-pub use steps::Steps;
-
-#[cfg(test)]
-mod tests;

@@ -1,10 +1,10 @@
 -- In a legal history the sum of the nets of any cells is at least 0.
 use Rattle.std.proofs.Common.{◌≡◌, ℕ, ◌+◌, ◌-◌, ◌≤◌, refl, sym, arith, subst, cond, Bool, true, false, not, ◌&&◌, List, [], ◌∷◌, None, zero-le}
 use Rattle.aid_types.specs.declared.number.Key.{Key}
-use Rattle.aid_types.specs.declared.filing.WithdrawFacts.{WithdrawFacts}
-use Rattle.aid_types.specs.declared.filing.Filing.{Filing}
-use Rattle.aid_types.specs.declared.filing.What.{What}
-use Rattle.aid_types.specs.declared.filing.What.TheVariants.{Book as BookFiled, School, Calendar, Prior, Apply, Enrol, Originate, Pay, Withdraw, Repay, Adjust}
+use Rattle.aid_filings.specs.declared.filing.WithdrawFacts.{WithdrawFacts}
+use Rattle.aid_filings.specs.declared.filing.Filing.{Filing}
+use Rattle.aid_filings.specs.declared.filing.What.{What}
+use Rattle.aid_filings.specs.declared.filing.What.TheVariants.{Book as BookFiled, School, Calendar, Prior, Apply, Enrol, Originate, Pay, Withdraw, Repay, Adjust}
 use Rattle.aid_types.specs.Programs.{rank}
 use Rattle.office_history.specs.Past.{the_term}
 use Rattle.office_history.specs.Net.{Cell, Move, is_cell, cell_of, moved, withdrawn_cell, moves_at, paid, taken, owed, repaid, net_at, sheet, days_of, last_of, payments_in, takings_in, owings_in, repayments_in}

@@ -1,7 +1,7 @@
 -- A question that filings answer has a position where it has an answer, and none where it has none.
 use Rattle.std.proofs.Common.{◌≡◌, ℕ, zero, suc, ◌+◌, ◌<◌, refl, arith, true, List, [], ◌∷◌, length, Option, Some, None}
 use Rattle.std.specs.Prelude.{is_some}
-use Rattle.aid_types.specs.declared.filing.Filing.{Filing}
+use Rattle.aid_filings.specs.declared.filing.Filing.{Filing}
 use Rattle.office_history.specs.Past.{first_at, first_of_two, earlier, earliest}
 
 none_told_step : {A : Type 0} (o before : Option A) (k n : ℕ) → (k ≡ 0 → before ≡ None) → first_of_two (is_some o) k (n + 1) ≡ 0 → earlier o before ≡ None

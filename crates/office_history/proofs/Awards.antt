@@ -2,13 +2,13 @@
 use Rattle.std.proofs.Common.{◌≡◌, ℕ, ◌+◌, ◌-◌, ◌*◌, ◌≤◌, ◌<◌, refl, arith, subst, cond, Bool, true, false, ◌&&◌, List, [], ◌∷◌, ◌++◌, Option, Some, None, zero-le, ◌⊎◌, inl, inr, leb-false, lt-ltb, eqb-true, ap}
 use Rattle.std.specs.Prelude.{◌==◌, nat_lt}
 use Rattle.aid_types.specs.declared.number.Key.{Key}
-use Rattle.aid_types.specs.declared.book.Book.{Book}
+use Rattle.aid_books.specs.declared.book.Book.{Book}
 use Rattle.aid_types.specs.declared.application.Application.{Application}
 use Rattle.filing_rules.specs.declared.facts.Facts.{Facts}
-use Rattle.aid_types.specs.declared.filing.Filing.{Filing}
-use Rattle.aid_types.specs.declared.reply.Refusal.{Refusal}
-use Rattle.aid_types.specs.declared.filing.What.{What}
-use Rattle.aid_types.specs.declared.filing.What.TheVariants.{Book as BookFiled, School, Calendar, Prior, Apply, Enrol, Originate, Pay, Withdraw, Repay, Adjust}
+use Rattle.aid_filings.specs.declared.filing.Filing.{Filing}
+use Rattle.aid_types.specs.declared.award.Refusal.{Refusal}
+use Rattle.aid_filings.specs.declared.filing.What.{What}
+use Rattle.aid_filings.specs.declared.filing.What.TheVariants.{Book as BookFiled, School, Calendar, Prior, Apply, Enrol, Originate, Pay, Withdraw, Repay, Adjust}
 use Rattle.lifetime_ledger.specs.Used.{use_of}
 use Rattle.aid_types.specs.Programs.{rank}
 use Rattle.office_history.specs.Past.{earlier, given, the_book, book_in, application, higher}

@@ -3,7 +3,7 @@ use Rattle.std.proofs.Common.{◌≡◌, ℕ, zero, suc, ◌+◌, ◌≤◌, ◌
 use Rattle.std.specs.Prelude.{◌==◌}
 use Rattle.std.proofs.lemmas.Bool.{and_parts}
 use Rattle.aid_types.specs.declared.number.Key.{Key}
-use Rattle.aid_types.specs.declared.filing.WithdrawFacts.{WithdrawFacts}
+use Rattle.aid_filings.specs.declared.filing.WithdrawFacts.{WithdrawFacts}
 use Rattle.office_history.specs.Net.{Cell, Move, is_cell, moved, onto, withdrawn_cell, moves_at}
 
 -- two cells that are told to be the same are the same

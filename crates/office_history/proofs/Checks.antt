@@ -1,6 +1,6 @@
 -- What it means that no line of a list of checks is broken.
 use Rattle.std.proofs.Common.{◌≡◌, cond, ℕ, zero, suc, ◌≤◌, ◌<◌, refl, arith, Bool, true, false, List, [], ◌∷◌, ◌++◌, Option, Some, None, ltb-false, le-ltb}
-use Rattle.aid_types.specs.declared.reply.Refusal.{Refusal}
+use Rattle.aid_types.specs.declared.award.Refusal.{Refusal}
 use Rattle.filing_rules.specs.Rules.{Check, over, stands, lacks, only, first_broken, told, told_by}
 
 -- each line holds

@@ -1,9 +1,9 @@
 -- In a legal history the lines of cost and of FSEOG hold.
 use Rattle.std.proofs.Common.{◌≡◌, ℕ, ◌+◌, ◌-◌, ◌*◌, ◌≤◌, arith, cond, List, [], ◌∷◌, None, zero-le}
 use Rattle.aid_types.specs.declared.number.Key.{Key}
-use Rattle.aid_types.specs.declared.filing.Filing.{Filing}
-use Rattle.aid_types.specs.declared.filing.What.{What}
-use Rattle.aid_types.specs.declared.filing.What.TheVariants.{Pay}
+use Rattle.aid_filings.specs.declared.filing.Filing.{Filing}
+use Rattle.aid_filings.specs.declared.filing.What.{What}
+use Rattle.aid_filings.specs.declared.filing.What.TheVariants.{Pay}
 use Rattle.aid_types.specs.Programs.{rank}
 use Rattle.office_history.specs.Past.{cost, cost_in, at_school, earliest}
 use Rattle.office_history.specs.Net.{cell_of, net, at_school_in_year, in_year}

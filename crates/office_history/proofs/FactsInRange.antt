@@ -7,13 +7,13 @@ use Rattle.aid_num.specs.Nearest.{to5}
 use Rattle.aid_num.proofs.NearestLemmas.{half_up-le}
 use Rattle.aid_types.specs.Ranges.{IsBetween}
 use Rattle.aid_types.specs.Programs.{rank}
-use Rattle.aid_types.specs.declared.book.Book.{Book}
+use Rattle.aid_books.specs.declared.book.Book.{Book}
 use Rattle.aid_types.specs.declared.application.Application.{Application}
 use Rattle.aid_types.specs.declared.number.Key.{Key}
-use Rattle.aid_types.specs.declared.filing.SchoolFacts.{SchoolFacts}
-use Rattle.aid_types.specs.declared.filing.Filing.{Filing}
-use Rattle.aid_types.specs.declared.filing.What.{What}
-use Rattle.aid_types.specs.declared.filing.What.TheVariants.{Book as BookFiled, School, Calendar, Prior, Apply, Enrol, Originate, Pay, Withdraw, Repay, Adjust}
+use Rattle.aid_filings.specs.declared.filing.SchoolFacts.{SchoolFacts}
+use Rattle.aid_filings.specs.declared.filing.Filing.{Filing}
+use Rattle.aid_filings.specs.declared.filing.What.{What}
+use Rattle.aid_filings.specs.declared.filing.What.TheVariants.{Book as BookFiled, School, Calendar, Prior, Apply, Enrol, Originate, Pay, Withdraw, Repay, Adjust}
 use Rattle.filing_rules.specs.declared.facts.Facts.{Facts}
 use Rattle.filing_rules.specs.InRange.{IsInRange, IsSum}
 use Rattle.sai_index.specs.Formulas.{formula}

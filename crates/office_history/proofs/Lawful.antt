@@ -2,14 +2,14 @@
 use Rattle.std.proofs.Common.{◌≡◌, ℕ, ◌+◌, ◌<◌, refl, arith, subst, ap, Bool, true, false, ◌&&◌, ◌||◌, List, [], ◌∷◌, ◌++◌, All, Option, Some, None, ltb-false, leb-false}
 use Rattle.std.specs.Prelude.{is_some, nat_le, ◌==◌}
 use Rattle.std.proofs.lemmas.List.Elements.{All-cons}
-use Rattle.aid_types.specs.Calendars.{term_of}
+use Rattle.aid_filings.specs.Calendars.{term_of}
 use Rattle.aid_types.specs.declared.number.Key.{Key}
 use Rattle.aid_types.specs.declared.term.Term.{Term}
-use Rattle.aid_types.specs.declared.filing.CalendarFacts.{CalendarFacts}
-use Rattle.aid_types.specs.declared.filing.WithdrawFacts.{WithdrawFacts}
-use Rattle.aid_types.specs.declared.filing.Filing.{Filing}
-use Rattle.aid_types.specs.declared.filing.What.{What}
-use Rattle.aid_types.specs.declared.filing.What.TheVariants.{Book as BookFiled, School, Calendar, Prior, Apply, Enrol, Originate, Pay, Withdraw, Repay, Adjust}
+use Rattle.aid_filings.specs.declared.filing.CalendarFacts.{CalendarFacts}
+use Rattle.aid_filings.specs.declared.filing.WithdrawFacts.{WithdrawFacts}
+use Rattle.aid_filings.specs.declared.filing.Filing.{Filing}
+use Rattle.aid_filings.specs.declared.filing.What.{What}
+use Rattle.aid_filings.specs.declared.filing.What.TheVariants.{Book as BookFiled, School, Calendar, Prior, Apply, Enrol, Originate, Pay, Withdraw, Repay, Adjust}
 use Rattle.enrolment.specs.Terms.{AreAfter, IsLawful}
 use Rattle.filing_rules.specs.Rules.{breaks_in_order, breaks_inside, rule_21, rule_22, rule_23, rule_24, rule_62, rule_63, too_early, first_break_in_order, lines_of}
 use Rattle.office_history.specs.Past.{at_school, if_here, given, earlier, term_in, the_term}

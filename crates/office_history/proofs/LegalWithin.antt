@@ -1,6 +1,6 @@
 -- A legal history is within.
 use Rattle.std.proofs.Common.{List}
-use Rattle.aid_types.specs.declared.filing.Filing.{Filing}
+use Rattle.aid_filings.specs.declared.filing.Filing.{Filing}
 use Rattle.office_history.specs.Answer.{IsLegal}
 use Rattle.office_history.specs.Within.{IsWithin}
 use Rattle.office_history.proofs.Cost.{cost_holds, fseog_holds}

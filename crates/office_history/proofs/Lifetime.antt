@@ -3,13 +3,13 @@ use Rattle.std.proofs.Common.{◌≡◌, ◌≢◌, ℕ, zero, suc, ◌+◌, ◌
 use Rattle.std.specs.Prelude.{◌==◌}
 use Rattle.std.specs.List.{range_with_len}
 use Rattle.aid_types.specs.declared.number.Key.{Key}
-use Rattle.aid_types.specs.declared.filing.Amount.{Amount}
-use Rattle.aid_types.specs.declared.book.Book.{Book}
-use Rattle.aid_types.specs.declared.filing.PriorFacts.{PriorFacts}
+use Rattle.aid_filings.specs.declared.filing.Amount.{Amount}
+use Rattle.aid_books.specs.declared.book.Book.{Book}
+use Rattle.aid_filings.specs.declared.filing.PriorFacts.{PriorFacts}
 use Rattle.aid_types.specs.declared.application.Application.{Application}
-use Rattle.aid_types.specs.declared.filing.Filing.{Filing}
-use Rattle.aid_types.specs.declared.filing.What.{What}
-use Rattle.aid_types.specs.declared.filing.What.TheVariants.{Book as BookFiled, School, Calendar, Prior, Apply, Enrol, Originate, Pay, Withdraw, Repay, Adjust}
+use Rattle.aid_filings.specs.declared.filing.Filing.{Filing}
+use Rattle.aid_filings.specs.declared.filing.What.{What}
+use Rattle.aid_filings.specs.declared.filing.What.TheVariants.{Book as BookFiled, School, Calendar, Prior, Apply, Enrol, Originate, Pay, Withdraw, Repay, Adjust}
 use Rattle.lifetime_ledger.specs.Used.{use_of}
 use Rattle.aid_types.specs.Programs.{rank}
 use Rattle.office_history.specs.Past.{earliest, earlier, given, amount_or, prior_units, prior_in, pell_payment_in, the_book}

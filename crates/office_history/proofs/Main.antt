@@ -4,14 +4,14 @@ use Rattle.std.specs.Prelude.{◌==◌}
 use Rattle.std.proofs.lemmas.Bool.{and_parts}
 use Rattle.aid_types.specs.declared.number.Key.{Key}
 use Rattle.aid_types.specs.declared.term.Term.{Term}
-use Rattle.aid_types.specs.declared.filing.Amount.{Amount}
-use Rattle.aid_types.specs.declared.book.Book.{Book}
+use Rattle.aid_filings.specs.declared.filing.Amount.{Amount}
+use Rattle.aid_books.specs.declared.book.Book.{Book}
 use Rattle.filing_rules.specs.declared.facts.Facts.{Facts}
 use Rattle.aid_types.specs.declared.application.Application.{Application}
-use Rattle.aid_types.specs.declared.filing.CalendarFacts.{CalendarFacts}
-use Rattle.aid_types.specs.declared.filing.Filing.{Filing}
-use Rattle.aid_types.specs.declared.filing.What.{What}
-use Rattle.aid_types.specs.declared.filing.What.TheVariants.{Book as BookFiled, School, Calendar, Prior, Apply, Enrol, Originate, Pay, Withdraw, Repay, Adjust}
+use Rattle.aid_filings.specs.declared.filing.CalendarFacts.{CalendarFacts}
+use Rattle.aid_filings.specs.declared.filing.Filing.{Filing}
+use Rattle.aid_filings.specs.declared.filing.What.{What}
+use Rattle.aid_filings.specs.declared.filing.What.TheVariants.{Book as BookFiled, School, Calendar, Prior, Apply, Enrol, Originate, Pay, Withdraw, Repay, Adjust}
 use Rattle.aid_types.specs.Programs.{rank}
 use Rattle.office_history.specs.Past.{the_term, is_extra, earlier, at_school, term_in, the_book}
 use Rattle.office_history.specs.Award.{award_under, scheduled}

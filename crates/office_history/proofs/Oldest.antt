@@ -4,7 +4,7 @@ use Rattle.std.specs.Prelude.{nat_lt}
 use Rattle.std.specs.List.{position, position_or_len}
 use Rattle.std.proofs.lemmas.List.{reverse-append, take-append-drop}
 use Rattle.std.proofs.lemmas.Bool.Decides.{nat_tests}
-use Rattle.aid_types.specs.declared.filing.Filing.{Filing}
+use Rattle.aid_filings.specs.declared.filing.Filing.{Filing}
 use Rattle.office_history.specs.Past.{first_at, first_of_two}
 use Rattle.office_history.specs.Places.{place_of}
 

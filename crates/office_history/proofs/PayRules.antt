@@ -2,9 +2,9 @@
 use Rattle.std.proofs.Common.{◌≡◌, ℕ, ◌+◌, ◌*◌, ◌≤◌, ◌<◌, arith, Bool, List, [], ◌∷◌, ◌++◌, None, eq-eqb, ltb-false, lt-ltb}
 use Rattle.std.specs.Prelude.{◌==◌, nat_lt, slice_index}
 use Rattle.aid_types.specs.declared.number.Key.{Key}
-use Rattle.aid_types.specs.declared.filing.Amount.{Amount}
+use Rattle.aid_filings.specs.declared.filing.Amount.{Amount}
 use Rattle.filing_rules.specs.declared.facts.Facts.{Facts}
-use Rattle.aid_types.specs.declared.filing.What.TheVariants.{Pay}
+use Rattle.aid_filings.specs.declared.filing.What.TheVariants.{Pay}
 use Rattle.lifetime_ledger.specs.Used.{use_of}
 use Rattle.aid_types.specs.Programs.{rank}
 use Rattle.filing_rules.specs.Rules.{Check, over, only, lines_of, broken_of, rule_40, rule_58, rule_52, past_payment, past_year, past_fseog, past_lifetime, past_cost, payment_here, year_limit, year_of_program}

@@ -1,7 +1,7 @@
 -- A list that is read from its oldest filing on: what stands before a place is legal, and the filing there breaks no rule on it.
 use Rattle.std.proofs.Common.{◌≡◌, ℕ, suc, ◌+◌, ◌<◌, sym, ap, subst, ◌∙◌, List, [], ◌∷◌, length, reverse, take, drop, get_or, None, take-append-drop}
 use Rattle.std.proofs.lemmas.List.{reverse-append, take_more}
-use Rattle.aid_types.specs.declared.filing.Filing.{Filing}
+use Rattle.aid_filings.specs.declared.filing.Filing.{Filing}
 use Rattle.office_history.specs.Past.{key_at}
 use Rattle.office_history.specs.Answer.{IsLegal, breaks}
 use Rattle.office_history.proofs.Legal.{older_legal}

@@ -4,14 +4,14 @@ use Rattle.std.specs.Prelude.{◌==◌, nat_lt}
 use Rattle.std.specs.List.{list_any, filter}
 use Rattle.std.proofs.lemmas.Bool.{and_parts}
 use Rattle.aid_types.specs.declared.number.Key.{Key}
-use Rattle.aid_types.specs.declared.filing.Amount.{Amount}
-use Rattle.aid_types.specs.declared.book.Book.{Book}
-use Rattle.aid_types.specs.declared.filing.SchoolFacts.{SchoolFacts}
-use Rattle.aid_types.specs.declared.filing.EnrolFacts.{EnrolFacts}
+use Rattle.aid_filings.specs.declared.filing.Amount.{Amount}
+use Rattle.aid_books.specs.declared.book.Book.{Book}
+use Rattle.aid_filings.specs.declared.filing.SchoolFacts.{SchoolFacts}
+use Rattle.aid_filings.specs.declared.filing.EnrolFacts.{EnrolFacts}
 use Rattle.aid_types.specs.declared.application.Application.{Application}
-use Rattle.aid_types.specs.declared.filing.Filing.{Filing}
-use Rattle.aid_types.specs.declared.filing.What.{What}
-use Rattle.aid_types.specs.declared.filing.What.TheVariants.{Book as BookFiled, School, Calendar, Prior, Apply, Enrol, Originate, Pay, Withdraw, Repay, Adjust}
+use Rattle.aid_filings.specs.declared.filing.Filing.{Filing}
+use Rattle.aid_filings.specs.declared.filing.What.{What}
+use Rattle.aid_filings.specs.declared.filing.What.TheVariants.{Book as BookFiled, School, Calendar, Prior, Apply, Enrol, Originate, Pay, Withdraw, Repay, Adjust}
 use Rattle.enrolment.specs.Terms.{intensity_of, payment_of}
 use Rattle.aid_types.specs.Programs.{rank}
 use Rattle.office_history.specs.Past.{at_school, if_here, given, later, latest, earlier, amount_or, credits, credits_in, the_school, school_in, the_book, OnFile, terms_on_file}

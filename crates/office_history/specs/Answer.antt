@@ -1,21 +1,21 @@
 -- What the office answers on a history.
 use Rattle.std.specs.Prelude.{◌≡◌, ℕ, zero, suc, ◌-◌, ◌==◌, ◌&&◌, Bool, true, false, List, [], ◌∷◌, length, drop, sum, pos, Option, Some, None, is_none}
 use Rattle.aid_types.specs.Programs.{rank}
-use Rattle.aid_types.specs.declared.book.Book.{Book}
+use Rattle.aid_books.specs.declared.book.Book.{Book}
 use Rattle.aid_types.specs.declared.application.Application.{Application}
-use Rattle.aid_types.specs.declared.filing.Filing.{Filing}
-use Rattle.aid_types.specs.declared.filing.What.{What}
-use Rattle.aid_types.specs.declared.filing.What.TheVariants.{Apply, Pay, Withdraw}
-use Rattle.aid_types.specs.declared.reply.Ask.{Ask}
-use Rattle.aid_types.specs.declared.reply.Ask.TheVariants.{File, Quote, Standing as StandingAsked}
-use Rattle.aid_types.specs.declared.reply.Formula.TheVariants.{A}
-use Rattle.aid_types.specs.declared.reply.Way.TheVariants.{Nothing}
-use Rattle.aid_types.specs.declared.reply.Refusal.{Refusal}
-use Rattle.aid_types.specs.declared.reply.Outcome.{Outcome}
-use Rattle.aid_types.specs.declared.reply.Outcome.TheVariants.{Noted, Indexed, Paid, Returned}
-use Rattle.aid_types.specs.declared.reply.StandingRow.{StandingRow}
-use Rattle.aid_types.specs.declared.reply.Verdict.{Verdict}
-use Rattle.aid_types.specs.declared.reply.Verdict.TheVariants.{Again, Refused, Admit, Quoted, Standing}
+use Rattle.aid_filings.specs.declared.filing.Filing.{Filing}
+use Rattle.aid_filings.specs.declared.filing.What.{What}
+use Rattle.aid_filings.specs.declared.filing.What.TheVariants.{Apply, Pay, Withdraw}
+use Rattle.aid_replies.specs.declared.reply.Ask.{Ask}
+use Rattle.aid_replies.specs.declared.reply.Ask.TheVariants.{File, Quote, Standing as StandingAsked}
+use Rattle.aid_types.specs.declared.award.Formula.TheVariants.{A}
+use Rattle.aid_types.specs.declared.award.Way.TheVariants.{Nothing}
+use Rattle.aid_types.specs.declared.award.Refusal.{Refusal}
+use Rattle.aid_replies.specs.declared.reply.Outcome.{Outcome}
+use Rattle.aid_replies.specs.declared.reply.Outcome.TheVariants.{Noted, Indexed, Paid, Returned}
+use Rattle.aid_replies.specs.declared.reply.StandingRow.{StandingRow}
+use Rattle.aid_replies.specs.declared.reply.Verdict.{Verdict}
+use Rattle.aid_replies.specs.declared.reply.Verdict.TheVariants.{Again, Refused, Admit, Quoted, Standing}
 use Rattle.sai_index.specs.Formulas.{formula}
 use Rattle.filing_rules.specs.Quote.{greatest_payment}
 use Rattle.filing_rules.specs.Rules.{broken_of}

@@ -1,9 +1,9 @@
 -- The award of the application in force under the year's book (HEA 401(b), 475 to 477).
 use Rattle.std.specs.Prelude.{ℕ, List, Option, Some, None}
-use Rattle.aid_types.specs.declared.book.Book.{Book}
+use Rattle.aid_books.specs.declared.book.Book.{Book}
 use Rattle.aid_types.specs.declared.application.Application.{Application}
-use Rattle.aid_types.specs.declared.filing.Filing.{Filing}
-use Rattle.aid_types.specs.declared.reply.Refusal.{Refusal}
+use Rattle.aid_filings.specs.declared.filing.Filing.{Filing}
+use Rattle.aid_types.specs.declared.award.Refusal.{Refusal}
 use Rattle.sai_index.specs.Fits.{unfit}
 use Rattle.pell_schedule.specs.Award.{decision_of}
 use Rattle.office_history.specs.Past.{the_book, application}

@@ -1,18 +1,18 @@
 -- The facts that the rules read, of a history.
 use Rattle.std.specs.Prelude.{ℕ, zero, suc, ◌+◌, ◌*◌, ◌==◌, ◌&&◌, Bool, true, false, not, nat_lt, min, List, [], ◌∷◌, length, Option, Some, None, is_some, if◌then◌else◌}
 use Rattle.std.specs.List.{filter}
-use Rattle.aid_types.specs.Calendars.{term_of}
+use Rattle.aid_filings.specs.Calendars.{term_of}
 use Rattle.aid_types.specs.Programs.{rank}
 use Rattle.aid_types.specs.declared.number.Key.{Key}
 use Rattle.aid_types.specs.declared.term.Term.{Term}
-use Rattle.aid_types.specs.declared.filing.SchoolFacts.{SchoolFacts}
+use Rattle.aid_filings.specs.declared.filing.SchoolFacts.{SchoolFacts}
 use Rattle.aid_types.specs.declared.application.Application.{Application}
-use Rattle.aid_types.specs.declared.filing.WithdrawFacts.{WithdrawFacts}
+use Rattle.aid_filings.specs.declared.filing.WithdrawFacts.{WithdrawFacts}
 use Rattle.filing_rules.specs.declared.facts.Facts.{Facts}
-use Rattle.aid_types.specs.declared.reply.Refusal.{Refusal}
-use Rattle.aid_types.specs.declared.filing.Filing.{Filing}
-use Rattle.aid_types.specs.declared.filing.What.{What}
-use Rattle.aid_types.specs.declared.filing.What.TheVariants.{Book as BookFiled, School, Calendar, Prior, Apply, Enrol, Originate, Pay, Withdraw, Repay, Adjust}
+use Rattle.aid_types.specs.declared.award.Refusal.{Refusal}
+use Rattle.aid_filings.specs.declared.filing.Filing.{Filing}
+use Rattle.aid_filings.specs.declared.filing.What.{What}
+use Rattle.aid_filings.specs.declared.filing.What.TheVariants.{Book as BookFiled, School, Calendar, Prior, Apply, Enrol, Originate, Pay, Withdraw, Repay, Adjust}
 use Rattle.enrolment.specs.Terms.{intensity_of, payment_of, shares_day}
 use Rattle.office_history.specs.Past.{first_at, book_in, school_in, term_in, prior_in, cost_in, withdrawal_in, pell_payment_in, at_school, the_book, the_school, the_term, the_withdrawal, credits, cost, application, OnFile, terms_on_file, first_of_two}
 use Rattle.office_history.specs.Award.{award_under, scheduled, unfit_under}

@@ -1,6 +1,6 @@
 -- No student stands above a limit.
 use Rattle.std.specs.Prelude.{◌≡◌, ◌≢◌, ℕ, ◌*◌, ◌≤◌, ◌<◌, Bool, List, Some, IsTrue}
-use Rattle.aid_types.specs.declared.filing.Filing.{Filing}
+use Rattle.aid_filings.specs.declared.filing.Filing.{Filing}
 use Rattle.aid_types.specs.declared.term.Term.{Term}
 use Rattle.enrolment.specs.Terms.{shares_day}
 use Rattle.office_history.specs.Past.{cost, the_term}

@@ -1,12 +1,12 @@
 //! Laws of histories, each as the contract of a function that computes nothing. A slice has the oldest filing first.
 ghost use Rattle.std.specs.List.{AllPairs};
 ghost use Rattle.std.specs.Prelude.{◌≡◌, ◌≢◌, ◌↔◌, ◌+◌, ◌≤◌, ◌++◌, ◌∷◌, None, IsTrue, reverse, length};
-ghost use Rattle.aid_types.specs.declared.reply.Verdict.TheVariants.{Again, Admit};
+ghost use Rattle.aid_replies.specs.declared.reply.Verdict.TheVariants.{Again, Admit};
 ghost use Rattle.office_history.specs.Past.{key_at, same_filing};
 ghost use Rattle.office_history.specs.Answer.{breaks, outcome_of, answer_of, IsLegal};
 ghost use Rattle.office_history.specs.Within.{IsWithin};
 
-use aid_types::Filing;
+use aid_filings::Filing;
 
 /// A filing of a legal list, filed again, is answered by its position and the outcome of its admission, whatever came
 /// after it.

@@ -1,5 +1,6 @@
 //! The verdicts that rows are answered by.
-use aid_types::{Formula, Outcome, Refusal, Verdict, Way};
+use aid_replies::{Outcome, Verdict};
+use aid_types::{Formula, Refusal, Way};
 
 /// The filing is admitted, with nothing to say.
 pub(crate) fn noted() -> Verdict {

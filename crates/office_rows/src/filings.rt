@@ -3,11 +3,9 @@
 ghost use Rattle.std.specs.Prelude.{◌≤◌};
 ghost use Rattle.aid_types.specs.Ranges.{EachIsCents, IsAmount, IsBetween};
 
-use aid_types::{
-    Amount, Application, BoxedBook, Breaks, CalendarFacts, Day, EnrolFacts, Filing, Key,
-    OriginateFacts, PriorFacts, Program, Region, School, SchoolFacts, Side, Student, What,
-    WithdrawFacts, Year,
-};
+use aid_books::BoxedBook;
+use aid_filings::{Amount, CalendarFacts, EnrolFacts, Filing, OriginateFacts, PriorFacts, SchoolFacts, What, WithdrawFacts};
+use aid_types::{Application, Breaks, Day, Key, Program, Region, School, Side, Student, Year};
 use specimen::specimen_book;
 use std::alloc::{AllocError, Global};
 

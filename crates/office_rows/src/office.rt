@@ -3,8 +3,11 @@ ghost use Rattle.std.specs.Prelude.{◌≡◌, ◌<◌, ◌≤◌};
 
 use crate::answers::{greatest, noted};
 use crate::filings::{book, enrol, exempt, extra_term, filing, main_term, originate, school};
-use aid_types::{Ask, Filing, Program, School, Student, Verdict, What, Year};
-use office_core::{Office, Steps};
+use aid_filings::{Filing, What};
+use aid_replies::{Ask, Verdict};
+use aid_types::{Program, School, Student, Year};
+use office_core::Office;
+use steps::Steps;
 use std::alloc::{AllocError, Global};
 use std::marker::Brand;
 use std::process::Abort;

@@ -6,7 +6,9 @@ use crate::filings::{
     repay, school, twice_broken_term, withdraw,
 };
 use crate::office::{assert_filed, base};
-use aid_types::{Outcome, Program, Way, What, Year};
+use aid_filings::What;
+use aid_replies::Outcome;
+use aid_types::{Program, Way, Year};
 use std::test::Fail;
 
 #[test]

@@ -5,7 +5,9 @@ use crate::filings::{
     withdraw,
 };
 use crate::office::{assert_filed, net, standing};
-use aid_types::{Formula, Outcome, Program, StandingRow, Verdict, Way, What};
+use aid_filings::What;
+use aid_replies::{Outcome, StandingRow, Verdict};
+use aid_types::{Formula, Program, Way};
 use office_core::Office;
 use std::alloc::Global;
 use std::process::Abort;

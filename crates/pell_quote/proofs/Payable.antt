@@ -1,7 +1,7 @@
 -- A whole-dollar Pell payment breaks no rule just where Pell may be paid and the amount is affordable.
 use Rattle.std.proofs.Common.{◌≡◌, ℕ, ◌*◌, ◌≤◌, ◌<◌, min, is_none, refl, ap, arith, false, Option, Some, None}
 use Rattle.std.proofs.lemmas.Grind.{common_steps}
-use Rattle.aid_types.specs.declared.reply.Refusal.{Refusal}
+use Rattle.aid_types.specs.declared.award.Refusal.{Refusal}
 use Rattle.filing_rules.specs.declared.facts.Facts.{Facts}
 use Rattle.filing_rules.specs.Rules.{first_broken, payment_lines}
 use Rattle.filing_rules.specs.Quote.{is_payable, greatest_payment}

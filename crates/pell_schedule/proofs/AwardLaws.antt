@@ -6,10 +6,10 @@ use Rattle.std.proofs.lemmas.Int.{ints, clamps}
 use Rattle.aid_num.specs.Nearest.{to5}
 use Rattle.aid_types.specs.Ranges.{IsWithin}
 use Rattle.aid_types.specs.declared.application.Application.{Application}
-use Rattle.aid_types.specs.declared.book.Book.{Book}
-use Rattle.aid_types.specs.declared.book.PellFigures.{PellFigures}
-use Rattle.aid_types.specs.declared.reply.Formula.{Formula}
-use Rattle.aid_types.specs.declared.reply.Way.TheVariants.{Maximum, Calculated, Minimum, Nothing}
+use Rattle.aid_books.specs.declared.book.Book.{Book}
+use Rattle.aid_books.specs.declared.book.PellFigures.{PellFigures}
+use Rattle.aid_types.specs.declared.award.Formula.{Formula}
+use Rattle.aid_types.specs.declared.award.Way.TheVariants.{Maximum, Calculated, Minimum, Nothing}
 use Rattle.sai_parent.proofs.NearestOrder.{to5-rises}
 use Rattle.pell_schedule.specs.Award.{IsDecidedByCase, IsScheduledAward, awarded, calculated, greatest_award, decision_under, is_barred, is_maximum, is_minimum, must_file}
 

@@ -5,16 +5,16 @@ use Rattle.aid_num.specs.Nearest.{to5}
 use Rattle.aid_types.specs.declared.application.Application.{Application}
 use Rattle.aid_types.specs.declared.application.Region.{Region}
 use Rattle.aid_types.specs.declared.application.Region.TheVariants.{Contiguous, Alaska, Hawaii}
-use Rattle.aid_types.specs.declared.book.Book.{Book}
-use Rattle.aid_types.specs.declared.book.Guideline.{Guideline}
+use Rattle.aid_books.specs.declared.book.Book.{Book}
+use Rattle.aid_books.specs.declared.book.Guideline.{Guideline}
 use Rattle.aid_types.specs.Ranges.{IsWithin}
-use Rattle.aid_types.specs.declared.book.PellFigures.{PellFigures}
-use Rattle.aid_types.specs.declared.book.Percents.{Percents}
-use Rattle.aid_types.specs.declared.book.Poverty.{Poverty}
-use Rattle.aid_types.specs.declared.reply.Formula.{Formula}
-use Rattle.aid_types.specs.declared.reply.Formula.TheVariants.{A, B, C}
-use Rattle.aid_types.specs.declared.reply.Way.{Way}
-use Rattle.aid_types.specs.declared.reply.Way.TheVariants.{Maximum, Calculated, Minimum, Nothing}
+use Rattle.aid_books.specs.declared.book.PellFigures.{PellFigures}
+use Rattle.aid_books.specs.declared.book.Percents.{Percents}
+use Rattle.aid_books.specs.declared.book.Poverty.{Poverty}
+use Rattle.aid_types.specs.declared.award.Formula.{Formula}
+use Rattle.aid_types.specs.declared.award.Formula.TheVariants.{A, B, C}
+use Rattle.aid_types.specs.declared.award.Way.{Way}
+use Rattle.aid_types.specs.declared.award.Way.TheVariants.{Maximum, Calculated, Minimum, Nothing}
 use Rattle.sai_parent.specs.Household.{by_size}
 use Rattle.sai_index.specs.Formulas.{formula}
 use Rattle.sai_index.specs.Index.{index_lines}

@@ -28,7 +28,8 @@ ghost use Rattle.pell_schedule.specs.Award.{
 };
 
 use aid_num::to5;
-use aid_types::{Application, Book, Formula, Percents, Region, Way};
+use aid_books::{Book, Percents};
+use aid_types::{Application, Formula, Region, Way};
 use sai_index::formula_of;
 use sai_parent::by_size;
 

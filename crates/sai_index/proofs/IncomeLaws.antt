@@ -6,11 +6,11 @@ use Rattle.std.proofs.lemmas.Int.{ints, clamps}
 use Rattle.aid_num.specs.Nearest.{share}
 use Rattle.aid_types.specs.declared.application.Application.{Application}
 use Rattle.aid_types.specs.declared.application.Side.{Side}
-use Rattle.aid_types.specs.declared.book.Book.{Book}
-use Rattle.aid_types.specs.declared.book.Employment.{Employment}
-use Rattle.aid_types.specs.declared.book.Payroll.{Payroll}
-use Rattle.aid_types.specs.declared.reply.Formula.{Formula}
-use Rattle.aid_types.specs.declared.reply.Formula.TheVariants.{A, B, C}
+use Rattle.aid_books.specs.declared.book.Book.{Book}
+use Rattle.aid_books.specs.declared.book.Employment.{Employment}
+use Rattle.aid_books.specs.declared.book.Payroll.{Payroll}
+use Rattle.aid_types.specs.declared.award.Formula.{Formula}
+use Rattle.aid_types.specs.declared.award.Formula.TheVariants.{A, B, C}
 use Rattle.sai_parent.specs.Household.{IsRisingSchedule, asset_contribution, asset_protection, business_worth, employment_allowance, medicare, oasdi, payroll_allowance, protection_allowance, tax_allowance, total_income}
 use Rattle.sai_parent.specs.Lines.{household_lines, parent_lines}
 use Rattle.sai_parent.specs.declared.ParentLines.{ParentLines}

@@ -2,9 +2,9 @@
 use Rattle.std.proofs.Common.{◌≡◌, ◌+ℤ◌, ◌-ℤ◌, refl, sym, ap, subst, ◌∙◌}
 use Rattle.aid_num.specs.Nearest.{share}
 use Rattle.aid_types.specs.declared.application.Application.{Application}
-use Rattle.aid_types.specs.declared.book.Book.{Book}
-use Rattle.aid_types.specs.declared.reply.Formula.{Formula}
-use Rattle.aid_types.specs.declared.reply.Formula.TheVariants.{A, B, C}
+use Rattle.aid_books.specs.declared.book.Book.{Book}
+use Rattle.aid_types.specs.declared.award.Formula.{Formula}
+use Rattle.aid_types.specs.declared.award.Formula.TheVariants.{A, B, C}
 use Rattle.sai_parent.specs.Household.{employment_allowance}
 use Rattle.sai_parent.specs.Lines.{parent_lines}
 use Rattle.sai_parent.specs.declared.ParentLines.{ParentLines}

@@ -1,10 +1,10 @@
 -- Whether an application is in range for the book: rule 92 (own, on the members of a family that HEA 480(k) counts).
 use Rattle.std.specs.Prelude.{ℕ, nat_le, nat_lt, ◌==◌, Bool, if◌then◌else◌, Option, Some, None}
 use Rattle.aid_types.specs.declared.application.Application.{Application}
-use Rattle.aid_types.specs.declared.book.Book.{Book}
-use Rattle.aid_types.specs.declared.reply.Formula.{Formula}
-use Rattle.aid_types.specs.declared.reply.Formula.TheVariants.{A, B, C}
-use Rattle.aid_types.specs.declared.reply.Refusal.{Refusal}
+use Rattle.aid_books.specs.declared.book.Book.{Book}
+use Rattle.aid_types.specs.declared.award.Formula.{Formula}
+use Rattle.aid_types.specs.declared.award.Formula.TheVariants.{A, B, C}
+use Rattle.aid_types.specs.declared.award.Refusal.{Refusal}
 use Rattle.sai_index.specs.Formulas.{formula}
 
 -- the size of family that a formula asks for: the members that it knows of

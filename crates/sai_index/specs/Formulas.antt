@@ -1,9 +1,9 @@
 -- Which of the three formulas an application goes by (HEA 475 to 477, 480(d)).
 use Rattle.std.specs.Prelude.{◌+◌, nat_le, Bool, ◌||◌, if◌then◌else◌}
 use Rattle.aid_types.specs.declared.application.Application.{Application}
-use Rattle.aid_types.specs.declared.book.Book.{Book}
-use Rattle.aid_types.specs.declared.reply.Formula.{Formula}
-use Rattle.aid_types.specs.declared.reply.Formula.TheVariants.{A, B, C}
+use Rattle.aid_books.specs.declared.book.Book.{Book}
+use Rattle.aid_types.specs.declared.award.Formula.{Formula}
+use Rattle.aid_types.specs.declared.award.Formula.TheVariants.{A, B, C}
 
 -- an independent student: 24 or older in the year, or married, a graduate student, or with a yes to one of seven answers
 abbrev pub is_independent : Book → Application → Bool

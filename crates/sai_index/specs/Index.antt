@@ -3,9 +3,9 @@ use Rattle.std.specs.Prelude.{◌≡◌, false, if◌then◌else◌, ℤ, pos, n
 use Rattle.std.specs.Int.{int_max, int_min}
 use Rattle.aid_num.specs.Nearest.{share}
 use Rattle.aid_types.specs.declared.application.Application.{Application}
-use Rattle.aid_types.specs.declared.book.Book.{Book}
-use Rattle.aid_types.specs.declared.reply.Formula.{Formula}
-use Rattle.aid_types.specs.declared.reply.Formula.TheVariants.{A, B, C}
+use Rattle.aid_books.specs.declared.book.Book.{Book}
+use Rattle.aid_types.specs.declared.award.Formula.{Formula}
+use Rattle.aid_types.specs.declared.award.Formula.TheVariants.{A, B, C}
 use Rattle.sai_parent.specs.Household.{employment_allowance, payroll_allowance, protection_allowance, tax_allowance, total_income}
 use Rattle.sai_parent.specs.Lines.{AreHouseholdLines, AreParentLines, IsAssessed, IsNotAssessed, assessed_lines, household_lines, parent_lines}
 use Rattle.sai_parent.specs.declared.ParentLines.{ParentLines}

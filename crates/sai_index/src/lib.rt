@@ -10,11 +10,12 @@ ghost use Rattle.sai_index.specs.Fits.{is_size as is_size_of, size_for as size_f
 ghost use Rattle.sai_index.specs.Formulas.{formula, is_independent as is_independent_of};
 ghost use Rattle.sai_index.specs.Index.{AreIndexLines, bounded as bounded_of, index_lines, indexed as indexed_of, lines_of};
 ghost use Rattle.sai_index.specs.declared.IndexLines.{IndexLines as Lines};
-ghost use Rattle.aid_types.specs.declared.reply.Formula.TheVariants.{A, B, C};
+ghost use Rattle.aid_types.specs.declared.award.Formula.TheVariants.{A, B, C};
 
 mod student;
 
-use aid_types::{Application, Book, Formula, Refusal};
+use aid_books::Book;
+use aid_types::{Application, Formula, Refusal};
 use sai_parent::{ParentLines, parents};
 use student::{dependent, family, income_contribution, no_lines, single};
 

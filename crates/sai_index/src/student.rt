@@ -15,7 +15,8 @@ ghost use Rattle.sai_index.specs.Index.{
 };
 
 use aid_num::share;
-use aid_types::{Application, Book, Side};
+use aid_books::Book;
+use aid_types::{Application, Side};
 use sai_parent::{
     ParentLines, assessed, employment_allowance, income_and_assets, payroll_allowance,
     protection_allowance, tax_allowance, total_income,

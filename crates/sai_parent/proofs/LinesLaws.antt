@@ -2,7 +2,7 @@
 use Rattle.std.proofs.Common.{◌≡◌, Bool, ℤ, pos, ◌+ℤ◌, ◌-ℤ◌, refl, ap, ◌∙◌}
 use Rattle.aid_types.specs.declared.application.Application.{Application}
 use Rattle.aid_types.specs.declared.application.Side.{Side}
-use Rattle.aid_types.specs.declared.book.Book.{Book}
+use Rattle.aid_books.specs.declared.book.Book.{Book}
 use Rattle.sai_parent.specs.Household.{asset_contribution, employment_allowance, protection_allowance, schedule_value}
 use Rattle.sai_parent.specs.Lines.{AreHouseholdLines, AreParentLines, IsAssessed, IsNotAssessed, assessed_lines, household_lines, parent_lines}
 use Rattle.sai_parent.specs.declared.ParentLines.{ParentLines}

@@ -10,9 +10,9 @@ use Rattle.std.proofs.lemmas.List.Folds.{find-append}
 use Rattle.std.proofs.lemmas.Int.{ints}
 use Rattle.std.specs.Option.{option_or}
 use Rattle.aid_num.specs.Nearest.{half_up, share}
-use Rattle.aid_types.specs.Marginal.{IsBracket, IsMarginal, goes_on, row_at, row_value, value_at}
-use Rattle.aid_types.specs.declared.book.Book.{Book}
-use Rattle.aid_types.specs.declared.marginal.Bracket.{Bracket}
+use Rattle.aid_books.specs.Marginal.{IsBracket, IsMarginal, goes_on, row_at, row_value, value_at}
+use Rattle.aid_books.specs.declared.book.Book.{Book}
+use Rattle.aid_books.specs.declared.marginal.Bracket.{Bracket}
 use Rattle.sai_parent.specs.Household.{IsRisingSchedule, schedule_value}
 use Rattle.sai_parent.proofs.NearestOrder.{share-rises}
 

@@ -2,15 +2,15 @@
 use Rattle.std.specs.Prelude.{ℕ, ◌-◌, Bool, if◌then◌else◌, ℤ, pos, ◌+ℤ◌, ◌-ℤ◌, ◌*ℤ◌, ◌≤ℤ◌, int_lt, All, List, min, slice_index_or, option_map, unwrap_or}
 use Rattle.std.specs.Int.{int_max, int_min}
 use Rattle.aid_num.specs.Nearest.{share}
-use Rattle.aid_types.specs.Ages.{row_at_age}
-use Rattle.aid_types.specs.Marginal.{IsBracket, IsMarginal, value_at}
-use Rattle.aid_types.specs.declared.ages.AgeRow.{AgeRow}
+use Rattle.aid_books.specs.Ages.{row_at_age}
+use Rattle.aid_books.specs.Marginal.{IsBracket, IsMarginal, value_at}
+use Rattle.aid_books.specs.declared.ages.AgeRow.{AgeRow}
 use Rattle.aid_types.specs.declared.application.Side.{Side}
-use Rattle.aid_types.specs.declared.book.Allowance.{Allowance}
-use Rattle.aid_types.specs.declared.book.Book.{Book}
-use Rattle.aid_types.specs.declared.book.Employment.{Employment}
-use Rattle.aid_types.specs.declared.book.Payroll.{Payroll}
-use Rattle.aid_types.specs.declared.marginal.Bracket.{Bracket}
+use Rattle.aid_books.specs.declared.book.Allowance.{Allowance}
+use Rattle.aid_books.specs.declared.book.Book.{Book}
+use Rattle.aid_books.specs.declared.book.Employment.{Employment}
+use Rattle.aid_books.specs.declared.book.Payroll.{Payroll}
+use Rattle.aid_books.specs.declared.marginal.Bracket.{Bracket}
 
 -- untaxed income and benefits (HEA 480(b))
 abbrev pub untaxed_income : Side → ℤ

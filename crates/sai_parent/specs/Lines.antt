@@ -2,7 +2,7 @@
 use Rattle.std.specs.Prelude.{◌≡◌, Bool, ℤ, pos, ◌+ℤ◌, ◌-ℤ◌}
 use Rattle.aid_types.specs.declared.application.Application.{Application}
 use Rattle.aid_types.specs.declared.application.Side.{Side}
-use Rattle.aid_types.specs.declared.book.Book.{Book}
+use Rattle.aid_books.specs.declared.book.Book.{Book}
 use Rattle.sai_parent.specs.Household.{asset_contribution, asset_protection, business_worth, employment_allowance, payroll_allowance, protection_allowance, schedule_value, tax_allowance, total_income}
 use Rattle.sai_parent.specs.declared.ParentLines.{ParentLines}
 

@@ -1,7 +1,7 @@
 //! The lines that every household has.
 ghost use Rattle.std.specs.Prelude.{◌≡◌, ◌≤◌, ◌<◌, ◌+◌, ◌-◌, length, IfSome, unsigned_abs, pos, ◌+ℤ◌};
 ghost use Rattle.aid_types.specs.Ranges.{EachIsAmount, IsAmount, IsRate, IsWithin};
-ghost use Rattle.aid_types.specs.Marginal.{value_at as value_at_of};
+ghost use Rattle.aid_books.specs.Marginal.{value_at as value_at_of};
 ghost use Rattle.sai_parent.specs.Household.{
   asset_contribution as asset_contribution_of,
   asset_protection as asset_protection_of,
@@ -22,7 +22,8 @@ ghost use Rattle.sai_parent.specs.Household.{
 };
 
 use aid_num::share;
-use aid_types::{Ages, Allowance, Book, Brackets, Employment, Payroll, Side};
+use aid_books::{Ages, Allowance, Book, Brackets, Employment, Payroll};
+use aid_types::Side;
 
 /// Total income (HEA 480(a)).
 #[tactic(auto, unfolding(crate::specs::Household::total_income))]

@@ -8,7 +8,8 @@ ghost use Rattle.sai_parent.specs.declared.ParentLines.{ParentLines as Lines};
 mod household;
 mod lines;
 
-use aid_types::{Application, Book};
+use aid_books::Book;
+use aid_types::Application;
 pub use household::{
     asset_contribution, asset_protection, business_worth, by_size, employment_allowance, net_worth,
     payroll_allowance, protection_allowance, schedule_value, sum_of_allowances, tax_allowance,

@@ -8,7 +8,8 @@ use crate::household::{
     asset_contribution, asset_protection, business_worth, net_worth, payroll_allowance,
     schedule_value, sum_of_allowances, tax_allowance, total_income,
 };
-use aid_types::{Book, Side};
+use aid_books::Book;
+use aid_types::Side;
 
 /// The lines of a household's income and assets. `protection` and `employment` are what its formula allows for living
 /// and for employment, `rate` is what it takes of assets.

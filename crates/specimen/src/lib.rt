@@ -12,7 +12,8 @@ use crate::figures::{
     asset_rates, employment, payroll, pell_figures, percents, poverty, protection, schedule,
 };
 use crate::tables::{ages, brackets, business};
-use aid_types::{Book, Year};
+use aid_books::Book;
+use aid_types::Year;
 
 /// The specimen book of award year 2025-26. Its figures are own, even where one looks published.
 pub fn specimen_book() -> Book

@@ -2,7 +2,7 @@
 ghost use Rattle.std.specs.Prelude.{◌≡◌, Some, pos, option_map, slice_get};
 ghost use Rattle.aid_num.specs.Nearest.{share};
 
-use aid_types::{AgeRow, Ages, Bracket, Brackets};
+use aid_books::{AgeRow, Ages, Bracket, Brackets};
 
 #[tactic(auto, unfolding(aid_num::specs::Nearest::half_up))]
 pub(crate) fn business() -> Brackets

@@ -1,5 +1,5 @@
 use crate::specimen_book;
-use aid_types::{BoxedBook, Bracket};
+use aid_books::{BoxedBook, Bracket};
 use std::test::Fail;
 
 #[test]
@@ -20,8 +20,8 @@ fn its_tables_have_the_row_of_an_amount(rt: HostRuntime) {
 #[test]
 fn books_are_told_apart(rt: HostRuntime) -> Result<(), Fail> {
     let book = specimen_book();
-    assert!(rt; book.is_same(&specimen_book()));
+    assert!(rt; book == specimen_book());
     let boxed = BoxedBook::new(Box::new(rt.alloc(), book)?);
-    assert!(rt; boxed.as_book().is_same(&book));
+    assert!(rt; *boxed.as_book() == book);
     Ok(())
 }

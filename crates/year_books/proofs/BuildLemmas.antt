@@ -6,8 +6,8 @@ use Rattle.std.proofs.lemmas.Int.{ints}
 use Rattle.std.proofs.Math.ListN.{drop_of_length-le}
 use Rattle.std.proofs.lemmas.List.{drop-drop, take-append-drop}
 use Rattle.aid_num.specs.Nearest.{share}
-use Rattle.aid_types.specs.Ages.{IsAgeRow, is_by_age}
-use Rattle.aid_types.specs.Marginal.{IsBracket, is_marginal}
+use Rattle.aid_books.specs.Ages.{IsAgeRow, is_by_age}
+use Rattle.aid_books.specs.Marginal.{IsBracket, is_marginal}
 use Rattle.aid_types.specs.Ranges.{IsWithin}
 use Rattle.year_books.specs.Book.{age_numbers, bracket_numbers}
 use Rattle.year_books.specs.Fields.{amount, between, rate, up_to}

@@ -7,10 +7,10 @@ use Rattle.std.proofs.lemmas.Bool.Decides.{Decides-int_eq}
 use Rattle.std.proofs.lemmas.Bool.{and_from, and_parts}
 use Rattle.std.proofs.lemmas.Int.{ints}
 use Rattle.aid_num.specs.Nearest.{share}
-use Rattle.aid_types.specs.Ages.{IsAgeRow, is_by_age, rises_from}
-use Rattle.aid_types.specs.Marginal.{IsBracket, goes_on, is_marginal}
-use Rattle.aid_types.specs.declared.ages.AgeRow.{AgeRow}
-use Rattle.aid_types.specs.declared.marginal.Bracket.{Bracket}
+use Rattle.aid_books.specs.Ages.{IsAgeRow, is_by_age, rises_from}
+use Rattle.aid_books.specs.Marginal.{IsBracket, goes_on, is_marginal}
+use Rattle.aid_books.specs.declared.ages.AgeRow.{AgeRow}
+use Rattle.aid_books.specs.declared.marginal.Bracket.{Bracket}
 use Rattle.year_books.specs.Reading.{is_between}
 use Rattle.year_books.specs.Tables.{age_rows, begins_ages, begins_business, begins_schedule, bracket_rows, break_from, break_in, continues, first_break, is_older}
 use Rattle.aid_types.specs.Ranges.{IsWithin}

@@ -1,16 +1,16 @@
 -- The numbers of a book: a list for each of its fields, in order.
 use Rattle.std.specs.Prelude.{ℤ, pos, List, [], ◌∷◌, ◌++◌, map, length}
-use Rattle.aid_types.specs.declared.ages.AgeRow.{AgeRow}
-use Rattle.aid_types.specs.declared.book.AssetRates.{AssetRates}
-use Rattle.aid_types.specs.declared.book.Book.{Book}
-use Rattle.aid_types.specs.declared.book.Employment.{Employment}
-use Rattle.aid_types.specs.declared.book.Payroll.{Payroll}
-use Rattle.aid_types.specs.declared.book.PellFigures.{PellFigures}
-use Rattle.aid_types.specs.declared.book.Percents.{Percents}
-use Rattle.aid_types.specs.declared.book.Poverty.{Poverty}
-use Rattle.aid_types.specs.declared.book.Protection.{Protection}
-use Rattle.aid_types.specs.declared.book.Schedule.{Schedule}
-use Rattle.aid_types.specs.declared.marginal.Bracket.{Bracket}
+use Rattle.aid_books.specs.declared.ages.AgeRow.{AgeRow}
+use Rattle.aid_books.specs.declared.book.AssetRates.{AssetRates}
+use Rattle.aid_books.specs.declared.book.Book.{Book}
+use Rattle.aid_books.specs.declared.book.Employment.{Employment}
+use Rattle.aid_books.specs.declared.book.Payroll.{Payroll}
+use Rattle.aid_books.specs.declared.book.PellFigures.{PellFigures}
+use Rattle.aid_books.specs.declared.book.Percents.{Percents}
+use Rattle.aid_books.specs.declared.book.Poverty.{Poverty}
+use Rattle.aid_books.specs.declared.book.Protection.{Protection}
+use Rattle.aid_books.specs.declared.book.Schedule.{Schedule}
+use Rattle.aid_books.specs.declared.marginal.Bracket.{Bracket}
 
 abbrev pub one : ℤ → List ℤ
 one z = z ∷ []

@@ -3,9 +3,9 @@
 use Rattle.std.specs.Prelude.{ℕ, suc, ◌+◌, ◌-◌, ℤ, pos, int_lt, Bool, ◌&&◌, List, [], ◌∷◌, Option, Some, None, slice_index_or, if◌then◌else◌}
 use Rattle.std.specs.Ordering.{int_eq}
 use Rattle.aid_num.specs.Nearest.{share}
-use Rattle.aid_types.specs.Marginal.{row_value}
-use Rattle.aid_types.specs.declared.marginal.Bracket.{Bracket}
-use Rattle.aid_types.specs.declared.ages.AgeRow.{AgeRow}
+use Rattle.aid_books.specs.Marginal.{row_value}
+use Rattle.aid_books.specs.declared.marginal.Bracket.{Bracket}
+use Rattle.aid_books.specs.declared.ages.AgeRow.{AgeRow}
 use Rattle.year_books.specs.declared.error.BookError.{BookError}
 use Rattle.year_books.specs.declared.error.BookError.TheVariants.{NotRising}
 

@@ -10,7 +10,8 @@ use crate::parts::{
     asset_rates, employment, payroll, pell_figures, percents, poverty, protection, schedule,
 };
 use crate::tables::{age_rows_of, bracket_rows_of, not_rising};
-use aid_types::{AgeRow, Ages, Book, Bracket, Brackets, Year};
+use aid_books::{AgeRow, Ages, Book, Bracket, Brackets};
+use aid_types::Year;
 use std::alloc::{AllocError, Global};
 
 /// The rows of the three tables of a book.

@@ -5,10 +5,7 @@ ghost use Rattle.year_books.specs.Numbers.{AreNumbers, lists_of};
 ghost use Rattle.year_books.specs.Tables.{number_in};
 
 use crate::numbers::{number_at, sizes_at};
-use aid_types::{
-    Allowance, AssetRates, Employment, Guideline, Payroll, PellFigures, Percents, Poverty,
-    Protection, Schedule,
-};
+use aid_books::{Allowance, AssetRates, Employment, Guideline, Payroll, PellFigures, Percents, Poverty, Protection, Schedule};
 
 pub fn pell_figures(numbers: &[Vec<i64>]) -> PellFigures
     requires whole { AreNumbers (lists_of numbers.now) }

@@ -1,13 +1,13 @@
 //! The tables of a book: their rows, and the first row that does not go on from the one before it.
 ghost use Rattle.std.specs.Prelude.{◌≡◌, ◌≤◌, ◌<◌, ◌≤ℤ◌, All, IfOk, length, pos};
-ghost use Rattle.aid_types.specs.Ages.{IsAgeRow};
-ghost use Rattle.aid_types.specs.Marginal.{IsBracket, row_value};
+ghost use Rattle.aid_books.specs.Ages.{IsAgeRow};
+ghost use Rattle.aid_books.specs.Marginal.{IsBracket, row_value};
 ghost use Rattle.aid_types.specs.Ranges.{IsRate};
 ghost use Rattle.year_books.specs.Tables.{age_rows, begins_ages, begins_business, begins_schedule, bracket_rows, break_from, break_in, continues, is_older, rising_error};
 
 use crate::error::BookError;
 use aid_num::share;
-use aid_types::{AgeRow, Bracket};
+use aid_books::{AgeRow, Bracket};
 use std::alloc::{AllocError, Global};
 
 /// The rows of three columns of a table that goes by an amount.

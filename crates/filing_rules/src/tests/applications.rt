@@ -1,7 +1,8 @@
 //! Applications and corrections.
 use super::{DESK, ENROLLED, SCHOOL, STUDENT, YEAR, refusal};
 use crate::{Facts, broken};
-use aid_types::{Application, Key, Refusal, Region, Side, What};
+use aid_filings::What;
+use aid_types::{Application, Key, Refusal, Region, Side};
 
 const NO_AMOUNTS: Side = Side {
     agi: 0,

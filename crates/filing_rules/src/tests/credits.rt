@@ -1,7 +1,8 @@
 //! Schools and prior use; credits, costs, repayments and adjustments.
 use super::{DESK, ENROLLED, SCHOOL, STUDENT, YEAR, amount, refusal};
 use crate::{Facts, broken};
-use aid_types::{EnrolFacts, Key, OriginateFacts, PriorFacts, Program, Refusal, SchoolFacts, What};
+use aid_filings::{EnrolFacts, OriginateFacts, PriorFacts, SchoolFacts, What};
+use aid_types::{Key, Program, Refusal};
 
 fn filed_school(key: &Key, code_at: u32) -> Option<Refusal> {
     let f = Facts {

@@ -1,7 +1,8 @@
 //! Payments.
 use super::{ENROLLED, SCHOOL, STUDENT, YEAR, amount, refusal, term};
 use crate::{Facts, broken};
-use aid_types::{Amount, Program, Refusal, What};
+use aid_filings::{Amount, What};
+use aid_types::{Program, Refusal};
 
 fn pell(dollars: u16) -> What {
     What::Pay(Amount {

@@ -1,7 +1,8 @@
 //! Terms that a school files.
 use super::{ENROLLED, SCHOOL, YEAR, day, refusal};
 use crate::{Facts, broken};
-use aid_types::{Breaks, CalendarFacts, Refusal, What};
+use aid_filings::{CalendarFacts, What};
+use aid_types::{Breaks, Refusal};
 
 // A term that is filed, with two breaks where the second has days.
 fn calendar(extra: bool, last: i8, breaks: [(i8, i8); 2]) -> What {

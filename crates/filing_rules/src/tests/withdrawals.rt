@@ -3,7 +3,8 @@ ghost use Rattle.aid_types.specs.Ranges.{EachIsCents};
 
 use super::{ENROLLED, SCHOOL, STUDENT, YEAR, day, refusal, term};
 use crate::{Facts, broken};
-use aid_types::{Refusal, What, WithdrawFacts};
+use aid_filings::{What, WithdrawFacts};
+use aid_types::Refusal;
 
 fn withdrawal(last: i8, determined: i8, could: [u64; 6]) -> What
     requires { EachIsCents could }

@@ -1,6 +1,6 @@
 use Rattle.std.proofs.Common.{pos, lit<, ◌∙◌}
 use Rattle.aid_num.proofs.Machine.{machine}
-use Rattle.aid_types.specs.declared.reply.Formula.TheVariants.{C}
+use Rattle.aid_types.specs.declared.award.Formula.TheVariants.{C}
 use Rattle.sai_index.specs.Index.{indexed}
 use Rattle.sai_index.proofs.family_index.Goals as goal
 

@@ -1,6 +1,6 @@
 use Rattle.std.proofs.Common.{◌+ℤ◌, lit<, ap, ◌∙◌}
 use Rattle.aid_num.proofs.Machine.{machine, sum_is}
-use Rattle.aid_types.specs.declared.reply.Formula.TheVariants.{B}
+use Rattle.aid_types.specs.declared.award.Formula.TheVariants.{B}
 use Rattle.sai_index.specs.Index.{income_contribution, indexed}
 use Rattle.sai_index.proofs.single_index.Goals as goal
 

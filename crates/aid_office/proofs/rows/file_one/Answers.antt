@@ -2,7 +2,7 @@ use Rattle.disk_model.proofs.Moments.{weaken}
 use Rattle.kept_office.specs.Kept.{kept_disk, kept_history, kept_pending}
 use Rattle.kept_office.specs.Recovers.{RecoversEither}
 use Rattle.kept_office.specs.Turns.{MayRecover}
-use Rattle.aid_types.specs.declared.reply.Ask.TheVariants.{File}
+use Rattle.aid_replies.specs.declared.reply.Ask.TheVariants.{File}
 use Rattle.std.proofs.Common.{inl, Ok}
 use Rattle.aid_office.specs.FileText.{after_row}
 use Rattle.aid_office.proofs.Standing.{standing}

@@ -1,6 +1,6 @@
 use Rattle.std.proofs.Common.{◌≡◌, ◌++◌, inl, inr, List, IsTrue, subst, sym}
 use Rattle.std.specs.Prelude.{IfErr, OnOk}
-use Rattle.aid_types.specs.declared.filing.Filing.{Filing}
+use Rattle.aid_filings.specs.declared.filing.Filing.{Filing}
 use Rattle.disk_model.specs.Telling.{EachImage, EachMoment}
 use Rattle.kept_office.specs.Kept.{kept_disk, kept_history}
 use Rattle.kept_office.specs.Recovers.{Recovers}

@@ -1,7 +1,7 @@
 use Rattle.std.proofs.Common.{◌≡◌, ◌≢◌, suc, length, sym, ap, ◌∙◌, arith}
 use Rattle.std.proofs.lemmas.Result.{err_from_is_err_and}
 use Rattle.csv.specs.Records.{fields_of as texts_of}
-use Rattle.aid_types.specs.Fields.{fields_of}
+use Rattle.filing_numbers.specs.Fields.{fields_of}
 use Rattle.desk_forms.specs.Numbers.{numbers_from}
 use Rattle.desk_forms.proofs.RowsLemmas.{read-in_range, row_of_kind-ok, row_of_kind-refused, row_of_kind-wrong_count}
 use Rattle.desk_forms.proofs.row.filing_of_kind.Goals as goal

@@ -1,6 +1,6 @@
 use Rattle.std.proofs.Common.{ℤ, List, sym, subst, arith}
-use Rattle.aid_types.specs.declared.fields.Field.{Field}
-use Rattle.aid_types.specs.Fields.{AreInRange, fields_of}
+use Rattle.filing_numbers.specs.declared.fields.Field.{Field}
+use Rattle.filing_numbers.specs.Fields.{AreInRange, fields_of}
 use Rattle.filing_codec.proofs.NumberLaws.{AreBytes-take, AreBytes-drop}
 use Rattle.filing_codec.proofs.FilingLaws.{numbers_take}
 use Rattle.filing_codec.proofs.reading.filing_in.Goals as goal

@@ -1,5 +1,5 @@
 use Rattle.std.proofs.Common.{◌≡◌, inr, List, false, refl, sym, ◌∙◌, ap, subst}
-use Rattle.aid_types.specs.declared.filing.Filing.{Filing}
+use Rattle.aid_filings.specs.declared.filing.Filing.{Filing}
 use Rattle.office_history.specs.Answer.{IsLegal, answer_of, is_admit}
 use Rattle.office_history.proofs.Admitted.{admitted_legal, refused_illegal}
 use Rattle.kept_office.proofs.Sound.{not_admitted}

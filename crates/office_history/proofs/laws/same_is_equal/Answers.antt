@@ -1,7 +1,7 @@
 use Rattle.std.proofs.Common.{◌≡◌, true, subst}
-use Rattle.aid_types.specs.declared.filing.Filing.{Filing}
+use Rattle.aid_filings.specs.declared.filing.Filing.{Filing}
 use Rattle.office_history.specs.Past.{same_filing}
-use Rattle.aid_types.proofs.SameFiling.{tells_filing}
+use Rattle.aid_filings.proofs.SameFiling.{tells_filing}
 use Rattle.office_history.proofs.laws.same_is_equal.Goals as goal
 
 pub returns : goal.returns

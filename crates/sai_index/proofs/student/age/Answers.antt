@@ -1,6 +1,6 @@
 use Rattle.std.proofs.Common.{◌≡◌, pos, ap, ◌∙◌, arith}
 use Rattle.std.proofs.lemmas.Int.{ints}
-use Rattle.aid_types.specs.declared.book.Book.{Book}
+use Rattle.aid_books.specs.declared.book.Book.{Book}
 use Rattle.sai_index.proofs.student.age.Goals as goal
 
 pub returns-clause-value : goal.returns-clause-value

@@ -5,7 +5,7 @@ use Rattle.sai_parent.specs.Household.{by_size}
 use Rattle.std.proofs.lemmas.Int.{unsigned_abs-mul}
 use Rattle.std.proofs.lemmas.Nat.{mul-le}
 use Rattle.aid_types.specs.Ranges.{IsAmount}
-use Rattle.aid_types.proofs.RangeLemmas.{EachIsAmount-at}
+use Rattle.aid_books.proofs.RangeLemmas.{EachIsAmount-at}
 use Rattle.sai_parent.proofs.household.by_size.Goals as goal
 
 record Sized (entry past extra s : ℤ) : Type 0 where

@@ -1,6 +1,6 @@
 use Rattle.std.proofs.Common.{arith, subst, sym, ◌∙◌}
 use Rattle.std.specs.List.{All}
-use Rattle.aid_types.specs.Marginal.{IsBracket}
+use Rattle.aid_books.specs.Marginal.{IsBracket}
 use Rattle.year_books.specs.Numbers.{lists_of}
 use Rattle.year_books.proofs.BuildLemmas.{range-bracket, range-business, size-age, size-bracket, size-business}
 use Rattle.year_books.proofs.build.break_of.Goals as goal

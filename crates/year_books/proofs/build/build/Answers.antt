@@ -2,10 +2,10 @@ use Rattle.std.proofs.Common.{◌≡◌, ℤ, pos, true, List, Some, option_map,
 use Rattle.std.specs.Prelude.{slice_get}
 use Rattle.std.specs.List.{All}
 use Rattle.aid_num.specs.Nearest.{share}
-use Rattle.aid_types.specs.Ages.{IsAgeRow, is_by_age}
-use Rattle.aid_types.specs.Marginal.{IsBracket, is_marginal}
-use Rattle.aid_types.specs.declared.ages.AgeRow.{AgeRow}
-use Rattle.aid_types.specs.declared.marginal.Bracket.{Bracket}
+use Rattle.aid_books.specs.Ages.{IsAgeRow, is_by_age}
+use Rattle.aid_books.specs.Marginal.{IsBracket, is_marginal}
+use Rattle.aid_books.specs.declared.ages.AgeRow.{AgeRow}
+use Rattle.aid_books.specs.declared.marginal.Bracket.{Bracket}
 use Rattle.year_books.specs.Book.{age_numbers, bracket_numbers, numbers_of}
 use Rattle.year_books.specs.Numbers.{lists_of}
 use Rattle.year_books.specs.Tables.{number_in}

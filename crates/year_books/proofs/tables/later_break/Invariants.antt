@@ -1,5 +1,5 @@
 use Rattle.std.proofs.Common.{◌≡◌, ◌+◌, drop}
-use Rattle.aid_types.specs.Marginal.{IsBracket}
+use Rattle.aid_books.specs.Marginal.{IsBracket}
 use Rattle.year_books.specs.Tables.{break_from, continues}
 use Rattle.year_books.proofs.tables.later_break.Given as goal
 

@@ -1,5 +1,5 @@
 use Rattle.std.proofs.Common.{◌≡◌, ◌⊎◌, inl, inr, IsTrue, List, ℕ, sym, subst}
-use Rattle.aid_types.specs.declared.filing.Filing.{Filing}
+use Rattle.aid_filings.specs.declared.filing.Filing.{Filing}
 use Rattle.disk_model.specs.Telling.{EachMoment, IsRead}
 use Rattle.disk_model.proofs.Moments.{read_again}
 use Rattle.filing_journal.specs.Opening.{opening_disk}

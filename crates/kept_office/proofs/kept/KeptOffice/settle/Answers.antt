@@ -1,6 +1,6 @@
 use Rattle.std.proofs.Common.{◌≡◌, ◌≢◌, Bool, false, not, Option, Some, None, refl, sym, ap, ◌∙◌}
 use Rattle.std.specs.Prelude.{is_some}
-use Rattle.aid_types.specs.declared.filing.Filing.{Filing}
+use Rattle.aid_filings.specs.declared.filing.Filing.{Filing}
 use Rattle.kept_office.specs.Kept.{kept_disk}
 use Rattle.kept_office.proofs.Sound.{settled_sound, settling_moments, still_sound}
 use Rattle.kept_office.proofs.kept.KeptOffice.settle.Goals as goal

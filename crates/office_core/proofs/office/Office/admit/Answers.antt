@@ -1,7 +1,7 @@
 use Rattle.std.proofs.Common.{◌≡◌, ◌∷◌, ◌∙◌, [], List, ap, reverse, subst, sym, rules}
 use Rattle.std.proofs.lemmas.List.{reverse-append}
-use Rattle.aid_types.specs.declared.filing.Filing.{Filing}
-use Rattle.aid_types.specs.declared.reply.Verdict.TheVariants.{Admit}
+use Rattle.aid_filings.specs.declared.filing.Filing.{Filing}
+use Rattle.aid_replies.specs.declared.reply.Verdict.TheVariants.{Admit}
 use Rattle.office_history.specs.Answer.{IsLegal, outcome_of}
 use Rattle.office_history.proofs.Admitted.{admitted_is, admitted_legal}
 use Rattle.office_core.specs.Register.{Register}

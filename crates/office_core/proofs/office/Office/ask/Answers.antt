@@ -1,7 +1,7 @@
 use Rattle.std.proofs.Common.{◌≡◌, ◌*◌, ◌≤◌, ℕ, List, None, reverse, subst, ap, sym, ◌∙◌, arith}
-use Rattle.aid_types.specs.declared.filing.Filing.{Filing}
-use Rattle.aid_types.specs.declared.reply.Ask.TheVariants.{Quote}
-use Rattle.aid_types.specs.declared.reply.Verdict.TheVariants.{Quoted}
+use Rattle.aid_filings.specs.declared.filing.Filing.{Filing}
+use Rattle.aid_replies.specs.declared.reply.Ask.TheVariants.{Quote}
+use Rattle.aid_replies.specs.declared.reply.Verdict.TheVariants.{Quoted}
 use Rattle.filing_rules.specs.Rules.{first_broken, payment_lines}
 use Rattle.office_history.specs.Answer.{IsLegal, answer_of, answer_to, judged, quote_of}
 use Rattle.office_history.specs.FactsOf.{payment_facts}

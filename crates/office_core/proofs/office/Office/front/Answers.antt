@@ -1,10 +1,10 @@
 use Rattle.std.proofs.Common.{◌≢◌, List, reverse, subst, ap, arith}
 use Rattle.std.specs.List.{AllPairs}
-use Rattle.aid_types.specs.declared.filing.Filing.{Filing}
+use Rattle.aid_filings.specs.declared.filing.Filing.{Filing}
 use Rattle.office_history.specs.Within.{IsWithin}
 use Rattle.office_history.proofs.Legal.{legal_keys_apart}
 use Rattle.office_history.proofs.LegalWithin.{legal_within}
-use Rattle.plain_office.proofs.Short.{short}
+use Rattle.office_core.proofs.Short.{short}
 use Rattle.office_core.specs.Register.{Register}
 use Rattle.office_core.proofs.office.Office.front.Goals as goal
 

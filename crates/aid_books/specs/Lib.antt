@@ -1,0 +1,4 @@
+pub mod Ages
+pub mod Marginal
+pub mod RowAt
+pub mod ValidBook

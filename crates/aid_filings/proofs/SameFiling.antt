@@ -1,0 +1,188 @@
+-- The derived `==` of filings is equality.
+use Rattle.std.proofs.Common.{◌≡◌, ℕ, pos, arith, Bool, true, ◌&&◌, ◌≤◌, List, length, take, refl, ap, sym, ◌∙◌, Decides}
+use Rattle.std.specs.Coded.{le_prop}
+use Rattle.std.specs.Prelude.{◌-ℤ◌, nat_eq}
+use Rattle.std.proofs.lemmas.Int.{ints}
+use Rattle.std.proofs.lemmas.Bool.{and_parts, and_from, eqb-true, eq-eqb, true≢false}
+use denote.Struct.Props.{props}
+use lib.Pointwise.{pointwise}
+use Rattle.aid_types.proofs.Same.{Tells, decides, tells_pair, tells_by, same_with_fact, tells_ℕ, tells_key}
+use Rattle.aid_types.proofs.SameApplication.{tells_Bool, tells_application}
+use Rattle.aid_types.proofs.SameTerm.{tells_breaks, tells_day, tells_program, tells_ℕs}
+use Rattle.aid_books.proofs.SameBook.{tells_book}
+use Rattle.aid_types.specs.Ranges.{EachIsCents, IsBetween}
+use Rattle.aid_types.specs.declared.number.Key.{Key}
+use Rattle.aid_types.specs.declared.number.Program.{Program}
+use Rattle.aid_filings.specs.declared.filing.SchoolFacts.{SchoolFacts}
+use Rattle.aid_filings.specs.declared.filing.CalendarFacts.{CalendarFacts}
+use Rattle.aid_filings.specs.declared.filing.PriorFacts.{PriorFacts}
+use Rattle.aid_filings.specs.declared.filing.EnrolFacts.{EnrolFacts}
+use Rattle.aid_filings.specs.declared.filing.OriginateFacts.{OriginateFacts}
+use Rattle.aid_filings.specs.declared.filing.Amount.{Amount}
+use Rattle.aid_filings.specs.declared.filing.WithdrawFacts.{WithdrawFacts}
+use Rattle.aid_filings.specs.declared.filing.Filing.{Filing}
+use Rattle.aid_filings.specs.declared.filing.What.{What}
+use Rattle.aid_filings.specs.declared.filing.What.TheVariants.{Book as BookFiled, School, Calendar, Prior, Apply, Enrol, Originate, Pay, Withdraw, Repay, Adjust}
+use Rattle.aid_filings.specs.contracts.filing.SchoolFactsPartialEq.TheImpl.{eq-value as school_facts_eq}
+use Rattle.aid_filings.specs.contracts.filing.CalendarFactsPartialEq.TheImpl.{eq-value as calendar_facts_eq}
+use Rattle.aid_filings.specs.contracts.filing.PriorFactsPartialEq.TheImpl.{eq-value as prior_facts_eq}
+use Rattle.aid_filings.specs.contracts.filing.EnrolFactsPartialEq.TheImpl.{eq-value as enrol_facts_eq}
+use Rattle.aid_filings.specs.contracts.filing.OriginateFactsPartialEq.TheImpl.{eq-value as originate_facts_eq}
+use Rattle.aid_filings.specs.contracts.filing.AmountPartialEq.TheImpl.{eq-value as amount_eq}
+use Rattle.aid_filings.specs.contracts.filing.WithdrawFactsPartialEq.TheImpl.{eq-value as withdraw_facts_eq}
+use Rattle.aid_filings.specs.contracts.filing.WhatPartialEq.TheImpl.{eq-value as what_eq}
+use Rattle.aid_filings.specs.contracts.filing.FilingPartialEq.TheImpl.{eq-value as filing_eq, ghosts as filing_ghosts}
+
+school_facts_parts : SchoolFacts → ℕ × (ℕ × ℕ)
+school_facts_parts s = (s.code, (s.terms, s.full))
+
+school_facts_whole : (x y : SchoolFacts) → school_facts_parts x ≡ school_facts_parts y → x ≡ y
+unfolding school_facts_parts
+school_facts_whole x y e =
+    let P : ℕ × (ℕ × ℕ) → Type 0 = λ b. IsBetween 1 999999 b.0 × IsBetween 2 3 b.1.0 × IsBetween 1 40 b.1.1 in
+    let make : (b : ℕ × (ℕ × ℕ)) → P b → SchoolFacts = λ b p. record { code = b.0; terms = b.1.0; full = b.1.1; in_range = p } in
+    same_with_fact P make (λ b. hlevel (le_prop)) (school_facts_parts x) (school_facts_parts y) x.in_range y.in_range e
+
+pub tells_school_facts : Tells school_facts_eq.it
+unfolding school_facts_parts
+tells_school_facts = tells_by school_facts_parts school_facts_whole (tells_pair tells_ℕ (tells_pair tells_ℕ tells_ℕ))
+
+prior_facts_parts : PriorFacts → ℕ × ℕ
+prior_facts_parts p = (p.student, p.units)
+
+prior_facts_whole : (x y : PriorFacts) → prior_facts_parts x ≡ prior_facts_parts y → x ≡ y
+unfolding prior_facts_parts
+prior_facts_whole x y e = let make : ℕ × ℕ → PriorFacts = λ b. record { student = b.0; units = b.1 } in ap make e
+
+pub tells_prior_facts : Tells prior_facts_eq.it
+unfolding prior_facts_parts
+tells_prior_facts = tells_by prior_facts_parts prior_facts_whole (tells_pair tells_ℕ tells_ℕ)
+
+abbrev CalendarFactsParts : Type 0
+CalendarFactsParts = ℕ × (ℕ × (Bool × (ℕ × (ℕ × (List (ℕ × ℕ))))))
+
+calendar_facts_parts : CalendarFacts → CalendarFactsParts
+calendar_facts_parts x = (x.year, (x.term, (x.extra, (x.first, (x.last, x.breaks)))))
+
+calendar_facts_whole : (x y : CalendarFacts) → calendar_facts_parts x ≡ calendar_facts_parts y → x ≡ y
+unfolding calendar_facts_parts
+calendar_facts_whole x y e =
+    let P : CalendarFactsParts → Type 0 = λ b. IsBetween 1 8 b.1.0 in
+    let make : (b : CalendarFactsParts) → P b → CalendarFacts = λ b p. record { year = b.0; term = b.1.0; extra = b.1.1.0; first = b.1.1.1.0; last = b.1.1.1.1.0; breaks = b.1.1.1.1.1; in_range = p } in
+    same_with_fact P make (λ b. hlevel (le_prop, props)) (calendar_facts_parts x) (calendar_facts_parts y) x.in_range y.in_range e
+
+pub tells_calendar_facts : Tells calendar_facts_eq.it
+unfolding calendar_facts_parts
+tells_calendar_facts = tells_by calendar_facts_parts calendar_facts_whole (tells_pair tells_ℕ (tells_pair tells_ℕ (tells_pair tells_Bool (tells_pair tells_day (tells_pair tells_day tells_breaks)))))
+
+abbrev EnrolFactsParts : Type 0
+EnrolFactsParts = ℕ × (ℕ × (ℕ × (ℕ)))
+
+enrol_facts_parts : EnrolFacts → EnrolFactsParts
+enrol_facts_parts x = (x.student, (x.year, (x.term, x.credits)))
+
+enrol_facts_whole : (x y : EnrolFacts) → enrol_facts_parts x ≡ enrol_facts_parts y → x ≡ y
+unfolding enrol_facts_parts
+enrol_facts_whole x y e =
+    let P : EnrolFactsParts → Type 0 = λ b. IsBetween 1 8 b.1.1.0 in
+    let make : (b : EnrolFactsParts) → P b → EnrolFacts = λ b p. record { student = b.0; year = b.1.0; term = b.1.1.0; credits = b.1.1.1; in_range = p } in
+    same_with_fact P make (λ b. hlevel (le_prop, props)) (enrol_facts_parts x) (enrol_facts_parts y) x.in_range y.in_range e
+
+pub tells_enrol_facts : Tells enrol_facts_eq.it
+unfolding enrol_facts_parts
+tells_enrol_facts = tells_by enrol_facts_parts enrol_facts_whole (tells_pair tells_ℕ (tells_pair tells_ℕ (tells_pair tells_ℕ tells_ℕ)))
+
+abbrev OriginateFactsParts : Type 0
+OriginateFactsParts = ℕ × (ℕ × (ℕ))
+
+originate_facts_parts : OriginateFacts → OriginateFactsParts
+originate_facts_parts x = (x.student, (x.year, x.cost))
+
+originate_facts_whole : (x y : OriginateFacts) → originate_facts_parts x ≡ originate_facts_parts y → x ≡ y
+unfolding originate_facts_parts
+originate_facts_whole x y e =
+    let P : OriginateFactsParts → Type 0 = λ b. b.1.1 ≤ 999999 in
+    let make : (b : OriginateFactsParts) → P b → OriginateFacts = λ b p. record { student = b.0; year = b.1.0; cost = b.1.1; in_range = p } in
+    same_with_fact P make (λ b. hlevel (le_prop, props)) (originate_facts_parts x) (originate_facts_parts y) x.in_range y.in_range e
+
+pub tells_originate_facts : Tells originate_facts_eq.it
+unfolding originate_facts_parts
+tells_originate_facts = tells_by originate_facts_parts originate_facts_whole (tells_pair tells_ℕ (tells_pair tells_ℕ tells_ℕ))
+
+abbrev AmountParts : Type 0
+AmountParts = ℕ × (ℕ × (ℕ × (Program × (ℕ))))
+
+amount_parts : Amount → AmountParts
+amount_parts x = (x.student, (x.year, (x.term, (x.program, x.cents))))
+
+amount_whole : (x y : Amount) → amount_parts x ≡ amount_parts y → x ≡ y
+unfolding amount_parts
+amount_whole x y e =
+    let P : AmountParts → Type 0 = λ b. IsBetween 1 8 b.1.1.0 × (b.1.1.1.1 ≤ 99999999) in
+    let make : (b : AmountParts) → P b → Amount = λ b p. record { student = b.0; year = b.1.0; term = b.1.1.0; program = b.1.1.1.0; cents = b.1.1.1.1; in_range = p } in
+    same_with_fact P make (λ b. hlevel (le_prop, props)) (amount_parts x) (amount_parts y) x.in_range y.in_range e
+
+pub tells_amount : Tells amount_eq.it
+unfolding amount_parts
+tells_amount = tells_by amount_parts amount_whole (tells_pair tells_ℕ (tells_pair tells_ℕ (tells_pair tells_ℕ (tells_pair tells_program tells_ℕ))))
+
+abbrev WithdrawFactsParts : Type 0
+WithdrawFactsParts = ℕ × (ℕ × (ℕ × (ℕ × (ℕ × (ℕ × (List ℕ))))))
+
+withdraw_facts_parts : WithdrawFacts → WithdrawFactsParts
+withdraw_facts_parts x = (x.student, (x.year, (x.term, (x.last, (x.determined, (x.charges, x.could))))))
+
+withdraw_facts_whole : (x y : WithdrawFacts) → withdraw_facts_parts x ≡ withdraw_facts_parts y → x ≡ y
+unfolding withdraw_facts_parts
+withdraw_facts_whole x y e =
+    let P : WithdrawFactsParts → Type 0 = λ b. (IsBetween 1 8 b.1.1.0 × (b.1.1.1.1.1.0 ≤ 99999999)) × EachIsCents b.1.1.1.1.1.1 in
+    let make : (b : WithdrawFactsParts) → P b → WithdrawFacts = λ b p. record { student = b.0; year = b.1.0; term = b.1.1.0; last = b.1.1.1.0; determined = b.1.1.1.1.0; charges = b.1.1.1.1.1.0; could = b.1.1.1.1.1.1; in_range = p.0; could_in_range = p.1 } in
+    same_with_fact P make (λ b. hlevel (le_prop, props)) (withdraw_facts_parts x) (withdraw_facts_parts y) (x.in_range, x.could_in_range) (y.in_range, y.could_in_range) e
+
+pub tells_withdraw_facts : Tells withdraw_facts_eq.it
+unfolding withdraw_facts_parts
+tells_withdraw_facts = tells_by withdraw_facts_parts withdraw_facts_whole (tells_pair tells_ℕ (tells_pair tells_ℕ (tells_pair tells_ℕ (tells_pair tells_day (tells_pair tells_day (tells_pair tells_ℕ tells_ℕs))))))
+
+pub tells_what : Tells what_eq.it
+tells_what = record { same = same; told = told } where
+  same : (x y : What) → what_eq.it x y ≡ true → x ≡ y
+  same (BookFiled x) (BookFiled y) h = ap BookFiled (tells_book.same x y h)
+  same (School x) (School y) h = ap School (tells_school_facts.same x y h)
+  same (Calendar x) (Calendar y) h = ap Calendar (tells_calendar_facts.same x y h)
+  same (Prior x) (Prior y) h = ap Prior (tells_prior_facts.same x y h)
+  same (Apply x) (Apply y) h = ap Apply (tells_application.same x y h)
+  same (Enrol x) (Enrol y) h = ap Enrol (tells_enrol_facts.same x y h)
+  same (Originate x) (Originate y) h = ap Originate (tells_originate_facts.same x y h)
+  same (Pay x) (Pay y) h = ap Pay (tells_amount.same x y h)
+  same (Withdraw x) (Withdraw y) h = ap Withdraw (tells_withdraw_facts.same x y h)
+  same (Repay x) (Repay y) h = ap Repay (tells_amount.same x y h)
+  same (Adjust x) (Adjust y) h = ap Adjust (tells_amount.same x y h)
+  same _ _ h = absurd (true≢false (sym h))
+
+  told : (x : What) → what_eq.it x x ≡ true
+  told (BookFiled x) = tells_book.told x
+  told (School x) = tells_school_facts.told x
+  told (Calendar x) = tells_calendar_facts.told x
+  told (Prior x) = tells_prior_facts.told x
+  told (Apply x) = tells_application.told x
+  told (Enrol x) = tells_enrol_facts.told x
+  told (Originate x) = tells_originate_facts.told x
+  told (Pay x) = tells_amount.told x
+  told (Withdraw x) = tells_withdraw_facts.told x
+  told (Repay x) = tells_amount.told x
+  told (Adjust x) = tells_amount.told x
+
+filing_parts : Filing → Key × What
+filing_parts f = (f.key, f.what)
+
+filing_whole : (x y : Filing) → filing_parts x ≡ filing_parts y → x ≡ y
+unfolding filing_parts
+filing_whole x y e = let make : Key × What → Filing = λ b. record { key = b.0; what = b.1 } in ap make e
+
+pub tells_filing : Tells filing_eq.it
+unfolding filing_parts
+tells_filing = tells_by filing_parts filing_whole (tells_pair tells_key tells_what)
+
+-- what a derive above compares by
+pub filing_eq-Decides : (a b : Filing) → Decides (filing_ghosts.eq a b) (a ≡ b)
+filing_eq-Decides a b = decides tells_filing a b (filing_ghosts.eq a b) refl

@@ -1,0 +1,128 @@
+//! What a desk files.
+ghost use Rattle.std.specs.Prelude.{◌≡◌, ◌≤◌};
+ghost use Rattle.aid_types.specs.Ranges.{EachIsCents, IsBetween};
+
+use aid_books::BoxedBook;
+use aid_types::{Application, Breaks, Day, Key, Program, Student, Term, Year};
+
+/// A school with its main terms in a year, 2 or 3, and its full-time credits, 1 to 40. `code` is 1 to 999,999.
+#[derive(Clone, Copy, PartialEq, Eq, Debug)]
+pub struct SchoolFacts {
+    pub code: u32,
+    pub terms: u8,
+    pub full: u8,
+    pub ghost in_range: { IsBetween 1 999999 code × IsBetween 2 3 terms × IsBetween 1 40 full },
+}
+
+/// One term of a year, as a school files it: its number in the year, 1 to 8, whether it is one beyond the main terms, its
+/// first and last day, and its breaks.
+#[derive(Clone, Copy, PartialEq, Eq, Debug)]
+pub struct CalendarFacts {
+    pub year: Year,
+    pub term: u8,
+    pub extra: bool,
+    pub first: Day,
+    pub last: Day,
+    pub breaks: Breaks,
+    pub ghost in_range: { IsBetween 1 8 term },
+}
+
+/// A student's use of the lifetime limit before this office, in units of a thousandth of a percent.
+#[derive(Clone, Copy, PartialEq, Eq, Debug)]
+pub struct PriorFacts {
+    pub student: Student,
+    pub units: u32,
+}
+
+/// A student's credits in a term of the filing school. `term` is 1 to 8.
+#[derive(Clone, Copy, PartialEq, Eq, Debug)]
+pub struct EnrolFacts {
+    pub student: Student,
+    pub year: Year,
+    pub term: u8,
+    pub credits: u8,
+    pub ghost in_range: { IsBetween 1 8 term },
+}
+
+/// A student's cost of attendance at the filing school in a year, 0 to 999,999 dollars (HEA 472).
+#[derive(Clone, Copy, PartialEq, Eq, Debug)]
+pub struct OriginateFacts {
+    pub student: Student,
+    pub year: Year,
+    pub cost: u32,
+    pub ghost in_range: { cost ≤ 999999 },
+}
+
+/// An amount of a program in a term of the filing school: a payment, a grant repayment or a downward adjustment. `term`
+/// is 1 to 8, `cents` 0 to 99,999,999.
+#[derive(Clone, Copy, PartialEq, Eq, Debug)]
+pub struct Amount {
+    pub student: Student,
+    pub year: Year,
+    pub term: u8,
+    pub program: Program,
+    pub cents: u64,
+    pub ghost in_range: { IsBetween 1 8 term × (cents ≤ 99999999) },
+}
+
+/// A student's withdrawal from a term of the filing school (34 CFR 668.22): the last day of attendance, the day on which
+/// the school determined it, the institutional charges and, by program in the order of returns, what could have been
+/// disbursed. `term` is 1 to 8, each amount 0 to 99,999,999 cents.
+#[derive(Clone, Copy, PartialEq, Eq, Debug)]
+pub struct WithdrawFacts {
+    pub student: Student,
+    pub year: Year,
+    pub term: u8,
+    pub last: Day,
+    pub determined: Day,
+    pub charges: u64,
+    pub could: [u64; 6],
+    pub ghost in_range: { IsBetween 1 8 term × (charges ≤ 99999999) },
+    pub ghost could_in_range: { EachIsCents could },
+}
+
+/// What is filed, by kind.
+#[derive(Drop, PartialEq, Eq, Debug)]
+pub enum What {
+    /// The tables of an award year.
+    Book(BoxedBook),
+    School(SchoolFacts),
+    Calendar(CalendarFacts),
+    Prior(PriorFacts),
+    /// An application, or a correction of it.
+    Apply(Application),
+    /// Credits in a term; those filed last are in force.
+    Enrol(EnrolFacts),
+    Originate(OriginateFacts),
+    /// A disbursement.
+    Pay(Amount),
+    Withdraw(WithdrawFacts),
+    /// A grant repayment by the student after a withdrawal.
+    Repay(Amount),
+    /// A downward adjustment of what was disbursed.
+    Adjust(Amount),
+}
+
+/// A filing: its key and what is filed.
+#[derive(Drop, PartialEq, Eq, Debug)]
+pub struct Filing {
+    pub key: Key,
+    pub what: What,
+}
+
+impl CalendarFacts {
+    ghost use Rattle.aid_filings.specs.Calendars.{term_of};
+
+    /// The term that is filed.
+    pub fn to_term(&self) -> Term
+        ensures { result ≡ term_of self.now }
+    {
+        Term {
+            number: self.term,
+            extra: self.extra,
+            first: self.first,
+            last: self.last,
+            breaks: self.breaks,
+        }
+    }
+}

@@ -1,0 +1,14 @@
+//! The kinds of filings, once for all that goes over them: the code and the name of each, its fields, and how the number of
+//! each field is written, kept and limited.
+#![tactic(auto)]
+
+mod book;
+mod field;
+mod kind;
+mod layout;
+mod limit;
+
+pub use field::{Field, Form, Limit, Part};
+pub use kind::{Kind, KindRow, kind_at, kind_named, row};
+pub use layout::Layout;
+pub use limit::fits;

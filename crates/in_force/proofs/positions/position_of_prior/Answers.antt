@@ -1,7 +1,0 @@
-use Rattle.std.proofs.Common.{rules, ◌∙◌}
-use borrow.Author.Tests.{tests}
-use Rattle.in_force.proofs.Oldest.{placed}
-use Rattle.in_force.proofs.positions.position_of_prior.Goals as goal
-
-pub returns-clause-value : goal.returns-clause-value
-returns-clause-value c = c.place.ensures ∙ placed _ _ _ _ _ _ _ c.iter.ensures.rest c.position.ensures.ran (λ x b q k. search (rules, tests))

@@ -1,0 +1,60 @@
+//! A buffer that is taken once.
+ghost use Rattle.std.specs.Prelude.{◌≡◌, ◌+◌, ◌≤◌, [], ◌++◌, length, IfOk};
+
+use std::alloc::{AllocError, Global};
+use std::marker::Model;
+
+/// How many bytes a room takes.
+pub const CAPACITY: usize = 8192;
+
+/// A buffer of 8,192 bytes, which are taken once. A contract sees the list of bytes that it holds.
+#[derive(Drop)]
+pub struct Room {
+    block: Box<[u8; 8192]>,
+    used: usize,
+}
+
+impl Model for Room {
+    ghost use Rattle.std.specs.Prelude.{ℕ, ◌≤◌, List, take};
+
+    ghost Value = { List ℕ };
+
+    ghost view = { λ room. take room.used room.block.value };
+
+    ghost invariant = { λ room. room.used ≤ 8192 };
+}
+
+impl Room {
+    /// An empty room.
+    pub fn new(alloc: Global) -> Result<Self, AllocError>
+        ensures empty { IfOk result (λ room. room ≡ []) }
+    {
+        let block = Box::new(alloc, [0u8; 8192])?;
+        Ok(Room { block, used: 0 })
+    }
+
+    /// What it holds.
+    pub fn bytes(&self) -> &[u8]
+        ensures held { result.now ≡ self.now }
+        ensures fits { length self.now ≤ CAPACITY }
+    {
+        &self.block[..self.used]
+    }
+
+    /// Empties it.
+    pub fn clear(&mut self)
+        ensures empty { self.new ≡ [] }
+    {
+        self.used = 0;
+    }
+
+    /// Adds bytes at its end.
+    pub fn append(&mut self, bytes: &[u8])
+        requires fits { length self.old + length bytes.now ≤ CAPACITY }
+        ensures added { self.new ≡ self.old ++ bytes.now }
+    {
+        let end = self.used + bytes.len();
+        self.block[self.used..end].copy_from_slice(bytes);
+        self.used = end;
+    }
+}

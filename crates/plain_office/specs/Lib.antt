@@ -1,3 +1,0 @@
-pub use Rattle.office_history.specs.Answer
-pub mod Outcomes
-pub mod Terms
