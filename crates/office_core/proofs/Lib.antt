@@ -1,5 +1,5 @@
 mod Quoted
-mod Standing
+mod StandingLemmas
 pub mod Indexed
 pub mod OutcomeLemmas
 pub mod Owed

@@ -1,6 +1,6 @@
 use Rattle.filing_numbers.proofs.NumbersLemmas.{same_filing}
 use Rattle.std.proofs.Common.{sym, ◌∙◌}
-use Rattle.filing_numbers.proofs.filing.Filing.from_numbers.Goals as goal
+use Rattle.filing_numbers.proofs.numbers.from_numbers.Goals as goal
 
 pub returns-clause-only : goal.returns-clause-only
 returns-clause-only c = λ filing kind numbers.

@@ -9,7 +9,7 @@ use Rattle.office_history.proofs.Cases.{answer_of-new}
 use Rattle.office_history.proofs.Legal.{filing_at-new}
 use Rattle.office_core.specs.Register.{Register}
 use Rattle.office_core.proofs.Quoted.{payable}
-use Rattle.office_core.proofs.Standing.{standing}
+use Rattle.office_core.proofs.StandingLemmas.{standing}
 use Rattle.office_core.proofs.office.Office.ask.Goals as goal
 
 pub returns-in-File-clause-again : goal.returns-in-File-clause-again
