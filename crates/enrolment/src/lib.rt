@@ -4,8 +4,6 @@
 mod calendar;
 mod day_text;
 mod terms;
-#[cfg(test)]
-mod tests;
 
 pub use calendar::{day, due};
 pub use day_text::{put_day, read_day};

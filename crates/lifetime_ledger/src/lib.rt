@@ -1,9 +1,6 @@
 //! Lifetime eligibility used: what a year's Pell Grant takes of the lifetime limit (HEA 401(d)(5)).
 #![tactic(auto)]
 
-#[cfg(test)]
-mod tests;
-
 ghost use Rattle.std.specs.Prelude.{◌≡◌, ◌*◌, ◌≤◌};
 ghost use Rattle.lifetime_ledger.specs.Used.{use_of as use_in_units};
 

@@ -1,9 +1,6 @@
 //! The worksheet of a withdrawal: what a school and a student return of Title IV funds (HEA 484B; 34 CFR 668.22).
 #![tactic(auto)]
 
-#[cfg(test)]
-mod tests;
-
 ghost use Rattle.std.specs.Prelude.{◌≡◌, ℕ, ◌+◌, ◌*◌, ◌<◌, ◌≤◌, ◌^◌, All, length, sum, slice_index};
 ghost use Rattle.aid_num.specs.Nearest.{half_up};
 ghost use Rattle.withdrawal_returns.specs.Worksheet.{IsInRange, grant_owed, owed_of, percent_earned as percent_of, remains as remains_of, spread as spread_of, worksheet_of};

@@ -1,4 +1,4 @@
-use crate::{Inputs, Lines, worksheet};
+use withdrawal_returns::{Inputs, Lines, worksheet};
 
 // All is earned past 60 percent of the days, though 242 of 403 rounds to 60.0 percent.
 #[test]

@@ -1,4 +1,4 @@
-use crate::use_of;
+use lifetime_ledger::use_of;
 
 // Net cents, the Scheduled Award in dollars, and the units.
 #[test]

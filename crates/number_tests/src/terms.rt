@@ -1,6 +1,6 @@
-use crate::{day, days, due, intensity, period_pay, put_day, read_day};
 use aid_num::Malformed;
 use aid_types::{Breaks, Day, Term};
+use enrolment::{day, days, due, intensity, period_pay, put_day, read_day};
 use std::test::Fail;
 
 #[test]

@@ -1,4 +1,4 @@
-use crate::{Malformed, nearest, put_cents, read_cents, read_whole, share, to5};
+use aid_num::{Malformed, nearest, put_cents, read_cents, read_whole, share, to5};
 use std::test::Fail;
 
 #[test]

@@ -1,0 +1,11 @@
+//! Tests of numbers, days and terms, lifetime use and the worksheet of a withdrawal. This library has tests alone.
+#![tactic(auto)]
+
+#[cfg(test)]
+mod lifetime;
+#[cfg(test)]
+mod numbers;
+#[cfg(test)]
+mod terms;
+#[cfg(test)]
+mod worksheets;
