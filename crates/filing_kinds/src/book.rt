@@ -1,4 +1,8 @@
 //! The fields of a book, which are the numbers of its sections and tables in order.
+ghost use Rattle.std.specs.Prelude.{◌≡◌};
+ghost use Rattle.filing_kinds.specs.Kinds.{book_slots};
+ghost use Rattle.filing_kinds.specs.Parts.{slots_of};
+
 use crate::field::Form::{Count, I64};
 use crate::field::{Field, Limit, Part};
 
@@ -92,9 +96,9 @@ const BRACKET_LATER: [Field; 3] = [
     number!("bracket.rate": RATE),
 ];
 
-/// The fields of a book in the order of its bytes. A list of amounts is so many fields of its name, and a table is its count
-/// of rows and then its rows.
-pub static BOOK: [Part; 79] = [
+// The fields of a book in the order of its bytes. A list of amounts is so many fields of its name, and a table is its count
+// of rows and then its rows.
+static BOOK: [Part; 79] = [
     one!("form": Limit::Between(1, 1)),
     one!("year": Limit::Between(2_000, 2_099)),
     one!("pell.maximum": Limit::Between(1, 99_999)),
@@ -175,3 +179,10 @@ pub static BOOK: [Part; 79] = [
     one!("schedule.lowest_student": FLOOR),
     table!("bracket", 16: BRACKET_FIRST, BRACKET_LATER),
 ];
+
+/// The fields of a book.
+pub fn book_parts() -> &'static [Part]
+    ensures { slots_of result.now ≡ book_slots }
+{
+    &BOOK
+}

@@ -7,8 +7,12 @@ mod field;
 mod kind;
 mod layout;
 mod limit;
+mod numbers;
+mod parts;
 
 pub use field::{Field, Form, Limit, Part};
 pub use kind::{Kind, KindRow, kind_at, kind_named, row};
 pub use layout::Layout;
 pub use limit::fits;
+pub use numbers::{MOST_NUMBERS, Numbers};
+pub use parts::key_parts;
