@@ -1,14 +1,11 @@
 -- The derived `==` of a book and of its parts is equality.
-use Rattle.std.proofs.Common.{◌≡◌, ℕ, ℤ, pos, Bool, true, ◌&&◌, List, [], ◌∷◌, length, take, Some, option_map, slice_get, nat_eq, refl, sym, ap, ◌∙◌}
+use Rattle.std.proofs.Common.{◌≡◌, ℕ, ℤ, pos, ◌&&◌, List, Some, option_map, slice_get, refl, ap}
 use Rattle.std.specs.Ordering.{int_eq}
 use Rattle.std.specs.Cmp.Rules.{signed_items}
-use Rattle.std.proofs.lemmas.Bool.{and_parts, and_from, eqb-true, eq-eqb, true≢false}
 use denote.Struct.Props.{props}
 use lib.Pointwise.{pointwise}
 use Rattle.aid_num.specs.Nearest.{share}
-use Rattle.aid_types.proofs.FilledLemmas.{take-filled}
-use Rattle.aid_types.proofs.Same.{Tells, tells_filled, tells_list, tells_pair, tells_by, same_with_fact, tells_ℕ, tells_ℤ, le_ℤ-prop}
-use Rattle.aid_types.specs.Filled.{filled}
+use Rattle.aid_types.proofs.Same.{Tells, tells_filled, tells_pair, tells_by, same_with_fact, tells_ℕ, tells_ℤ, le_ℤ-prop}
 use Rattle.aid_types.specs.Ranges.{EachIsAmount, IsAmount, IsFloor, IsPercent, IsRate, IsWithin}
 use Rattle.aid_books.specs.contracts.ages.AgesPartialEq.TheImpl.{eq-value as ages_eq}
 use Rattle.aid_books.specs.contracts.marginal.BracketsPartialEq.TheImpl.{eq-value as brackets_eq}
@@ -16,14 +13,11 @@ use Rattle.aid_books.specs.declared.book.PellFigures.{PellFigures}
 use Rattle.aid_books.specs.contracts.book.PellFiguresPartialEq.TheImpl.{eq-value as pell_figures_eq}
 use Rattle.aid_books.specs.declared.book.Percents.{Percents}
 use Rattle.aid_books.specs.contracts.book.PercentsPartialEq.TheImpl.{eq-value as percents_eq}
-use Rattle.aid_books.specs.declared.book.Guideline.{Guideline}
-use Rattle.aid_books.specs.contracts.book.GuidelinePartialEq.TheImpl.{eq-value as guideline_eq}
+use Rattle.aid_books.specs.declared.by_size.BySize.{BySize}
 use Rattle.aid_books.specs.declared.book.Poverty.{Poverty}
 use Rattle.aid_books.specs.contracts.book.PovertyPartialEq.TheImpl.{eq-value as poverty_eq}
 use Rattle.aid_books.specs.declared.book.Payroll.{Payroll}
 use Rattle.aid_books.specs.contracts.book.PayrollPartialEq.TheImpl.{eq-value as payroll_eq}
-use Rattle.aid_books.specs.declared.book.Allowance.{Allowance}
-use Rattle.aid_books.specs.contracts.book.AllowancePartialEq.TheImpl.{eq-value as allowance_eq}
 use Rattle.aid_books.specs.declared.book.Protection.{Protection}
 use Rattle.aid_books.specs.contracts.book.ProtectionPartialEq.TheImpl.{eq-value as protection_eq}
 use Rattle.aid_books.specs.declared.book.Employment.{Employment}
@@ -76,25 +70,25 @@ pub tells_percents : Tells percents_eq.it
 unfolding percents_parts
 tells_percents = tells_by percents_parts percents_whole (tells_pair tells_ℤ (tells_pair tells_ℤ (tells_pair tells_ℤ (tells_pair tells_ℤ (tells_pair tells_ℤ (tells_pair tells_ℤ tells_ℤ))))))
 
-abbrev GuidelineParts : Type 0
-GuidelineParts = List ℤ × (ℤ)
+abbrev BySizeParts : Type 0
+BySizeParts = List ℤ × (ℤ)
 
-guideline_parts : Guideline → GuidelineParts
-guideline_parts s = (s.sizes, s.extra)
+by_size_parts : (first count : ℕ) → BySize first count → BySizeParts
+by_size_parts first count s = (s.sizes, s.extra)
 
-guideline_whole : (x y : Guideline) → guideline_parts x ≡ guideline_parts y → x ≡ y
-unfolding guideline_parts
-guideline_whole x y e =
-    let P : GuidelineParts → Type 0 = λ b. (EachIsAmount b.0) × ((IsAmount b.1)) in
-    let make : (b : GuidelineParts) → P b → Guideline = λ b p. record { sizes = b.0; extra = b.1; sizes_in_range = p.0; extra_in_range = p.1 } in
-    same_with_fact P make (λ b. hlevel (le_ℤ-prop, props)) (guideline_parts x) (guideline_parts y) (x.sizes_in_range, x.extra_in_range) (y.sizes_in_range, y.extra_in_range) e
+by_size_whole : (first count : ℕ) (x y : BySize first count) → by_size_parts first count x ≡ by_size_parts first count y → x ≡ y
+unfolding by_size_parts
+by_size_whole first count x y e =
+    let P : BySizeParts → Type 0 = λ b. (EachIsAmount b.0) × ((IsAmount b.1)) in
+    let make : (b : BySizeParts) → P b → BySize first count = λ b p. record { sizes = b.0; extra = b.1; sizes_in_range = p.0; extra_in_range = p.1 } in
+    same_with_fact P make (λ b. hlevel (le_ℤ-prop, props)) (by_size_parts first count x) (by_size_parts first count y) (x.sizes_in_range, x.extra_in_range) (y.sizes_in_range, y.extra_in_range) e
 
-pub tells_guideline : Tells guideline_eq.it
-unfolding guideline_parts
-tells_guideline = tells_by guideline_parts guideline_whole (tells_pair tells_ℤs tells_ℤ)
+pub tells_by_size : (first count : ℕ) → Tells (λ (x y : BySize first count). pointwise int_eq x.sizes y.sizes && int_eq x.extra y.extra)
+unfolding by_size_parts
+tells_by_size first count = tells_by (by_size_parts first count) (by_size_whole first count) (tells_pair tells_ℤs tells_ℤ)
 
 abbrev PovertyParts : Type 0
-PovertyParts = Guideline × (Guideline × (Guideline))
+PovertyParts = BySize 1 8 × (BySize 1 8 × (BySize 1 8))
 
 poverty_parts : Poverty → PovertyParts
 poverty_parts s = (s.contiguous, (s.alaska, s.hawaii))
@@ -105,7 +99,7 @@ poverty_whole x y e = let make : PovertyParts → Poverty = λ b. record { conti
 
 pub tells_poverty : Tells poverty_eq.it
 unfolding poverty_parts
-tells_poverty = tells_by poverty_parts poverty_whole (tells_pair tells_guideline (tells_pair tells_guideline tells_guideline))
+tells_poverty = tells_by poverty_parts poverty_whole (let guideline = tells_by_size 1 8 in tells_pair guideline (tells_pair guideline guideline))
 
 abbrev PayrollParts : Type 0
 PayrollParts = ℤ × (ℤ × (ℤ × (ℤ × (ℤ × (ℤ)))))
@@ -124,25 +118,8 @@ pub tells_payroll : Tells payroll_eq.it
 unfolding payroll_parts
 tells_payroll = tells_by payroll_parts payroll_whole (tells_pair tells_ℤ (tells_pair tells_ℤ (tells_pair tells_ℤ (tells_pair tells_ℤ (tells_pair tells_ℤ tells_ℤ)))))
 
-abbrev AllowanceParts : Type 0
-AllowanceParts = List ℤ × (ℤ)
-
-allowance_parts : Allowance → AllowanceParts
-allowance_parts s = (s.sizes, s.extra)
-
-allowance_whole : (x y : Allowance) → allowance_parts x ≡ allowance_parts y → x ≡ y
-unfolding allowance_parts
-allowance_whole x y e =
-    let P : AllowanceParts → Type 0 = λ b. (EachIsAmount b.0) × ((IsAmount b.1)) in
-    let make : (b : AllowanceParts) → P b → Allowance = λ b p. record { sizes = b.0; extra = b.1; sizes_in_range = p.0; extra_in_range = p.1 } in
-    same_with_fact P make (λ b. hlevel (le_ℤ-prop, props)) (allowance_parts x) (allowance_parts y) (x.sizes_in_range, x.extra_in_range) (y.sizes_in_range, y.extra_in_range) e
-
-pub tells_allowance : Tells allowance_eq.it
-unfolding allowance_parts
-tells_allowance = tells_by allowance_parts allowance_whole (tells_pair tells_ℤs tells_ℤ)
-
 abbrev ProtectionParts : Type 0
-ProtectionParts = Allowance × (ℤ × (ℤ × (ℤ × (Allowance × (Allowance)))))
+ProtectionParts = BySize 2 5 × (ℤ × (ℤ × (ℤ × (BySize 2 5 × (BySize 2 5)))))
 
 protection_parts : Protection → ProtectionParts
 protection_parts s = (s.parents, (s.dependent_student, (s.single_student, (s.married_student, (s.single_parent, s.married_parent)))))
@@ -156,7 +133,7 @@ protection_whole x y e =
 
 pub tells_protection : Tells protection_eq.it
 unfolding protection_parts
-tells_protection = tells_by protection_parts protection_whole (tells_pair tells_allowance (tells_pair tells_ℤ (tells_pair tells_ℤ (tells_pair tells_ℤ (tells_pair tells_allowance tells_allowance)))))
+tells_protection = tells_by protection_parts protection_whole (let allowance = tells_by_size 2 5 in tells_pair allowance (tells_pair tells_ℤ (tells_pair tells_ℤ (tells_pair tells_ℤ (tells_pair allowance allowance)))))
 
 abbrev EmploymentParts : Type 0
 EmploymentParts = ℤ × (ℤ)

@@ -6,16 +6,15 @@ use Rattle.aid_books.specs.Ages.{IsAgeRow}
 use Rattle.aid_books.specs.Marginal.{IsBracket, row_value}
 use Rattle.aid_types.specs.Ranges.{IsAmount, IsBetween, IsFloor, IsPercent, IsRate, IsWithin}
 use Rattle.aid_books.specs.declared.ages.AgeRow.{AgeRow}
-use Rattle.aid_books.specs.declared.book.Allowance.{Allowance}
 use Rattle.aid_books.specs.declared.book.AssetRates.{AssetRates}
 use Rattle.aid_books.specs.declared.book.Book.{Book}
 use Rattle.aid_books.specs.declared.book.Employment.{Employment}
-use Rattle.aid_books.specs.declared.book.Guideline.{Guideline}
 use Rattle.aid_books.specs.declared.book.Payroll.{Payroll}
 use Rattle.aid_books.specs.declared.book.PellFigures.{PellFigures}
 use Rattle.aid_books.specs.declared.book.Percents.{Percents}
 use Rattle.aid_books.specs.declared.book.Protection.{Protection}
 use Rattle.aid_books.specs.declared.book.Schedule.{Schedule}
+use Rattle.aid_books.specs.declared.by_size.BySize.{BySize}
 use Rattle.aid_books.specs.declared.marginal.Bracket.{Bracket}
 
 -- a row and the one after it
@@ -51,10 +50,10 @@ pub record ArePercents (p : Percents) : Type 0 where
   pub minimum_parent : IsPercent p.minimum_parent
   pub minimum_no_dependents : IsPercent p.minimum_no_dependents
 
--- the poverty guideline of a region
-pub record IsGuideline (g : Guideline) : Type 0 where
-  pub sizes : All IsAmount g.sizes
-  pub extra : IsAmount g.extra
+-- amounts by size of family
+pub record AreAmountsBySize (first count : ℕ) (amounts : BySize first count) : Type 0 where
+  pub sizes : All IsAmount amounts.sizes
+  pub extra : IsAmount amounts.extra
 
 -- the payroll tax allowance (HEA 478(g))
 pub record IsPayroll (p : Payroll) : Type 0 where
@@ -65,19 +64,14 @@ pub record IsPayroll (p : Payroll) : Type 0 where
   pub threshold_single : IsAmount p.threshold_single
   pub threshold_married : IsAmount p.threshold_married
 
--- an income protection allowance by size of family (HEA 478(b))
-pub record IsAllowance (a : Allowance) : Type 0 where
-  pub sizes : All IsAmount a.sizes
-  pub extra : IsAmount a.extra
-
--- the income protection allowances
+-- the income protection allowances (HEA 478(b))
 pub record IsProtection (p : Protection) : Type 0 where
-  pub parents : IsAllowance p.parents
+  pub parents : AreAmountsBySize 2 5 p.parents
   pub dependent_student : IsAmount p.dependent_student
   pub single_student : IsAmount p.single_student
   pub married_student : IsAmount p.married_student
-  pub single_parent : IsAllowance p.single_parent
-  pub married_parent : IsAllowance p.married_parent
+  pub single_parent : AreAmountsBySize 2 5 p.single_parent
+  pub married_parent : AreAmountsBySize 2 5 p.married_parent
 
 -- the employment expense allowance (HEA 478(h))
 pub record IsEmployment (e : Employment) : Type 0 where
@@ -105,9 +99,9 @@ pub record IsValidBook (b : Book) : Type 0 where
   pub year : IsBetween 2000 2099 b.year
   pub pell : ArePellFigures b.pell
   pub percent : ArePercents b.percent
-  pub contiguous : IsGuideline b.poverty.contiguous
-  pub alaska : IsGuideline b.poverty.alaska
-  pub hawaii : IsGuideline b.poverty.hawaii
+  pub contiguous : AreAmountsBySize 1 8 b.poverty.contiguous
+  pub alaska : AreAmountsBySize 1 8 b.poverty.alaska
+  pub hawaii : AreAmountsBySize 1 8 b.poverty.hawaii
   pub payroll : IsPayroll b.payroll
   pub protection : IsProtection b.protection
   pub employment : IsEmployment b.employment

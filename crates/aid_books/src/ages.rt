@@ -13,7 +13,7 @@ pub struct AgeRow {
 }
 
 /// A table of 1 to 64 such rows, each beginning at a greater age than the one before it. A contract sees the list.
-#[derive(Clone, Copy, PartialEq, Eq, Debug)]
+#[derive(PartialEq, Eq, Debug, Drop)]
 pub struct Ages {
     rows: [AgeRow; 64],
     count: usize,

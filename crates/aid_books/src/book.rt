@@ -1,9 +1,10 @@
 //! The book of an award year: the figures and tables that the Department publishes for it.
 ghost use Rattle.std.specs.Prelude.{◌≡◌, ◌≤ℤ◌, Some, option_map, pos, slice_get};
 ghost use Rattle.aid_num.specs.Nearest.{share};
-ghost use Rattle.aid_types.specs.Ranges.{EachIsAmount, IsAmount, IsFloor, IsPercent, IsRate, IsWithin};
+ghost use Rattle.aid_types.specs.Ranges.{IsAmount, IsFloor, IsPercent, IsRate, IsWithin};
 
 use crate::ages::Ages;
+use crate::by_size::{Allowance, Guideline};
 use crate::marginal::Brackets;
 use aid_types::Year;
 
@@ -31,15 +32,6 @@ pub struct Percents {
         × IsPercent minimum_no_dependents },
 }
 
-/// The poverty guideline of a region in dollars: for families of 1 to 8, and what each further member adds.
-#[derive(Clone, Copy, PartialEq, Eq, Debug)]
-pub struct Guideline {
-    pub sizes: [i64; 8],
-    pub extra: i64,
-    pub ghost sizes_in_range: { EachIsAmount sizes },
-    pub ghost extra_in_range: { IsAmount extra },
-}
-
 /// The poverty guidelines of the three regions.
 #[derive(Clone, Copy, PartialEq, Eq, Debug)]
 pub struct Poverty {
@@ -59,15 +51,6 @@ pub struct Payroll {
     pub threshold_married: i64,
     pub ghost amounts_in_range: { IsAmount oasdi_cap × IsAmount threshold_single × IsAmount threshold_married },
     pub ghost rates_in_range: { IsRate oasdi_rate × IsRate medicare_rate × IsRate medicare_high },
-}
-
-/// An income protection allowance in dollars: for families of 2 to 6, and what each further member adds.
-#[derive(Clone, Copy, PartialEq, Eq, Debug)]
-pub struct Allowance {
-    pub sizes: [i64; 5],
-    pub extra: i64,
-    pub ghost sizes_in_range: { EachIsAmount sizes },
-    pub ghost extra_in_range: { IsAmount extra },
 }
 
 /// The income protection allowances (HEA 478(b)).
@@ -113,7 +96,7 @@ pub struct Schedule {
 }
 
 /// The figures and tables of one award year.
-#[derive(Clone, Copy, PartialEq, Eq, Debug)]
+#[derive(PartialEq, Eq, Debug, Drop)]
 pub struct Book {
     pub year: Year,
     pub pell: PellFigures,

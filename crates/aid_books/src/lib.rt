@@ -4,12 +4,13 @@
 mod ages;
 mod book;
 mod boxed;
+mod by_size;
 mod marginal;
 
 pub use ages::{AgeRow, Ages};
 pub use book::{
-    Allowance, AssetRates, Book, Employment, Guideline, Payroll, PellFigures, Percents, Poverty,
-    Protection, Schedule,
+    AssetRates, Book, Employment, Payroll, PellFigures, Percents, Poverty, Protection, Schedule,
 };
 pub use boxed::BoxedBook;
+pub use by_size::{Allowance, BySize, Guideline};
 pub use marginal::{Bracket, Brackets};

@@ -14,7 +14,7 @@ pub struct Bracket {
 
 /// A table of 1 to 16 such rows, each beginning above the one before it with the value that that one has there. A
 /// contract sees the list.
-#[derive(Clone, Copy, PartialEq, Eq, Debug)]
+#[derive(PartialEq, Eq, Debug, Drop)]
 pub struct Brackets {
     rows: [Bracket; 16],
     count: usize,

@@ -1,15 +1,16 @@
 -- The lines of need analysis that every household has, from its amounts and the year's book (HEA 475 to 478, 480).
-use Rattle.std.specs.Prelude.{ℕ, ◌-◌, Bool, if◌then◌else◌, ℤ, pos, ◌+ℤ◌, ◌-ℤ◌, ◌*ℤ◌, ◌≤ℤ◌, int_lt, All, List, min, slice_index_or, option_map, unwrap_or}
+use Rattle.std.specs.Prelude.{ℕ, Bool, if◌then◌else◌, ℤ, pos, ◌+ℤ◌, ◌-ℤ◌, ◌≤ℤ◌, int_lt, All, List, option_map, unwrap_or}
 use Rattle.std.specs.Int.{int_max, int_min}
 use Rattle.aid_num.specs.Nearest.{share}
 use Rattle.aid_books.specs.Ages.{row_at_age}
+use Rattle.aid_books.specs.BySize.{by_size}
 use Rattle.aid_books.specs.Marginal.{IsBracket, IsMarginal, value_at}
 use Rattle.aid_books.specs.declared.ages.AgeRow.{AgeRow}
 use Rattle.aid_types.specs.declared.application.Side.{Side}
-use Rattle.aid_books.specs.declared.book.Allowance.{Allowance}
 use Rattle.aid_books.specs.declared.book.Book.{Book}
 use Rattle.aid_books.specs.declared.book.Employment.{Employment}
 use Rattle.aid_books.specs.declared.book.Payroll.{Payroll}
+use Rattle.aid_books.specs.declared.by_size.BySize.{BySize}
 use Rattle.aid_books.specs.declared.marginal.Bracket.{Bracket}
 
 -- untaxed income and benefits (HEA 480(b))
@@ -54,15 +55,9 @@ payroll_allowance p married s = oasdi p s.earned_first +ℤ oasdi p s.earned_sec
 unfoldable pub employment_allowance : Employment → Side → ℤ
 employment_allowance e s = int_min e.cap (share (earned s) e.rate)
 
--- an amount by size of family: its entry, or the last entry and `extra` for each member past it. The entries are for
--- the sizes `first` to `last` (HEA 478(b); the poverty guidelines of 42 U.S.C. 9902(2))
-unfoldable pub by_size : ℕ → ℕ → List ℤ → ℤ → ℕ → ℤ
-by_size first last sizes extra family =
-    slice_index_or sizes (min family last - first) (pos 0) +ℤ pos (family - last) *ℤ extra
-
 -- an income protection allowance by size of family (HEA 478(b))
-abbrev pub protection_allowance : Allowance → ℕ → ℤ
-protection_allowance a family = by_size 2 6 a.sizes a.extra family
+abbrev pub protection_allowance : BySize 2 5 → ℕ → ℤ
+protection_allowance allowance family = by_size 2 allowance.sizes allowance.extra family
 
 -- the adjusted net worth of a business: 0 where it has none (HEA 478(c))
 unfoldable pub business_worth : List Bracket → ℤ → ℤ

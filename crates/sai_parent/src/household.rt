@@ -6,7 +6,6 @@ ghost use Rattle.sai_parent.specs.Household.{
   asset_contribution as asset_contribution_of,
   asset_protection as asset_protection_of,
   business_worth as business_worth_of,
-  by_size as by_size_of,
   earned as earned_of,
   employment_allowance as employment_allowance_of,
   income_offsets as income_offsets_of,
@@ -14,7 +13,6 @@ ghost use Rattle.sai_parent.specs.Household.{
   medicare_threshold as medicare_threshold_of,
   oasdi as oasdi_of,
   payroll_allowance as payroll_allowance_of,
-  protection_allowance as protection_allowance_of,
   schedule_value as schedule_value_of,
   tax_allowance as tax_allowance_of,
   total_income as total_income_of,
@@ -22,7 +20,7 @@ ghost use Rattle.sai_parent.specs.Household.{
 };
 
 use aid_num::share;
-use aid_books::{Ages, Allowance, Book, Brackets, Employment, Payroll};
+use aid_books::{Ages, Book, Brackets, Employment, Payroll};
 use aid_types::Side;
 
 /// Total income (HEA 480(a)).
@@ -118,27 +116,6 @@ pub fn employment_allowance(employment: &Employment, side: &Side) -> i64
     ensures in_range { unsigned_abs result ≤ 200000000 }
 {
     employment.cap.min(share(earned(side), employment.rate))
-}
-
-/// An amount by size of family, from the entries for the sizes `first` to `last` and what each further member adds.
-pub fn by_size(first: u8, last: u8, sizes: &[i64], extra: i64, family: u8) -> i64
-    requires entries { last - first < length sizes.now }
-    requires in_range { EachIsAmount sizes.now }
-    requires extra_in_range { IsAmount extra }
-    ensures value { result ≡ by_size_of first last sizes.now extra family }
-    ensures in_range { unsigned_abs result ≤ 30000000000 }
-{
-    let entry = family.min(last).saturating_sub(first) as usize;
-    let past = family.saturating_sub(last) as i64;
-    sizes[entry] + past * extra
-}
-
-/// An income protection allowance by size of family (HEA 478(b)).
-pub fn protection_allowance(allowance: &Allowance, family: u8) -> i64
-    ensures value { result ≡ protection_allowance_of allowance.now family }
-    ensures in_range { unsigned_abs result ≤ 30000000000 }
-{
-    by_size(2, 6, &allowance.sizes, allowance.extra, family)
 }
 
 /// The adjusted net worth of a business (HEA 478(c)).

@@ -11,9 +11,8 @@ mod lines;
 use aid_books::Book;
 use aid_types::Application;
 pub use household::{
-    asset_contribution, asset_protection, business_worth, by_size, employment_allowance, net_worth,
-    payroll_allowance, protection_allowance, schedule_value, sum_of_allowances, tax_allowance,
-    total_income,
+    asset_contribution, asset_protection, business_worth, employment_allowance, net_worth,
+    payroll_allowance, schedule_value, sum_of_allowances, tax_allowance, total_income,
 };
 pub use lines::{assessed, income_and_assets};
 
@@ -44,7 +43,7 @@ pub fn parents(book: &Book, a: &Application) -> ParentLines
     ensures adjusted_in_range { unsigned_abs result.adjusted ≤ 42000000000 }
     ensures contribution_in_range { unsigned_abs result.contribution ≤ 42200000000 }
 {
-    let protection = protection_allowance(&book.protection.parents, a.family);
+    let protection = book.protection.parents.at(a.family);
     let employment = employment_allowance(&book.employment, &a.parents);
     let lines = income_and_assets(
         book,

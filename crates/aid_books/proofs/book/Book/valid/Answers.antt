@@ -1,13 +1,12 @@
-use Rattle.std.proofs.Common.{pos, ◌≤◌, List, length, All}
+use Rattle.std.proofs.Common.{ℕ, pos, ◌≤◌, List, length, All}
 use Rattle.aid_num.specs.Nearest.{share}
 use Rattle.aid_books.specs.Ages.{IsAgeRow, IsByAge}
 use Rattle.aid_books.specs.Marginal.{IsBracket, IsMarginal}
 use Rattle.aid_types.specs.Ranges.{IsBetween}
-use Rattle.aid_books.specs.ValidBook.{IsAgeTable, IsAllowance, IsBracketTable, IsGuideline, IsValidBook}
+use Rattle.aid_books.specs.ValidBook.{AreAmountsBySize, IsAgeTable, IsBracketTable, IsValidBook}
 use Rattle.aid_books.specs.declared.ages.AgeRow.{AgeRow}
-use Rattle.aid_books.specs.declared.book.Allowance.{Allowance}
 use Rattle.aid_books.specs.declared.book.Book.{Book}
-use Rattle.aid_books.specs.declared.book.Guideline.{Guideline}
+use Rattle.aid_books.specs.declared.by_size.BySize.{BySize}
 use Rattle.aid_books.specs.declared.marginal.Bracket.{Bracket}
 use Rattle.aid_books.proofs.RangeLemmas.{All-EachIsAmount}
 use Rattle.aid_books.proofs.TableLemmas.{IsMarginal-Follows, IsMarginal-length, IsByAge-rises, IsByAge-length, first_row, first_row_at}
@@ -28,11 +27,8 @@ age_table rows few in_range by_age = record {
   rises = IsByAge-rises rows by_age;
 }
 
-guideline : (g : Guideline) → IsGuideline g
-guideline g = record { sizes = All-EachIsAmount g.sizes g.sizes_in_range; extra = g.extra_in_range }
-
-allowance : (a : Allowance) → IsAllowance a
-allowance a = record { sizes = All-EachIsAmount a.sizes a.sizes_in_range; extra = a.extra_in_range }
+by_size : (first count : ℕ) (b : BySize first count) → AreAmountsBySize first count b
+by_size first count b = record { sizes = All-EachIsAmount b.sizes b.sizes_in_range; extra = b.extra_in_range }
 
 -- a book is valid by its own facts, and those of its year and its tables
 valid_book : (b : Book) → IsBetween 2000 2099 b.year → IsBracketTable b.business → IsAgeTable b.age → IsBracketTable b.bracket → IsValidBook b
@@ -40,11 +36,11 @@ valid_book b year business age bracket = record {
   year = year;
   pell = record { maximum = b.pell.maximum_in_range; minimum = b.pell.minimum_in_range };
   percent = let h = b.percent.in_range in record { maximum_single = h.0; maximum_other = h.1; minimum_dependent_single = h.2; minimum_dependent_other = h.3; minimum_single_parent = h.4; minimum_parent = h.5; minimum_no_dependents = h.6 };
-  contiguous = guideline b.poverty.contiguous;
-  alaska = guideline b.poverty.alaska;
-  hawaii = guideline b.poverty.hawaii;
+  contiguous = by_size 1 8 b.poverty.contiguous;
+  alaska = by_size 1 8 b.poverty.alaska;
+  hawaii = by_size 1 8 b.poverty.hawaii;
   payroll = let a = b.payroll.amounts_in_range in let r = b.payroll.rates_in_range in record { oasdi_cap = a.0; oasdi_rate = r.0; medicare_rate = r.1; medicare_high = r.2; threshold_single = a.1; threshold_married = a.2 };
-  protection = let h = b.protection.in_range in record { parents = allowance b.protection.parents; dependent_student = h.0; single_student = h.1; married_student = h.2; single_parent = allowance b.protection.single_parent; married_parent = allowance b.protection.married_parent };
+  protection = let h = b.protection.in_range in record { parents = by_size 2 5 b.protection.parents; dependent_student = h.0; single_student = h.1; married_student = h.2; single_parent = by_size 2 5 b.protection.single_parent; married_parent = by_size 2 5 b.protection.married_parent };
   employment = let h = b.employment.in_range in record { cap = h.0; rate = h.1 };
   assets = let h = b.assets.in_range in record { parents_rate = h.0; dependent_rate = h.1; no_dependents_rate = h.2; with_dependents_rate = h.3 };
   business = business;
