@@ -6,7 +6,8 @@ use Rattle.aid_types.specs.declared.application.Application.{Application}
 use Rattle.aid_types.specs.declared.application.Region.{Region}
 use Rattle.aid_types.specs.declared.application.Region.TheVariants.{Contiguous, Alaska, Hawaii}
 use Rattle.aid_books.specs.declared.book.Book.{Book}
-use Rattle.aid_books.specs.declared.book.Guideline.{Guideline}
+use Rattle.aid_books.specs.BySize.{by_size}
+use Rattle.aid_books.specs.declared.by_size.BySize.{BySize}
 use Rattle.aid_types.specs.Ranges.{IsWithin}
 use Rattle.aid_books.specs.declared.book.PellFigures.{PellFigures}
 use Rattle.aid_books.specs.declared.book.Percents.{Percents}
@@ -15,7 +16,6 @@ use Rattle.aid_types.specs.declared.award.Formula.{Formula}
 use Rattle.aid_types.specs.declared.award.Formula.TheVariants.{A, B, C}
 use Rattle.aid_types.specs.declared.award.Way.{Way}
 use Rattle.aid_types.specs.declared.award.Way.TheVariants.{Maximum, Calculated, Minimum, Nothing}
-use Rattle.sai_parent.specs.Household.{by_size}
 use Rattle.sai_index.specs.Formulas.{formula}
 use Rattle.sai_index.specs.Index.{index_lines}
 use Rattle.pell_schedule.specs.declared.Decision.{Decision}
@@ -40,7 +40,7 @@ is_single_parent B a = false
 is_single_parent C a = not a.married
 
 -- the poverty guideline of a region by size of family (42 U.S.C. 9902(2))
-abbrev pub guideline_of : Poverty → Region → Guideline
+abbrev pub guideline_of : Poverty → Region → BySize 1 8
 guideline_of p Contiguous = p.contiguous
 guideline_of p Alaska = p.alaska
 guideline_of p Hawaii = p.hawaii
@@ -48,7 +48,7 @@ guideline_of p Hawaii = p.hawaii
 abbrev pub guideline : Book → Application → ℤ
 guideline book a =
     let g = guideline_of book.poverty a.region in
-    by_size 1 8 g.sizes g.extra a.family
+    by_size 1 g.sizes g.extra a.family
 
 -- the percents of the guideline up to which an award is a Maximum or a Minimum (HEA 401(b)(1))
 abbrev pub maximum_percent : Percents → Formula → Application → ℤ

@@ -27,11 +27,10 @@ ghost use Rattle.pell_schedule.specs.Award.{
   must_file as must_file_of,
 };
 
-use aid_num::to5;
 use aid_books::{Book, Percents};
+use aid_num::to5;
 use aid_types::{Application, Formula, Region, Way};
 use sai_index::formula_of;
-use sai_parent::by_size;
 
 /// What is awarded: the way to it, the Scheduled Award in dollars, and the final index.
 #[derive(Clone, Copy, PartialEq, Eq, Debug)]
@@ -220,27 +219,10 @@ fn guideline(book: &Book, a: &Application) -> i64
     ensures value { result ≡ guideline_at book.now a.now }
     ensures in_range { unsigned_abs result ≤ 30000000000 }
 {
-    match a.region {
-        Region::Contiguous => by_size(
-            1,
-            8,
-            &book.poverty.contiguous.sizes,
-            book.poverty.contiguous.extra,
-            a.family,
-        ),
-        Region::Alaska => by_size(
-            1,
-            8,
-            &book.poverty.alaska.sizes,
-            book.poverty.alaska.extra,
-            a.family,
-        ),
-        Region::Hawaii => by_size(
-            1,
-            8,
-            &book.poverty.hawaii.sizes,
-            book.poverty.hawaii.extra,
-            a.family,
-        ),
-    }
+    let guideline = match a.region {
+        Region::Contiguous => &book.poverty.contiguous,
+        Region::Alaska => &book.poverty.alaska,
+        Region::Hawaii => &book.poverty.hawaii,
+    };
+    guideline.at(a.family)
 }

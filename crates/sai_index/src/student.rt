@@ -14,12 +14,12 @@ ghost use Rattle.sai_index.specs.Index.{
   single_or_married as single_or_married_of,
 };
 
-use aid_num::share;
 use aid_books::Book;
+use aid_num::share;
 use aid_types::{Application, Side};
 use sai_parent::{
     ParentLines, assessed, employment_allowance, income_and_assets, payroll_allowance,
-    protection_allowance, tax_allowance, total_income,
+    tax_allowance, total_income,
 };
 
 /// The contribution from a student's available income (HEA 475(g), 476(b)).
@@ -173,7 +173,7 @@ fn family_protection(book: &Book, a: &Application) -> i64
     } else {
         &book.protection.single_parent
     };
-    protection_allowance(allowance, a.family)
+    allowance.at(a.family)
 }
 
 /// Lines that a formula doesn't have.

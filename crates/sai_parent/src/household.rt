@@ -19,8 +19,8 @@ ghost use Rattle.sai_parent.specs.Household.{
   untaxed_income as untaxed_income_of,
 };
 
-use aid_num::share;
 use aid_books::{Ages, Book, Brackets, Employment, Payroll};
+use aid_num::share;
 use aid_types::Side;
 
 /// Total income (HEA 480(a)).

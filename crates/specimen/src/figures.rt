@@ -1,7 +1,10 @@
 //! The figures that stand in no table.
 ghost use Rattle.std.specs.Prelude.{◌≡◌, pos};
 
-use aid_books::{Allowance, AssetRates, Employment, Guideline, Payroll, PellFigures, Percents, Poverty, Protection, Schedule};
+use aid_books::{
+    Allowance, AssetRates, Employment, Guideline, Payroll, PellFigures, Percents, Poverty,
+    Protection, Schedule,
+};
 
 pub(crate) fn pell_figures() -> PellFigures {
     PellFigures {
