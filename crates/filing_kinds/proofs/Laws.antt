@@ -6,7 +6,7 @@ use Rattle.std.proofs.lemmas.Bool.{and_parts, and_from}
 use Rattle.std.proofs.lemmas.Int.{ints}
 use Rattle.std.proofs.lemmas.Nat.{mul-le}
 use Rattle.std.proofs.lemmas.List.Folds.{list_all-append}
-use Rattle.filing_kinds.specs.Forms.{are_sound, highest, holds, is_sound_slot, limit_holds, line_holds, lowest, may_count, most_behind, most_of, most_rows}
+use Rattle.filing_kinds.specs.Forms.{IsHeld, are_sound, highest, holds, is_sound_slot, limit_holds, line_holds, lowest, may_count, most_behind, most_of, most_rows}
 use Rattle.filing_kinds.specs.Kinds.{row_of, slots_of_kind}
 use Rattle.filing_kinds.specs.Layout.{AreNumbers, after, plain, rows, rows_again}
 use Rattle.filing_kinds.specs.Limits.{IsNarrow, before, fits, is_between, value_in_row}
@@ -48,11 +48,6 @@ most_of-kind Repay = lit≤ tt
 most_of-kind Adjust = lit≤ tt
 
 -- ---- a number within its limit
--- a number has room in its form's bytes
-pub record IsHeld (form : Form) (z : ℤ) : Type 0 where
-  pub low : lowest form ≤ℤ z
-  pub high : z ≤ℤ highest form
-
 pub IsHeld-IsNarrow : (form : Form) (z : ℤ) → IsHeld form z → IsNarrow z
 IsHeld-IsNarrow U8 z h = omega (arith, ints, h.low, h.high)
 IsHeld-IsNarrow U16 z h = omega (arith, ints, h.low, h.high)

@@ -1,3 +1,4 @@
-pub mod LayoutLemmas
+pub mod DraftLemmas
 pub mod Laws
+pub mod LayoutLemmas
 pub mod LimitLemmas

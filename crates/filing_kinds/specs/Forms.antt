@@ -1,6 +1,6 @@
 -- What the table of kinds keeps to: the numbers within a field's limit have room in its form's bytes, only a field within
 -- two bounds counts rows, and so many numbers are the most that a filing has. Own format.
-use Rattle.std.specs.Prelude.{ℕ, ◌+◌, ◌*◌, ◌^◌, max, ℤ, pos, neg_ℤ, int_le, unsigned_abs, Bool, true, false, ◌&&◌, List, [], ◌∷◌, length}
+use Rattle.std.specs.Prelude.{ℕ, ◌+◌, ◌*◌, ◌^◌, max, ℤ, pos, neg_ℤ, ◌≤ℤ◌, int_le, unsigned_abs, Bool, true, false, ◌&&◌, List, [], ◌∷◌, length}
 use Rattle.std.specs.List.{list_all}
 use Rattle.filing_kinds.specs.Parts.{Line, Slot}
 use Rattle.filing_kinds.specs.declared.field.Form.{Form}
@@ -25,6 +25,11 @@ highest Day = pos 2147483647
 highest Flag = pos 255
 highest Program = pos 255
 highest Count = pos 255
+
+-- a number has room in a form's bytes
+pub record IsHeld (form : Form) (z : ℤ) : Type 0 where
+  pub low : lowest form ≤ℤ z
+  pub high : z ≤ℤ highest form
 
 -- numbers from low to high have room in a form's bytes
 abbrev pub holds : Form → ℤ → ℤ → Bool

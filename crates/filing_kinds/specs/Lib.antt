@@ -1,3 +1,4 @@
+pub mod Draft
 pub mod Forms
 pub mod Kinds
 pub mod Layout

@@ -3,6 +3,7 @@
 #![tactic(auto)]
 
 mod book;
+mod draft;
 mod field;
 mod kind;
 mod layout;
@@ -10,6 +11,7 @@ mod limit;
 mod numbers;
 mod parts;
 
+pub use draft::Draft;
 pub use field::{Field, Form, Limit, Part};
 pub use kind::{Kind, KindRow, kind_at, kind_named, row};
 pub use layout::Layout;

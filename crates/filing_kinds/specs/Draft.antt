@@ -1,0 +1,30 @@
+-- The numbers of a filing so far, and what is still to come.
+use Rattle.std.specs.Prelude.{◌≡◌, ◌+◌, ◌≤◌, ℤ, Bool, true, false, List, [], ◌∷◌, All, length}
+use Rattle.filing_kinds.specs.Forms.{are_sound, most_of}
+use Rattle.filing_kinds.specs.Layout.{after}
+use Rattle.filing_kinds.specs.Limits.{IsNarrow, fits}
+use Rattle.filing_kinds.specs.Parts.{Slot}
+
+-- the fields to come, and the numbers before them, newest first
+pub record Progress : Type 0 where
+  pub slots : List Slot
+  pub earlier : List ℤ
+
+-- whether a number may be the next
+abbrev pub may_follow : List Slot → List ℤ → ℤ → Bool
+may_follow [] earlier z = false
+may_follow (slot ∷ slots) earlier z = fits slot.line.limit earlier z
+
+abbrev pub accepts : Progress → ℤ → Bool
+accepts p z = may_follow p.slots p.earlier z
+
+-- what stands once it is there
+abbrev pub onward : Progress → ℤ → Progress
+onward p z = record { slots = after p.slots z; earlier = z ∷ p.earlier }
+
+-- The table's limits hold for what is to come, each number so far is no further from 0 than 10^12, and there is room for
+-- the others.
+pub record IsDraft (slots : List Slot) (numbers : List ℤ) : Type 0 where
+  pub sound : are_sound slots ≡ true
+  pub narrow : All IsNarrow numbers
+  pub room : length numbers + most_of slots ≤ 369

@@ -1,0 +1,79 @@
+//! The numbers of a filing, one after the other.
+ghost use Rattle.std.specs.Prelude.{◌≡◌, ◌+◌, ◌≤◌, ℤ, true, length, option_map, slice_get, reverse, IfSome, if◌then◌else◌};
+ghost use Rattle.filing_kinds.specs.Draft.{accepts, onward};
+ghost use Rattle.filing_kinds.specs.Forms.{IsHeld};
+ghost use Rattle.filing_kinds.specs.Kinds.{slots_of_kind};
+ghost use Rattle.filing_kinds.specs.Parts.{line_of};
+
+use crate::field::Field;
+use crate::kind::Kind;
+use crate::layout::Layout;
+use crate::limit::fits;
+use crate::numbers::Numbers;
+use std::marker::Model;
+
+/// The numbers of a filing so far, each within its limit. A contract sees the fields of those to come, and the numbers,
+/// newest first.
+#[derive(Drop)]
+pub struct Draft {
+    layout: Layout,
+    numbers: Numbers,
+}
+
+impl Model for Draft {
+    ghost use Rattle.std.specs.Prelude.{reverse};
+    ghost use Rattle.filing_kinds.specs.Draft.{IsDraft, Progress};
+
+    ghost Value = { Progress };
+
+    ghost view = { λ d. record { slots = d.layout; earlier = reverse d.numbers.items } };
+
+    ghost invariant = { λ d. IsDraft d.layout d.numbers.items };
+}
+
+impl Draft {
+    ghost use Rattle.std.specs.Prelude.{[]};
+
+    /// A filing of a kind, of which no number stands yet.
+    pub fn new(kind: Kind) -> Self
+        ensures to_come { result.slots ≡ slots_of_kind kind }
+        ensures none { result.earlier ≡ [] }
+    {
+        Draft {
+            layout: Layout::new(kind),
+            numbers: Numbers::new(),
+        }
+    }
+
+    /// The field of the next number, if one is to come. What is accepted has room in the field's bytes.
+    pub fn next(&self) -> Option<&'static Field>
+        ensures field { option_map (λ field. line_of field.now) result ≡ option_map (λ slot. slot.line) (slice_get self.now.slots 0) }
+        ensures held { IfSome result (λ field. (z : ℤ) → accepts self.now z ≡ true → IsHeld field.now.form z) }
+    {
+        self.layout.next()
+    }
+
+    /// Puts the next number behind the others, where one is to come and it is within its limit, and tells whether it is.
+    pub fn push(&mut self, number: i64) -> bool
+        ensures accepted { result ≡ accepts self.old number }
+        ensures onward { self.new ≡ (if result then onward self.old number else self.old) }
+    {
+        let Some(field) = self.layout.next() else {
+            return false;
+        };
+        if !fits(&field.limit, self.numbers.as_slice(), number) {
+            return false;
+        }
+        self.numbers.push(number);
+        self.layout.advance(number);
+        true
+    }
+
+    /// The numbers so far, the oldest first.
+    pub fn numbers(&self) -> &[i64]
+        ensures numbers { result.now ≡ reverse self.now.earlier }
+        ensures few { length result.now ≤ 369 }
+    {
+        self.numbers.as_slice()
+    }
+}
