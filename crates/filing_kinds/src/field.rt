@@ -69,3 +69,6 @@ pub struct Part {
     pub first: &'static [Field],
     pub later: &'static [Field],
 }
+
+/// The words of the programs of aid, in the order of returns (34 CFR 668.22(i)), as a row and a body write them.
+pub static PROGRAM_WORDS: [&str; 6] = ["unsub", "sub", "plus", "pell", "fseog", "teach"];
