@@ -18,6 +18,3 @@ pub use host::HostDisk;
 pub use kept::{cut_kept, sync_kept, trim, write_kept};
 pub use memory::MemoryDisk;
 pub use stop::{Fill, Stop};
-
-#[cfg(test)]
-mod tests;

@@ -19,6 +19,3 @@ pub use journal::{Journal, PutError};
 pub use laws::{lives, once, undamaged};
 pub use opening::{OpenError, Opening};
 pub use recovery::recover;
-
-#[cfg(test)]
-mod tests;

@@ -7,8 +7,6 @@
 mod kept;
 mod laws;
 mod reading;
-#[cfg(test)]
-mod tests;
 
 pub use filing_journal::OpenError;
 pub use kept::{FoundFault, KeptOffice};

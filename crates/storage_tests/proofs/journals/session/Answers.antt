@@ -1,5 +1,5 @@
 use Rattle.std.proofs.Common.{IsTrue, [], ◌∷◌, ◌++◌, sym, ◌∙◌, subst}
-use Rattle.filing_journal.proofs.tests.session.Goals as goal
+use Rattle.storage_tests.proofs.journals.session.Goals as goal
 
 pub put-requires-in-Ok-put-clause-stands : goal.put-requires-in-Ok-put-clause-stands
 put-requires-in-Ok-put-clause-stands g c honest =

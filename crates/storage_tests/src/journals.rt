@@ -5,8 +5,8 @@ ghost use Rattle.filing_journal.specs.Stands.{Payloads};
 ghost use Rattle.filing_journal.specs.Journal.{Keeps, IsDecided, journal_disk, journal_count};
 ghost use Rattle.filing_journal.specs.Opening.{HasGiven, HasAll, HasEnded, opening_disk, opening_count};
 
-use crate::*;
 use disk_model::{Disk, Fill, MemoryDisk, Stop};
+use filing_journal::{Journal, OpenError, Opening, PutError, found, recover};
 use payload::Room;
 use std::alloc::Global;
 use std::test::Fail;

@@ -1,5 +1,5 @@
 // What no clause says: which calls fail, what a stop leaves, and that a real file is read and written.
-use crate::*;
+use disk_model::{Disk, Failed, Fill, HostDisk, MemoryDisk, Stop};
 use std::alloc::Global;
 use std::fs::{self, OpenOptions};
 use std::test::Fail;

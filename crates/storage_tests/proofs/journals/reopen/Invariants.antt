@@ -2,7 +2,7 @@ use Rattle.std.proofs.Common.{◌≡◌}
 use Rattle.disk_model.specs.Telling.{IsHonest}
 use Rattle.filing_journal.specs.Stands.{Payloads}
 use Rattle.filing_journal.specs.Opening.{HasGiven, opening_disk, opening_count}
-use Rattle.filing_journal.proofs.tests.reopen.Given as goal
+use Rattle.storage_tests.proofs.journals.reopen.Given as goal
 
 abbrev pub invariant-loop : goal.invariant-loop
 invariant-loop g l = record {

@@ -1,6 +1,6 @@
 use Rattle.std.proofs.Common.{IsTrue, [], ◌∷◌, ◌++◌, ◌+◌, ◌∙◌, ap, subst}
 use Rattle.filing_journal.proofs.Exits.{at_none, at_some}
-use Rattle.filing_journal.proofs.tests.reopen.Goals as goal
+use Rattle.storage_tests.proofs.journals.reopen.Goals as goal
 
 pub loop-init : goal.loop-init
 loop-init g c = record { given = λ honest. ([], c.in_ok-opening.ensures.begun honest); count = c.in_ok-opening.ensures.count }

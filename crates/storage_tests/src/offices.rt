@@ -6,11 +6,11 @@ ghost use Rattle.disk_model.specs.Telling.{IsHonest};
 ghost use Rattle.kept_office.specs.Kept.{IsSound, kept_disk};
 ghost use Rattle.kept_office.specs.Turns.{HasBytes};
 
-use super::*;
 use aid_filings::{Filing, PriorFacts, SchoolFacts, What};
 use aid_replies::{Ask, Outcome, Reply};
 use aid_types::{Key, Refusal, School, Student};
 use disk_model::{Disk, Fill, MemoryDisk, Stop};
+use kept_office::{FoundFault, KeptOffice, OpenError};
 use std::alloc::Global;
 use std::test::Fail;
 
