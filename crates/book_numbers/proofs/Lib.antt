@@ -1,0 +1,5 @@
+pub mod Amounts
+pub mod Behind
+pub mod Chain
+pub mod Plain
+pub mod RowsOf

@@ -1,0 +1,66 @@
+-- Numbers of fields that count nothing.
+use Rattle.std.proofs.Common.{◌≡◌, ℕ, zero, suc, ◌<◌, ℤ, pos, int_le, Bool, true, false, ◌&&◌, List, [], ◌∷◌, ◌++◌, length, unsigned_abs, IsTrue, Some, refl, subst, arith}
+use Rattle.std.specs.Prelude.{⊤, slice_get, slice_index_or}
+use Rattle.std.specs.List.{list_all}
+use Rattle.std.proofs.lemmas.Bool.{and_parts}
+use Rattle.std.proofs.lemmas.Int.{ints}
+use Rattle.aid_types.specs.Ranges.{IsWithin}
+use Rattle.book_numbers.specs.Sections.{IsNext}
+use Rattle.filing_kinds.specs.Layout.{AreNumbers, rows}
+use Rattle.filing_kinds.specs.Limits.{fits, is_between}
+use Rattle.filing_kinds.specs.Parts.{Line, Slot}
+use Rattle.filing_kinds.specs.declared.field.Limit.{Limit}
+use Rattle.filing_kinds.specs.declared.field.Limit.TheVariants.{Between, UpToLast, AboveRow, Continues, Begins}
+
+pub is_within : (low high z : ℤ) → is_between low high z ≡ true → IsWithin low high z
+is_within low high z h =
+    let both = and_parts (int_le low z) (int_le z high) h in
+    (omega (arith, ints, both.0), omega (arith, ints, both.1))
+
+-- a number within its limit, if that is from one number to another
+abbrev pub IsUpTo : Limit → ℤ → Type 0
+IsUpTo (Between low high) z = IsWithin low high z
+IsUpTo (UpToLast low) z = ⊤
+IsUpTo (AboveRow high) z = ⊤
+IsUpTo (Continues high) z = ⊤
+IsUpTo (Begins high) z = ⊤
+
+fits-up_to : (limit : Limit) (earlier : List ℤ) (z : ℤ) → fits limit earlier z ≡ true → IsUpTo limit z
+fits-up_to (Between low high) earlier z h = is_within low high z h
+fits-up_to (UpToLast low) earlier z h = tt
+fits-up_to (AboveRow high) earlier z h = tt
+fits-up_to (Continues high) earlier z h = tt
+fits-up_to (Begins high) earlier z h = tt
+
+abbrev pub is_empty : List Line → Bool
+is_empty [] = true
+is_empty (line ∷ lines) = false
+
+pub empty_lines : (lines : List Line) → is_empty lines ≡ true → lines ≡ []
+empty_lines [] h = refl
+empty_lines (line ∷ lines) h = cc
+
+abbrev pub is_plain : Slot → Bool
+is_plain slot = is_empty slot.first
+
+-- what is behind the number of such a field
+pub behind_plain : (slot : Slot) (slots : List Slot) (earlier zs : List ℤ) (z : ℤ) → is_plain slot ≡ true → AreNumbers (slot ∷ slots) earlier (z ∷ zs) → AreNumbers slots (z ∷ earlier) zs
+behind_plain slot slots earlier zs z h k =
+    subst (λ (lines : List Line). AreNumbers (rows (unsigned_abs z) lines slot.later ++ slots) (z ∷ earlier) zs) (empty_lines slot.first h) k.1
+
+-- the number of each is within its limit
+pub number_of : (slots later : List Slot) (earlier xs ys : List ℤ) → list_all is_plain slots ≡ true → AreNumbers (slots ++ later) earlier (xs ++ ys)
+    → (k : ℕ) (slot : Slot) → k < length xs → slice_get slots k ≡ Some slot → IsUpTo slot.line.limit (slice_index_or xs k (pos 0))
+number_of [] later earlier xs ys h n k slot l e = cc
+number_of (first ∷ slots) later earlier [] ys h n k slot l e = absurd (omega arith)
+number_of (first ∷ slots) later earlier (x ∷ xs) ys h n zero slot l e =
+    let same : first ≡ slot = cc in
+    subst (λ (s : Slot). IsUpTo s.line.limit x) same (fits-up_to first.line.limit earlier x n.0)
+number_of (first ∷ slots) later earlier (x ∷ xs) ys h n (suc k) slot l e =
+    let both = and_parts (is_plain first) (list_all is_plain slots) h in
+    number_of slots later (x ∷ earlier) xs ys both.1 (behind_plain first (slots ++ later) earlier (xs ++ ys) x both.0 n) k slot (omega arith) e
+
+pub each_of : (slots : List Slot) (zs xs ys : List ℤ) → list_all is_plain slots ≡ true → IsNext slots zs → zs ≡ xs ++ ys
+    → (k : ℕ) (slot : Slot) → k < length xs → slice_get slots k ≡ Some slot → IsUpTo slot.line.limit (slice_index_or xs k (pos 0))
+each_of slots zs xs ys h next e k slot l f =
+    number_of slots next.later next.earlier xs ys h (subst (λ (l : List ℤ). AreNumbers (slots ++ next.later) next.earlier l) e next.numbers) k slot l f

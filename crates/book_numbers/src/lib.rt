@@ -1,0 +1,9 @@
+//! A book as the list of its numbers, both ways.
+#![tactic(auto)]
+
+mod parts;
+mod read;
+mod section;
+mod tables;
+
+pub use read::book_of_numbers;

@@ -1,0 +1,163 @@
+//! The parts of a book, each read from the front of the numbers that are left.
+ghost use Rattle.std.specs.Prelude.{◌≡◌, ◌∷◌, [], ◌++◌, length, pos};
+ghost use Rattle.aid_types.specs.Ranges.{EachIsAmount};
+ghost use Rattle.book_numbers.specs.Book.{allowance_numbers, asset_numbers, employment_numbers, guideline_numbers, payroll_numbers, pell_numbers, percent_numbers, poverty_numbers, protection_numbers, schedule_numbers};
+ghost use Rattle.book_numbers.specs.Sections.{AreAmounts, HasAllowances, HasGuidelines, IsNext, start_slots};
+ghost use Rattle.filing_kinds.specs.Kinds.{asset_slots, employment_slots, payroll_slots, pell_slots, percent_slots, poverty_slots, protection_slots, schedule_slots};
+
+use crate::section::Section;
+use aid_books::{
+    Allowance, AssetRates, Employment, Guideline, Payroll, PellFigures, Percents, Poverty,
+    Protection, Schedule,
+};
+use aid_types::Year;
+
+pub fn pell_figures(section: &mut Section) -> PellFigures
+    requires { IsNext pell_slots section.old }
+    ensures { section.old ≡ pell_numbers result ++ section.new }
+{
+    let [maximum, minimum] = section.take::<2>();
+    PellFigures { maximum, minimum }
+}
+
+pub fn percents(section: &mut Section) -> Percents
+    requires { IsNext percent_slots section.old }
+    ensures { section.old ≡ percent_numbers result ++ section.new }
+{
+    let [maximum_single, maximum_other, minimum_dependent_single, minimum_dependent_other, minimum_single_parent, minimum_parent, minimum_no_dependents] =
+        section.take::<7>();
+    Percents {
+        maximum_single,
+        maximum_other,
+        minimum_dependent_single,
+        minimum_dependent_other,
+        minimum_single_parent,
+        minimum_parent,
+        minimum_no_dependents,
+    }
+}
+
+pub fn payroll(section: &mut Section) -> Payroll
+    requires { IsNext payroll_slots section.old }
+    ensures { section.old ≡ payroll_numbers result ++ section.new }
+{
+    let [oasdi_cap, oasdi_rate, medicare_rate, medicare_high, threshold_single, threshold_married] =
+        section.take::<6>();
+    Payroll {
+        oasdi_cap,
+        oasdi_rate,
+        medicare_rate,
+        medicare_high,
+        threshold_single,
+        threshold_married,
+    }
+}
+
+pub fn employment(section: &mut Section) -> Employment
+    requires { IsNext employment_slots section.old }
+    ensures { section.old ≡ employment_numbers result ++ section.new }
+{
+    let [cap, rate] = section.take::<2>();
+    Employment { cap, rate }
+}
+
+pub fn asset_rates(section: &mut Section) -> AssetRates
+    requires { IsNext asset_slots section.old }
+    ensures { section.old ≡ asset_numbers result ++ section.new }
+{
+    let [parents_rate, dependent_rate, no_dependents_rate, with_dependents_rate] =
+        section.take::<4>();
+    AssetRates {
+        parents_rate,
+        dependent_rate,
+        no_dependents_rate,
+        with_dependents_rate,
+    }
+}
+
+pub fn schedule(section: &mut Section) -> Schedule
+    requires { IsNext schedule_slots section.old }
+    ensures { section.old ≡ schedule_numbers result ++ section.new }
+{
+    let [low_at, low, first_rate, student_rate, lowest_student] = section.take::<5>();
+    Schedule {
+        low_at,
+        low,
+        first_rate,
+        student_rate,
+        lowest_student,
+    }
+}
+
+// The amounts that come next.
+fn amounts<const N: usize>(section: &mut Section) -> [i64; N]
+    requires { AreAmounts N section.old }
+    ensures numbers { section.old ≡ result ++ section.new }
+    ensures in_range { EachIsAmount result }
+    ensures count { length result ≡ N }
+{
+    section.take::<N>()
+}
+
+fn guideline(section: &mut Section) -> Guideline
+    requires { AreAmounts 9 section.old }
+    ensures numbers { section.old ≡ guideline_numbers result ++ section.new }
+    ensures count { length result.sizes ≡ 8 }
+{
+    let sizes = amounts::<8>(section);
+    let [extra] = amounts::<1>(section);
+    Guideline { sizes, extra }
+}
+
+pub fn poverty(section: &mut Section) -> Poverty
+    requires { IsNext poverty_slots section.old }
+    ensures numbers { section.old ≡ poverty_numbers result ++ section.new }
+    ensures counts { HasGuidelines result }
+{
+    let contiguous = guideline(section);
+    let alaska = guideline(section);
+    let hawaii = guideline(section);
+    Poverty {
+        contiguous,
+        alaska,
+        hawaii,
+    }
+}
+
+fn allowance(section: &mut Section) -> Allowance
+    requires { AreAmounts 6 section.old }
+    ensures numbers { section.old ≡ allowance_numbers result ++ section.new }
+    ensures count { length result.sizes ≡ 5 }
+{
+    let sizes = amounts::<5>(section);
+    let [extra] = amounts::<1>(section);
+    Allowance { sizes, extra }
+}
+
+pub fn protection(section: &mut Section) -> Protection
+    requires { IsNext protection_slots section.old }
+    ensures numbers { section.old ≡ protection_numbers result ++ section.new }
+    ensures counts { HasAllowances result }
+{
+    let parents = allowance(section);
+    let [dependent_student, single_student, married_student] = amounts::<3>(section);
+    let single_parent = allowance(section);
+    let married_parent = allowance(section);
+    Protection {
+        parents,
+        dependent_student,
+        single_student,
+        married_student,
+        single_parent,
+        married_parent,
+    }
+}
+
+/// The form of a book, which is 1, and its year.
+pub fn year(section: &mut Section) -> Year
+    requires { IsNext start_slots section.old }
+    ensures { section.old ≡ (pos 1 ∷ pos result ∷ []) ++ section.new }
+{
+    let [_form, year] = section.take::<2>();
+    Year(year as u16)
+}
