@@ -52,17 +52,17 @@ pub length-extra : (n : ℕ) (xs : List ℤ) (z : ℤ) → length xs ≡ n → l
 length-extra n xs z e = length-append xs (z ∷ []) ∙ ap (λ k. k + 1) e
 
 -- a field that is an amount, and counts nothing
-abbrev is_amount_limit : Limit → Bool
+abbrev pub is_amount_limit : Limit → Bool
 is_amount_limit (Between low high) = int_eq low (pos 0) && int_eq high (pos 99999999)
 is_amount_limit (UpToLast low) = false
 is_amount_limit (AboveRow high) = false
 is_amount_limit (Continues high) = false
 is_amount_limit (Begins high) = false
 
-abbrev is_amount_slot : Slot → Bool
+abbrev pub is_amount_slot : Slot → Bool
 is_amount_slot slot = is_amount_limit slot.line.limit && is_plain slot
 
-amount_limit : (limit : Limit) → is_amount_limit limit ≡ true → limit ≡ Between (pos 0) (pos 99999999)
+pub amount_limit : (limit : Limit) → is_amount_limit limit ≡ true → limit ≡ Between (pos 0) (pos 99999999)
 amount_limit (Between low high) h =
     let both = and_parts (int_eq low (pos 0)) (int_eq high (pos 99999999)) h in
     let l = (Decides-int_eq low (pos 0)).0 both.0 in

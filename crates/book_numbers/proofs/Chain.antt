@@ -1,5 +1,5 @@
 -- What is left of a book's numbers behind each of its parts.
-use Rattle.std.proofs.Common.{◌≡◌, ℕ, ◌+◌, ℤ, pos, List, [], ◌∷◌, ◌++◌, length, refl, sym, ap, ◌∙◌, subst, arith}
+use Rattle.std.proofs.Common.{◌≡◌, ℕ, ◌+◌, ℤ, pos, List, [], ◌∷◌, ◌++◌, length, refl, sym, ap, ◌∙◌, subst, append_assoc, arith}
 use Rattle.std.proofs.lemmas.List.{length-append}
 use Rattle.aid_books.specs.declared.ages.AgeRow.{AgeRow}
 use Rattle.aid_books.specs.declared.book.AssetRates.{AssetRates}
@@ -20,34 +20,34 @@ use Rattle.filing_kinds.specs.Layout.{AreNumbers}
 use Rattle.filing_kinds.specs.Parts.{Slot}
 
 -- the fields behind each part
-pub after_age : List Slot
+unfoldable pub after_age : List Slot
 after_age = schedule_slots ++ bracket_slots
 
-pub after_business : List Slot
+unfoldable pub after_business : List Slot
 after_business = age_slots ++ after_age
 
-pub after_assets : List Slot
+unfoldable pub after_assets : List Slot
 after_assets = business_slots ++ after_business
 
-pub after_employment : List Slot
+unfoldable pub after_employment : List Slot
 after_employment = asset_slots ++ after_assets
 
-pub after_protection : List Slot
+unfoldable pub after_protection : List Slot
 after_protection = employment_slots ++ after_employment
 
-pub after_payroll : List Slot
+unfoldable pub after_payroll : List Slot
 after_payroll = protection_slots ++ after_protection
 
-pub after_poverty : List Slot
+unfoldable pub after_poverty : List Slot
 after_poverty = payroll_slots ++ after_payroll
 
-pub after_percent : List Slot
+unfoldable pub after_percent : List Slot
 after_percent = poverty_slots ++ after_poverty
 
-pub after_pell : List Slot
+unfoldable pub after_pell : List Slot
 after_pell = percent_slots ++ after_percent
 
-pub after_year : List Slot
+unfoldable pub after_year : List Slot
 after_year = pell_slots ++ after_pell
 
 pub book_left : (zs : List ℤ) → AreBookNumbers zs → AreLeft (start_slots ++ after_year) zs
@@ -170,3 +170,13 @@ pub joined : (zs s0 s1 s2 s3 s4 s5 s6 s7 s8 s9 s10 a b c d e f g h i j k l : Lis
     → a ++ (b ++ (c ++ (d ++ (e ++ (f ++ (g ++ (h ++ (i ++ (j ++ (k ++ l)))))))))) ≡ zs
 joined zs s0 s1 s2 s3 s4 s5 s6 s7 s8 s9 s10 a b c d e f g h i j k l ea eb ec ed ee ef eg eh ei ej ek el =
     cc
+
+-- parts put one after the other
+grown : (n0 n1 n2 xs ys : List ℤ) → n1 ≡ n0 ++ xs → n2 ≡ n1 ++ ys → n2 ≡ n0 ++ (xs ++ ys)
+grown n0 n1 n2 xs ys e f = f ∙ ap (λ l. l ++ ys) e ∙ append_assoc n0 xs ys
+
+pub all_put : (n0 n1 n2 n3 n4 n5 n6 n7 n8 n9 n10 n11 n12 a b c d e f g h i j k l : List ℤ) → n1 ≡ n0 ++ a → n2 ≡ n1 ++ b → n3 ≡ n2 ++ c → n4 ≡ n3 ++ d → n5 ≡ n4 ++ e → n6 ≡ n5 ++ f
+    → n7 ≡ n6 ++ g → n8 ≡ n7 ++ h → n9 ≡ n8 ++ i → n10 ≡ n9 ++ j → n11 ≡ n10 ++ k → n12 ≡ n11 ++ l
+    → n12 ≡ n0 ++ (a ++ (b ++ (c ++ (d ++ (e ++ (f ++ (g ++ (h ++ (i ++ (j ++ (k ++ l)))))))))))
+all_put n0 n1 n2 n3 n4 n5 n6 n7 n8 n9 n10 n11 n12 a b c d e f g h i j k l ea eb ec ed ee ef eg eh ei ej ek el =
+    grown n0 n1 n12 a (b ++ (c ++ (d ++ (e ++ (f ++ (g ++ (h ++ (i ++ (j ++ (k ++ l)))))))))) ea (grown n1 n2 n12 b (c ++ (d ++ (e ++ (f ++ (g ++ (h ++ (i ++ (j ++ (k ++ l))))))))) eb (grown n2 n3 n12 c (d ++ (e ++ (f ++ (g ++ (h ++ (i ++ (j ++ (k ++ l)))))))) ec (grown n3 n4 n12 d (e ++ (f ++ (g ++ (h ++ (i ++ (j ++ (k ++ l))))))) ed (grown n4 n5 n12 e (f ++ (g ++ (h ++ (i ++ (j ++ (k ++ l)))))) ee (grown n5 n6 n12 f (g ++ (h ++ (i ++ (j ++ (k ++ l))))) ef (grown n6 n7 n12 g (h ++ (i ++ (j ++ (k ++ l)))) eg (grown n7 n8 n12 h (i ++ (j ++ (k ++ l))) eh (grown n8 n9 n12 i (j ++ (k ++ l)) ei (grown n9 n10 n12 j (k ++ l) ej (grown n10 n11 n12 k (l) ek el))))))))))

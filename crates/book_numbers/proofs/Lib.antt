@@ -1,5 +1,6 @@
 pub mod Amounts
 pub mod Behind
 pub mod Chain
+pub mod InRange
 pub mod Plain
 pub mod RowsOf

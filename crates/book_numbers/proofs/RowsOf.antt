@@ -52,7 +52,7 @@ later_brackets a b c slots zs row (next ∷ rows) earlier low h =
     record {
       in_range = all_cons IsBracket next rows (record { over = (least, greatest); base = is_within (pos 0) (pos 99999999) next.base continues.1; rate = is_within (pos 0) (pos 10000) next.rate h.1.1.0 }) rest.in_range;
       goes_on = and_from (int_lt row.over next.over && int_eq next.base (row_value row next.over)) (goes_on next rows)
-        (and_from (int_lt row.over next.over) (int_eq next.base (row_value row next.over)) above.0 continues.0) rest.goes_on;
+          (and_from (int_lt row.over next.over) (int_eq next.base (row_value row next.over)) above.0 continues.0) rest.goes_on;
     }
 
 record AreOlder (row : AgeRow) (rows : List AgeRow) : Type 0 where

@@ -2,6 +2,7 @@
 #![tactic(auto)]
 
 mod parts;
+mod put;
 mod read;
 mod section;
 mod tables;

@@ -24,8 +24,15 @@ pub fn percents(section: &mut Section) -> Percents
     requires { IsNext percent_slots section.old }
     ensures { section.old ≡ percent_numbers result ++ section.new }
 {
-    let [maximum_single, maximum_other, minimum_dependent_single, minimum_dependent_other, minimum_single_parent, minimum_parent, minimum_no_dependents] =
-        section.take::<7>();
+    let [
+        maximum_single,
+        maximum_other,
+        minimum_dependent_single,
+        minimum_dependent_other,
+        minimum_single_parent,
+        minimum_parent,
+        minimum_no_dependents,
+    ] = section.take::<7>();
     Percents {
         maximum_single,
         maximum_other,
@@ -41,8 +48,14 @@ pub fn payroll(section: &mut Section) -> Payroll
     requires { IsNext payroll_slots section.old }
     ensures { section.old ≡ payroll_numbers result ++ section.new }
 {
-    let [oasdi_cap, oasdi_rate, medicare_rate, medicare_high, threshold_single, threshold_married] =
-        section.take::<6>();
+    let [
+        oasdi_cap,
+        oasdi_rate,
+        medicare_rate,
+        medicare_high,
+        threshold_single,
+        threshold_married,
+    ] = section.take::<6>();
     Payroll {
         oasdi_cap,
         oasdi_rate,
@@ -65,8 +78,12 @@ pub fn asset_rates(section: &mut Section) -> AssetRates
     requires { IsNext asset_slots section.old }
     ensures { section.old ≡ asset_numbers result ++ section.new }
 {
-    let [parents_rate, dependent_rate, no_dependents_rate, with_dependents_rate] =
-        section.take::<4>();
+    let [
+        parents_rate,
+        dependent_rate,
+        no_dependents_rate,
+        with_dependents_rate,
+    ] = section.take::<4>();
     AssetRates {
         parents_rate,
         dependent_rate,

@@ -5,9 +5,11 @@ use Rattle.book_numbers.proofs.parts.protection.Goals as goal
 
 pub amounts-requires : goal.amounts-requires
 amounts-requires c =
-    let first = c.allowance-parents in
-    (lit< tt, fewer_amounts 3 15 first.new.section (lit≤ tt) (
-    amounts_behind 6 15 21 c.args.section.now (allowance_numbers first.result) first.new.section first.ensures.numbers (length-extra 5 first.result.sizes first.result.extra first.ensures.count) refl (protection_amounts c.args.section.now c.requires)))
+    let first = c.allowance-parents in (
+      lit< tt,
+      fewer_amounts 3 15 first.new.section (lit≤ tt) (
+          amounts_behind 6 15 21 c.args.section.now (allowance_numbers first.result) first.new.section first.ensures.numbers (length-extra 5 first.result.sizes first.result.extra first.ensures.count) refl (protection_amounts c.args.section.now c.requires)),
+    )
 
 pub allowance-single_parent-requires : goal.allowance-single_parent-requires
 allowance-single_parent-requires c =

@@ -1,0 +1,220 @@
+//! The numbers of a book, put behind others.
+ghost use Rattle.std.specs.Prelude.{◌≡◌, ◌≤◌, ◌+◌, ◌∷◌, [], ◌++◌, ℤ, List, flat_map, length, pos};
+ghost use Rattle.arrayvec.specs.ArrayVec.{array_vec_len};
+ghost use Rattle.book_numbers.specs.Book.{age_numbers, age_row, allowance_numbers, asset_numbers, bracket_numbers, bracket_row, employment_numbers, guideline_numbers, numbers_of, payroll_numbers, pell_numbers, percent_numbers, poverty_numbers, protection_numbers, schedule_numbers};
+ghost use Rattle.book_numbers.specs.Sections.{HasAllowances, HasGuidelines, HasLengths};
+ghost use Rattle.filing_kinds.specs.Kinds.{book_slots};
+ghost use Rattle.filing_kinds.specs.Layout.{AreNumbers};
+
+use aid_books::{
+    AgeRow, Allowance, AssetRates, Book, Bracket, Employment, Guideline, Payroll, PellFigures,
+    Percents, Poverty, Protection, Schedule,
+};
+use filing_kinds::Numbers;
+
+// Puts some numbers.
+fn put(list: &[i64], numbers: &mut Numbers)
+    requires { array_vec_len numbers.old + length list.now ≤ 369 }
+    ensures added { numbers.new.items ≡ numbers.old.items ++ list.now }
+    ensures count { array_vec_len numbers.new ≡ array_vec_len numbers.old + length list.now }
+{
+    numbers.try_extend_from_slice(list).unwrap();
+}
+
+fn put_pell_figures(pell: &PellFigures, numbers: &mut Numbers)
+    requires { array_vec_len numbers.old + 2 ≤ 369 }
+    ensures added { numbers.new.items ≡ numbers.old.items ++ pell_numbers pell.now }
+    ensures count { array_vec_len numbers.new ≡ array_vec_len numbers.old + 2 }
+{
+    put(&[pell.maximum, pell.minimum], numbers);
+}
+
+fn put_percents(percent: &Percents, numbers: &mut Numbers)
+    requires { array_vec_len numbers.old + 7 ≤ 369 }
+    ensures added { numbers.new.items ≡ numbers.old.items ++ percent_numbers percent.now }
+    ensures count { array_vec_len numbers.new ≡ array_vec_len numbers.old + 7 }
+{
+    put(
+        &[
+            percent.maximum_single,
+            percent.maximum_other,
+            percent.minimum_dependent_single,
+            percent.minimum_dependent_other,
+            percent.minimum_single_parent,
+            percent.minimum_parent,
+            percent.minimum_no_dependents,
+        ],
+        numbers,
+    );
+}
+
+fn put_guideline(guideline: &Guideline, numbers: &mut Numbers)
+    requires { array_vec_len numbers.old + 9 ≤ 369 }
+    ensures added { numbers.new.items ≡ numbers.old.items ++ guideline_numbers guideline.now }
+    ensures count { array_vec_len numbers.new ≡ array_vec_len numbers.old + 9 }
+    ensures length { length guideline.now.sizes ≡ 8 }
+{
+    put(&guideline.sizes, numbers);
+    numbers.push(guideline.extra);
+}
+
+fn put_poverty(poverty: &Poverty, numbers: &mut Numbers)
+    requires { array_vec_len numbers.old + 27 ≤ 369 }
+    ensures added { numbers.new.items ≡ numbers.old.items ++ poverty_numbers poverty.now }
+    ensures count { array_vec_len numbers.new ≡ array_vec_len numbers.old + 27 }
+    ensures lengths { HasGuidelines poverty.now }
+{
+    put_guideline(&poverty.contiguous, numbers);
+    put_guideline(&poverty.alaska, numbers);
+    put_guideline(&poverty.hawaii, numbers);
+}
+
+fn put_payroll(payroll: &Payroll, numbers: &mut Numbers)
+    requires { array_vec_len numbers.old + 6 ≤ 369 }
+    ensures added { numbers.new.items ≡ numbers.old.items ++ payroll_numbers payroll.now }
+    ensures count { array_vec_len numbers.new ≡ array_vec_len numbers.old + 6 }
+{
+    put(
+        &[
+            payroll.oasdi_cap,
+            payroll.oasdi_rate,
+            payroll.medicare_rate,
+            payroll.medicare_high,
+            payroll.threshold_single,
+            payroll.threshold_married,
+        ],
+        numbers,
+    );
+}
+
+fn put_allowance(allowance: &Allowance, numbers: &mut Numbers)
+    requires { array_vec_len numbers.old + 6 ≤ 369 }
+    ensures added { numbers.new.items ≡ numbers.old.items ++ allowance_numbers allowance.now }
+    ensures count { array_vec_len numbers.new ≡ array_vec_len numbers.old + 6 }
+    ensures length { length allowance.now.sizes ≡ 5 }
+{
+    put(&allowance.sizes, numbers);
+    numbers.push(allowance.extra);
+}
+
+fn put_protection(protection: &Protection, numbers: &mut Numbers)
+    requires { array_vec_len numbers.old + 21 ≤ 369 }
+    ensures added { numbers.new.items ≡ numbers.old.items ++ protection_numbers protection.now }
+    ensures count { array_vec_len numbers.new ≡ array_vec_len numbers.old + 21 }
+    ensures lengths { HasAllowances protection.now }
+{
+    put_allowance(&protection.parents, numbers);
+    put(
+        &[
+            protection.dependent_student,
+            protection.single_student,
+            protection.married_student,
+        ],
+        numbers,
+    );
+    put_allowance(&protection.single_parent, numbers);
+    put_allowance(&protection.married_parent, numbers);
+}
+
+fn put_employment(employment: &Employment, numbers: &mut Numbers)
+    requires { array_vec_len numbers.old + 2 ≤ 369 }
+    ensures added { numbers.new.items ≡ numbers.old.items ++ employment_numbers employment.now }
+    ensures count { array_vec_len numbers.new ≡ array_vec_len numbers.old + 2 }
+{
+    put(&[employment.cap, employment.rate], numbers);
+}
+
+fn put_asset_rates(assets: &AssetRates, numbers: &mut Numbers)
+    requires { array_vec_len numbers.old + 4 ≤ 369 }
+    ensures added { numbers.new.items ≡ numbers.old.items ++ asset_numbers assets.now }
+    ensures count { array_vec_len numbers.new ≡ array_vec_len numbers.old + 4 }
+{
+    put(
+        &[
+            assets.parents_rate,
+            assets.dependent_rate,
+            assets.no_dependents_rate,
+            assets.with_dependents_rate,
+        ],
+        numbers,
+    );
+}
+
+fn put_bracket(row: &Bracket, numbers: &mut Numbers)
+    requires { array_vec_len numbers.old + 3 ≤ 369 }
+    ensures added { numbers.new.items ≡ numbers.old.items ++ bracket_row row.now }
+    ensures count { array_vec_len numbers.new ≡ array_vec_len numbers.old + 3 }
+{
+    put(&[row.over, row.base, row.rate], numbers);
+}
+
+fn put_brackets(rows: &[Bracket], numbers: &mut Numbers)
+    requires few { length rows.now ≤ 16 }
+    requires room { array_vec_len numbers.old + 49 ≤ 369 }
+    ensures added { numbers.new.items ≡ numbers.old.items ++ bracket_numbers rows.now }
+    ensures count { array_vec_len numbers.new ≤ array_vec_len numbers.old + 49 }
+{
+    numbers.push(rows.len() as i64);
+    for row in rows {
+        put_bracket(row, numbers);
+    }
+}
+
+fn put_age(row: &AgeRow, numbers: &mut Numbers)
+    requires { array_vec_len numbers.old + 3 ≤ 369 }
+    ensures added { numbers.new.items ≡ numbers.old.items ++ age_row row.now }
+    ensures count { array_vec_len numbers.new ≡ array_vec_len numbers.old + 3 }
+{
+    put(&[row.start, row.single, row.married], numbers);
+}
+
+fn put_ages(rows: &[AgeRow], numbers: &mut Numbers)
+    requires few { length rows.now ≤ 64 }
+    requires room { array_vec_len numbers.old + 193 ≤ 369 }
+    ensures added { numbers.new.items ≡ numbers.old.items ++ age_numbers rows.now }
+    ensures count { array_vec_len numbers.new ≤ array_vec_len numbers.old + 193 }
+{
+    numbers.push(rows.len() as i64);
+    for row in rows {
+        put_age(row, numbers);
+    }
+}
+
+fn put_schedule(schedule: &Schedule, numbers: &mut Numbers)
+    requires { array_vec_len numbers.old + 5 ≤ 369 }
+    ensures added { numbers.new.items ≡ numbers.old.items ++ schedule_numbers schedule.now }
+    ensures count { array_vec_len numbers.new ≡ array_vec_len numbers.old + 5 }
+{
+    put(
+        &[
+            schedule.low_at,
+            schedule.low,
+            schedule.first_rate,
+            schedule.student_rate,
+            schedule.lowest_student,
+        ],
+        numbers,
+    );
+}
+
+/// Puts the numbers of a book.
+pub fn put_book(book: &Book, numbers: &mut Numbers)
+    requires { array_vec_len numbers.old + 367 ≤ 369 }
+    ensures added { numbers.new.items ≡ numbers.old.items ++ numbers_of book.now }
+    ensures in_range { (earlier : List ℤ) → AreNumbers book_slots earlier (numbers_of book.now) }
+    ensures few { length (numbers_of book.now) ≤ 367 }
+    ensures lengths { HasLengths book.now }
+{
+    put(&[1, i64::from(book.year.number())], numbers);
+    put_pell_figures(&book.pell, numbers);
+    put_percents(&book.percent, numbers);
+    put_poverty(&book.poverty, numbers);
+    put_payroll(&book.payroll, numbers);
+    put_protection(&book.protection, numbers);
+    put_employment(&book.employment, numbers);
+    put_asset_rates(&book.assets, numbers);
+    put_brackets(book.business.as_slice(), numbers);
+    put_ages(book.age.as_slice(), numbers);
+    put_schedule(&book.schedule, numbers);
+    put_brackets(book.bracket.as_slice(), numbers);
+}
