@@ -1,5 +1,5 @@
 -- The derived `==` of a book and of its parts is equality.
-use Rattle.std.proofs.Common.{◌≡◌, ℕ, ℤ, pos, ◌&&◌, List, Some, option_map, slice_get, refl, ap}
+use Rattle.std.proofs.Common.{length, ◌≡◌, ℕ, ℤ, pos, ◌&&◌, List, Some, option_map, slice_get, refl, ap}
 use Rattle.std.specs.Ordering.{int_eq}
 use Rattle.std.specs.Cmp.Rules.{signed_items}
 use denote.Struct.Props.{props}
@@ -39,10 +39,10 @@ tells_ℤs = record { same = λ x y h. (signed_items x y).0 h; told = λ x. (sig
 abbrev PellFiguresParts : Type 0
 PellFiguresParts = ℤ × (ℤ)
 
-pell_figures_parts : PellFigures → PellFiguresParts
+unfoldable pub pell_figures_parts : PellFigures → PellFiguresParts
 pell_figures_parts s = (s.maximum, s.minimum)
 
-pell_figures_whole : (x y : PellFigures) → pell_figures_parts x ≡ pell_figures_parts y → x ≡ y
+pub pell_figures_whole : (x y : PellFigures) → pell_figures_parts x ≡ pell_figures_parts y → x ≡ y
 unfolding pell_figures_parts
 pell_figures_whole x y e =
     let P : PellFiguresParts → Type 0 = λ b. (IsWithin (pos 1) (pos 99999) b.0) × ((IsWithin (pos 1) b.0 b.1)) in
@@ -56,10 +56,10 @@ tells_pell_figures = tells_by pell_figures_parts pell_figures_whole (tells_pair 
 abbrev PercentsParts : Type 0
 PercentsParts = ℤ × (ℤ × (ℤ × (ℤ × (ℤ × (ℤ × (ℤ))))))
 
-percents_parts : Percents → PercentsParts
+unfoldable pub percents_parts : Percents → PercentsParts
 percents_parts s = (s.maximum_single, (s.maximum_other, (s.minimum_dependent_single, (s.minimum_dependent_other, (s.minimum_single_parent, (s.minimum_parent, s.minimum_no_dependents))))))
 
-percents_whole : (x y : Percents) → percents_parts x ≡ percents_parts y → x ≡ y
+pub percents_whole : (x y : Percents) → percents_parts x ≡ percents_parts y → x ≡ y
 unfolding percents_parts
 percents_whole x y e =
     let P : PercentsParts → Type 0 = λ b. IsPercent b.0 × IsPercent b.1.0 × IsPercent b.1.1.0 × IsPercent b.1.1.1.0 × IsPercent b.1.1.1.1.0 × IsPercent b.1.1.1.1.1.0 × IsPercent b.1.1.1.1.1.1 in
@@ -73,15 +73,15 @@ tells_percents = tells_by percents_parts percents_whole (tells_pair tells_ℤ (t
 abbrev BySizeParts : Type 0
 BySizeParts = List ℤ × (ℤ)
 
-by_size_parts : (first count : ℕ) → BySize first count → BySizeParts
+unfoldable pub by_size_parts : (first count : ℕ) → BySize first count → BySizeParts
 by_size_parts first count s = (s.sizes, s.extra)
 
-by_size_whole : (first count : ℕ) (x y : BySize first count) → by_size_parts first count x ≡ by_size_parts first count y → x ≡ y
+pub by_size_whole : (first count : ℕ) (x y : BySize first count) → by_size_parts first count x ≡ by_size_parts first count y → x ≡ y
 unfolding by_size_parts
 by_size_whole first count x y e =
-    let P : BySizeParts → Type 0 = λ b. (EachIsAmount b.0) × ((IsAmount b.1)) in
-    let make : (b : BySizeParts) → P b → BySize first count = λ b p. record { sizes = b.0; extra = b.1; sizes_in_range = p.0; extra_in_range = p.1 } in
-    same_with_fact P make (λ b. hlevel (le_ℤ-prop, props)) (by_size_parts first count x) (by_size_parts first count y) (x.sizes_in_range, x.extra_in_range) (y.sizes_in_range, y.extra_in_range) e
+    let P : BySizeParts → Type 0 = λ b. (length b.0 ≡ count) × ((EachIsAmount b.0) × ((IsAmount b.1))) in
+    let make : (b : BySizeParts) → P b → BySize first count = λ b p. record { sizes = b.0; extra = b.1; sizes_counted = p.0; sizes_in_range = p.1.0; extra_in_range = p.1.1 } in
+    same_with_fact P make (λ b. hlevel (le_ℤ-prop, props)) (by_size_parts first count x) (by_size_parts first count y) (x.sizes_counted, (x.sizes_in_range, x.extra_in_range)) (y.sizes_counted, (y.sizes_in_range, y.extra_in_range)) e
 
 pub tells_by_size : (first count : ℕ) → Tells (λ (x y : BySize first count). pointwise int_eq x.sizes y.sizes && int_eq x.extra y.extra)
 unfolding by_size_parts
@@ -90,10 +90,10 @@ tells_by_size first count = tells_by (by_size_parts first count) (by_size_whole 
 abbrev PovertyParts : Type 0
 PovertyParts = BySize 1 8 × (BySize 1 8 × (BySize 1 8))
 
-poverty_parts : Poverty → PovertyParts
+unfoldable pub poverty_parts : Poverty → PovertyParts
 poverty_parts s = (s.contiguous, (s.alaska, s.hawaii))
 
-poverty_whole : (x y : Poverty) → poverty_parts x ≡ poverty_parts y → x ≡ y
+pub poverty_whole : (x y : Poverty) → poverty_parts x ≡ poverty_parts y → x ≡ y
 unfolding poverty_parts
 poverty_whole x y e = let make : PovertyParts → Poverty = λ b. record { contiguous = b.0; alaska = b.1.0; hawaii = b.1.1 } in ap make e
 
@@ -104,10 +104,10 @@ tells_poverty = tells_by poverty_parts poverty_whole (let guideline = tells_by_s
 abbrev PayrollParts : Type 0
 PayrollParts = ℤ × (ℤ × (ℤ × (ℤ × (ℤ × (ℤ)))))
 
-payroll_parts : Payroll → PayrollParts
+unfoldable pub payroll_parts : Payroll → PayrollParts
 payroll_parts s = (s.oasdi_cap, (s.oasdi_rate, (s.medicare_rate, (s.medicare_high, (s.threshold_single, s.threshold_married)))))
 
-payroll_whole : (x y : Payroll) → payroll_parts x ≡ payroll_parts y → x ≡ y
+pub payroll_whole : (x y : Payroll) → payroll_parts x ≡ payroll_parts y → x ≡ y
 unfolding payroll_parts
 payroll_whole x y e =
     let P : PayrollParts → Type 0 = λ b. (IsAmount b.0 × IsAmount b.1.1.1.1.0 × IsAmount b.1.1.1.1.1) × ((IsRate b.1.0 × IsRate b.1.1.0 × IsRate b.1.1.1.0)) in
@@ -121,10 +121,10 @@ tells_payroll = tells_by payroll_parts payroll_whole (tells_pair tells_ℤ (tell
 abbrev ProtectionParts : Type 0
 ProtectionParts = BySize 2 5 × (ℤ × (ℤ × (ℤ × (BySize 2 5 × (BySize 2 5)))))
 
-protection_parts : Protection → ProtectionParts
+unfoldable pub protection_parts : Protection → ProtectionParts
 protection_parts s = (s.parents, (s.dependent_student, (s.single_student, (s.married_student, (s.single_parent, s.married_parent)))))
 
-protection_whole : (x y : Protection) → protection_parts x ≡ protection_parts y → x ≡ y
+pub protection_whole : (x y : Protection) → protection_parts x ≡ protection_parts y → x ≡ y
 unfolding protection_parts
 protection_whole x y e =
     let P : ProtectionParts → Type 0 = λ b. IsAmount b.1.0 × IsAmount b.1.1.0 × IsAmount b.1.1.1.0 in
@@ -138,10 +138,10 @@ tells_protection = tells_by protection_parts protection_whole (let allowance = t
 abbrev EmploymentParts : Type 0
 EmploymentParts = ℤ × (ℤ)
 
-employment_parts : Employment → EmploymentParts
+unfoldable pub employment_parts : Employment → EmploymentParts
 employment_parts s = (s.cap, s.rate)
 
-employment_whole : (x y : Employment) → employment_parts x ≡ employment_parts y → x ≡ y
+pub employment_whole : (x y : Employment) → employment_parts x ≡ employment_parts y → x ≡ y
 unfolding employment_parts
 employment_whole x y e =
     let P : EmploymentParts → Type 0 = λ b. IsAmount b.0 × IsRate b.1 in
@@ -155,10 +155,10 @@ tells_employment = tells_by employment_parts employment_whole (tells_pair tells_
 abbrev AssetRatesParts : Type 0
 AssetRatesParts = ℤ × (ℤ × (ℤ × (ℤ)))
 
-asset_rates_parts : AssetRates → AssetRatesParts
+unfoldable pub asset_rates_parts : AssetRates → AssetRatesParts
 asset_rates_parts s = (s.parents_rate, (s.dependent_rate, (s.no_dependents_rate, s.with_dependents_rate)))
 
-asset_rates_whole : (x y : AssetRates) → asset_rates_parts x ≡ asset_rates_parts y → x ≡ y
+pub asset_rates_whole : (x y : AssetRates) → asset_rates_parts x ≡ asset_rates_parts y → x ≡ y
 unfolding asset_rates_parts
 asset_rates_whole x y e =
     let P : AssetRatesParts → Type 0 = λ b. IsRate b.0 × IsRate b.1.0 × IsRate b.1.1.0 × IsRate b.1.1.1 in
@@ -172,10 +172,10 @@ tells_asset_rates = tells_by asset_rates_parts asset_rates_whole (tells_pair tel
 abbrev ScheduleParts : Type 0
 ScheduleParts = ℤ × (ℤ × (ℤ × (ℤ × (ℤ))))
 
-schedule_parts : Schedule → ScheduleParts
+unfoldable pub schedule_parts : Schedule → ScheduleParts
 schedule_parts s = (s.low_at, (s.low, (s.first_rate, (s.student_rate, s.lowest_student))))
 
-schedule_whole : (x y : Schedule) → schedule_parts x ≡ schedule_parts y → x ≡ y
+pub schedule_whole : (x y : Schedule) → schedule_parts x ≡ schedule_parts y → x ≡ y
 unfolding schedule_parts
 schedule_whole x y e =
     let P : ScheduleParts → Type 0 = λ b. IsFloor b.0 × IsFloor b.1.0 × IsRate b.1.1.0 × IsRate b.1.1.1.0 × IsFloor b.1.1.1.1 in
@@ -189,10 +189,10 @@ tells_schedule = tells_by schedule_parts schedule_whole (tells_pair tells_ℤ (t
 abbrev BracketParts : Type 0
 BracketParts = ℤ × (ℤ × (ℤ))
 
-bracket_parts : Bracket → BracketParts
+unfoldable pub bracket_parts : Bracket → BracketParts
 bracket_parts s = (s.over, (s.base, s.rate))
 
-bracket_whole : (x y : Bracket) → bracket_parts x ≡ bracket_parts y → x ≡ y
+pub bracket_whole : (x y : Bracket) → bracket_parts x ≡ bracket_parts y → x ≡ y
 unfolding bracket_parts
 bracket_whole x y e = let make : BracketParts → Bracket = λ b. record { over = b.0; base = b.1.0; rate = b.1.1 } in ap make e
 
@@ -203,10 +203,10 @@ tells_bracket = tells_by bracket_parts bracket_whole (tells_pair tells_ℤ (tell
 abbrev AgeRowParts : Type 0
 AgeRowParts = ℤ × (ℤ × (ℤ))
 
-age_row_parts : AgeRow → AgeRowParts
+unfoldable pub age_row_parts : AgeRow → AgeRowParts
 age_row_parts s = (s.start, (s.single, s.married))
 
-age_row_whole : (x y : AgeRow) → age_row_parts x ≡ age_row_parts y → x ≡ y
+pub age_row_whole : (x y : AgeRow) → age_row_parts x ≡ age_row_parts y → x ≡ y
 unfolding age_row_parts
 age_row_whole x y e = let make : AgeRowParts → AgeRow = λ b. record { start = b.0; single = b.1.0; married = b.1.1 } in ap make e
 
@@ -223,10 +223,10 @@ tells_ages = tells_filled 64 (record { start = pos 0; single = pos 0; married = 
 abbrev BookParts : Type 0
 BookParts = ℕ × (PellFigures × (Percents × (Poverty × (Payroll × (Protection × (Employment × (AssetRates × (List Bracket × (List AgeRow × (Schedule × (List Bracket)))))))))))
 
-book_parts : Book → BookParts
+unfoldable pub book_parts : Book → BookParts
 book_parts s = (s.year, (s.pell, (s.percent, (s.poverty, (s.payroll, (s.protection, (s.employment, (s.assets, (s.business, (s.age, (s.schedule, s.bracket)))))))))))
 
-book_whole : (x y : Book) → book_parts x ≡ book_parts y → x ≡ y
+pub book_whole : (x y : Book) → book_parts x ≡ book_parts y → x ≡ y
 unfolding book_parts
 book_whole x y e =
     let P : BookParts → Type 0 = λ b. (option_map (λ (row : Bracket). row.over) (slice_get b.1.1.1.1.1.1.1.1.0 0) ≡ Some (pos 0)) × ((option_map (λ (row : Bracket). row.base) (slice_get b.1.1.1.1.1.1.1.1.0 0) ≡ Some (pos 0)) × ((option_map (λ (row : AgeRow). row.start) (slice_get b.1.1.1.1.1.1.1.1.1.0 0) ≡ Some (pos 0)) × ((option_map (λ (row : Bracket). row.base) (slice_get b.1.1.1.1.1.1.1.1.1.1.1 0) ≡ option_map (λ (row : Bracket). share row.over b.1.1.1.1.1.1.1.1.1.1.0.first_rate) (slice_get b.1.1.1.1.1.1.1.1.1.1.1 0))))) in

@@ -1,5 +1,5 @@
 //! Amounts that go by the size of a family.
-ghost use Rattle.std.specs.Prelude.{◌≡◌, ◌<◌};
+ghost use Rattle.std.specs.Prelude.{◌≡◌, ◌<◌, length};
 ghost use Rattle.aid_types.specs.Ranges.{EachIsAmount, IsAmount};
 
 /// Amounts in dollars by size of family: for `COUNT` sizes from `FIRST` on, and what each further member adds.
@@ -7,6 +7,7 @@ ghost use Rattle.aid_types.specs.Ranges.{EachIsAmount, IsAmount};
 pub struct BySize<const FIRST: u8, const COUNT: usize> {
     pub sizes: [i64; COUNT],
     pub extra: i64,
+    pub ghost sizes_counted: { length sizes ≡ COUNT },
     pub ghost sizes_in_range: { EachIsAmount sizes },
     pub ghost extra_in_range: { IsAmount extra },
 }
