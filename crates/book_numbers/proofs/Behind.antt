@@ -1,5 +1,5 @@
 -- What is left behind a part of a book's numbers.
-use Rattle.std.proofs.Common.{◌≡◌, ℕ, zero, suc, ◌+◌, ◌*◌, ◌≤◌, ℤ, pos, negsuc, Bool, true, ◌&&◌, List, [], ◌∷◌, ◌++◌, length, map, take, unsigned_abs, IsTrue, refl, sym, ap, ◌∙◌, subst, append-nil, arith}
+use Rattle.std.proofs.Common.{◌≡◌, ℕ, zero, suc, ◌*◌, ◌≤◌, ℤ, pos, negsuc, true, List, [], ◌∷◌, ◌++◌, length, map, take, unsigned_abs, IsTrue, refl, sym, ap, ◌∙◌, subst, append-nil, arith}
 use Rattle.std.specs.Prelude.{flat_map}
 use Rattle.std.specs.List.{list_all}
 use Rattle.std.proofs.lemmas.Bool.{and_parts, and_from}
@@ -14,7 +14,7 @@ use Rattle.aid_books.specs.declared.marginal.Bracket.{Bracket}
 use Rattle.filing_kinds.specs.Kinds.{age_slots, bracket_slots, business_slots, one}
 use Rattle.filing_kinds.specs.declared.field.Form.TheVariants.{Count}
 use Rattle.filing_kinds.specs.Layout.{AreNumbers, plain, rows, rows_again}
-use Rattle.filing_kinds.specs.Limits.{before, fits}
+use Rattle.filing_kinds.specs.Limits.{fits}
 use Rattle.filing_kinds.specs.declared.field.Limit.{Limit}
 use Rattle.filing_kinds.specs.declared.field.Limit.TheVariants.{Between}
 use Rattle.filing_kinds.specs.Parts.{Line, Slot}

@@ -1,5 +1,5 @@
 -- What is left of a book's numbers behind each of its parts.
-use Rattle.std.proofs.Common.{◌≡◌, ℕ, ◌+◌, ℤ, pos, List, [], ◌∷◌, ◌++◌, length, refl, sym, ap, ◌∙◌, subst, append_assoc, arith}
+use Rattle.std.proofs.Common.{◌≡◌, ℕ, ◌+◌, ℤ, pos, List, [], ◌∷◌, ◌++◌, length, refl, ap, ◌∙◌, subst, append_assoc, arith}
 use Rattle.std.proofs.lemmas.List.{length-append}
 use Rattle.aid_books.specs.declared.ages.AgeRow.{AgeRow}
 use Rattle.aid_books.specs.declared.book.AssetRates.{AssetRates}
@@ -10,12 +10,13 @@ use Rattle.aid_books.specs.declared.book.Percents.{Percents}
 use Rattle.aid_books.specs.declared.book.Poverty.{Poverty}
 use Rattle.aid_books.specs.declared.book.Protection.{Protection}
 use Rattle.aid_books.specs.declared.book.Schedule.{Schedule}
+use Rattle.aid_books.specs.declared.by_size.BySize.{BySize}
 use Rattle.aid_books.specs.declared.marginal.Bracket.{Bracket}
 use Rattle.book_numbers.proofs.Amounts.{length-extra}
 use Rattle.book_numbers.proofs.Behind.{behind_plains, left_behind, left_behind_age, left_behind_business, next_of, onto}
-use Rattle.book_numbers.specs.Book.{AreBookNumbers, age_numbers, allowance_numbers, asset_numbers, bracket_numbers, employment_numbers, guideline_numbers, payroll_numbers, pell_numbers, percent_numbers, poverty_numbers, protection_numbers, schedule_numbers}
-use Rattle.book_numbers.specs.Sections.{AreLast, AreLeft, HasAllowances, HasGuidelines, IsNext, start_slots}
-use Rattle.filing_kinds.specs.Kinds.{age_slots, asset_slots, book_slots, bracket_slots, business_slots, employment_slots, payroll_slots, pell_slots, percent_slots, poverty_slots, protection_slots, schedule_slots}
+use Rattle.book_numbers.specs.Book.{AreBookNumbers, age_numbers, asset_numbers, bracket_numbers, employment_numbers, payroll_numbers, pell_numbers, percent_numbers, poverty_numbers, protection_numbers, schedule_numbers, size_numbers}
+use Rattle.book_numbers.specs.Sections.{AreLast, AreLeft, IsNext, start_slots}
+use Rattle.filing_kinds.specs.Kinds.{age_slots, asset_slots, bracket_slots, business_slots, employment_slots, payroll_slots, pell_slots, percent_slots, poverty_slots, protection_slots, schedule_slots}
 use Rattle.filing_kinds.specs.Layout.{AreNumbers}
 use Rattle.filing_kinds.specs.Parts.{Slot}
 
@@ -54,27 +55,27 @@ pub book_left : (zs : List ℤ) → AreBookNumbers zs → AreLeft (start_slots +
 unfolding after_year after_pell after_percent after_poverty after_payroll after_protection after_employment after_assets after_business after_age
 book_left zs h = record { earlier = h.0; numbers = h.1 }
 
-pub length-guideline : (xs : List ℤ) (extra : ℤ) (n : ℕ) → length xs ≡ n → length (xs ++ (extra ∷ [])) ≡ n + 1
-length-guideline xs extra n e = length-extra n xs extra e
-
 -- how many numbers the fixed parts with lists have
-pub length-poverty : (x : Poverty) → HasGuidelines x → length (poverty_numbers x) ≡ 27
-length-poverty x h =
-    let a = length-extra 8 x.contiguous.sizes x.contiguous.extra h.contiguous in
-    let b = length-extra 8 x.alaska.sizes x.alaska.extra h.alaska in
-    let c = length-extra 8 x.hawaii.sizes x.hawaii.extra h.hawaii in
-    let d = length-append (guideline_numbers x.contiguous) (guideline_numbers x.alaska ++ guideline_numbers x.hawaii) in
-    let e = length-append (guideline_numbers x.alaska) (guideline_numbers x.hawaii) in
+pub length-size_numbers : {first count : ℕ} (x : BySize first count) → length (size_numbers x) ≡ count + 1
+length-size_numbers {first} {count} x = length-extra count x.sizes x.extra x.sizes_counted
+
+pub length-poverty : (x : Poverty) → length (poverty_numbers x) ≡ 27
+length-poverty x =
+    let a = length-size_numbers x.contiguous in
+    let b = length-size_numbers x.alaska in
+    let c = length-size_numbers x.hawaii in
+    let d = length-append (size_numbers x.contiguous) (size_numbers x.alaska ++ size_numbers x.hawaii) in
+    let e = length-append (size_numbers x.alaska) (size_numbers x.hawaii) in
     omega arith
 
-pub length-protection : (x : Protection) → HasAllowances x → length (protection_numbers x) ≡ 21
-length-protection x h =
-    let a = length-extra 5 x.parents.sizes x.parents.extra h.parents in
-    let b = length-extra 5 x.single_parent.sizes x.single_parent.extra h.single_parent in
-    let c = length-extra 5 x.married_parent.sizes x.married_parent.extra h.married_parent in
-    let rest = x.dependent_student ∷ x.single_student ∷ x.married_student ∷ (allowance_numbers x.single_parent ++ allowance_numbers x.married_parent) in
-    let d = length-append (allowance_numbers x.parents) rest in
-    let e = length-append (allowance_numbers x.single_parent) (allowance_numbers x.married_parent) in
+pub length-protection : (x : Protection) → length (protection_numbers x) ≡ 21
+length-protection x =
+    let a = length-size_numbers x.parents in
+    let b = length-size_numbers x.single_parent in
+    let c = length-size_numbers x.married_parent in
+    let rest = x.dependent_student ∷ x.single_student ∷ x.married_student ∷ (size_numbers x.single_parent ++ size_numbers x.married_parent) in
+    let d = length-append (size_numbers x.parents) rest in
+    let e = length-append (size_numbers x.single_parent) (size_numbers x.married_parent) in
     omega arith
 
 pub next_year : (zs : List ℤ) → AreLeft (start_slots ++ after_year) zs → IsNext start_slots zs
@@ -103,9 +104,9 @@ pub next_poverty : (zs : List ℤ) → AreLeft after_percent zs → IsNext pover
 unfolding after_percent
 next_poverty zs left = next_of poverty_slots after_poverty zs left
 
-pub left_poverty : (zs ys : List ℤ) (x : Poverty) → HasGuidelines x → AreLeft after_percent zs → zs ≡ poverty_numbers x ++ ys → AreLeft after_poverty ys
+pub left_poverty : (zs ys : List ℤ) (x : Poverty) → AreLeft after_percent zs → zs ≡ poverty_numbers x ++ ys → AreLeft after_poverty ys
 unfolding after_percent
-left_poverty zs ys x h left e = left_behind poverty_slots after_poverty zs (poverty_numbers x) ys refl (length-poverty x h) left e
+left_poverty zs ys x left e = left_behind poverty_slots after_poverty zs (poverty_numbers x) ys refl (length-poverty x) left e
 
 pub next_payroll : (zs : List ℤ) → AreLeft after_poverty zs → IsNext payroll_slots zs
 unfolding after_poverty
@@ -119,9 +120,9 @@ pub next_protection : (zs : List ℤ) → AreLeft after_payroll zs → IsNext pr
 unfolding after_payroll
 next_protection zs left = next_of protection_slots after_protection zs left
 
-pub left_protection : (zs ys : List ℤ) (x : Protection) → HasAllowances x → AreLeft after_payroll zs → zs ≡ protection_numbers x ++ ys → AreLeft after_protection ys
+pub left_protection : (zs ys : List ℤ) (x : Protection) → AreLeft after_payroll zs → zs ≡ protection_numbers x ++ ys → AreLeft after_protection ys
 unfolding after_payroll
-left_protection zs ys x h left e = left_behind protection_slots after_protection zs (protection_numbers x) ys refl (length-protection x h) left e
+left_protection zs ys x left e = left_behind protection_slots after_protection zs (protection_numbers x) ys refl (length-protection x) left e
 
 pub next_employment : (zs : List ℤ) → AreLeft after_protection zs → IsNext employment_slots zs
 unfolding after_protection

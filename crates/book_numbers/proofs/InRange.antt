@@ -1,5 +1,5 @@
 -- The numbers of a book are in range.
-use Rattle.std.proofs.Common.{◌≡◌, ℕ, zero, suc, ◌≤◌, ℤ, pos, ◌≤ℤ◌, int_le, int_lt, Bool, true, ◌&&◌, List, [], ◌∷◌, ◌++◌, length, IsTrue, Some, option_map, codes, refl, sym, ap, ◌∙◌, subst, append-nil, neg_ℤ, unsigned_abs, arith}
+use Rattle.std.proofs.Common.{◌≡◌, ℕ, zero, suc, ◌≤◌, ℤ, pos, int_le, int_lt, true, ◌&&◌, List, [], ◌∷◌, ◌++◌, length, IsTrue, Some, option_map, codes, refl, sym, subst, append-nil, neg_ℤ, unsigned_abs, arith}
 use Rattle.std.specs.Prelude.{flat_map, slice_get}
 use Rattle.std.specs.List.{All, list_all}
 use Rattle.std.specs.Ordering.{int_eq}
@@ -13,11 +13,10 @@ use Rattle.aid_books.specs.Ages.{IsAgeRow, IsByAge, rises_from}
 use Rattle.aid_books.specs.Marginal.{IsBracket, IsMarginal, goes_on, row_value}
 use Rattle.aid_books.specs.declared.ages.AgeRow.{AgeRow}
 use Rattle.aid_books.proofs.RangeLemmas.{is_amount-true}
-use Rattle.aid_books.specs.declared.book.Allowance.{Allowance}
+use Rattle.aid_books.specs.declared.by_size.BySize.{BySize}
 use Rattle.aid_books.specs.declared.book.AssetRates.{AssetRates}
 use Rattle.aid_books.specs.declared.book.Book.{Book}
 use Rattle.aid_books.specs.declared.book.Employment.{Employment}
-use Rattle.aid_books.specs.declared.book.Guideline.{Guideline}
 use Rattle.aid_books.specs.declared.book.Payroll.{Payroll}
 use Rattle.aid_books.specs.declared.book.PellFigures.{PellFigures}
 use Rattle.aid_books.specs.declared.book.Percents.{Percents}
@@ -30,8 +29,8 @@ use Rattle.book_numbers.proofs.Behind.{onto}
 use Rattle.book_numbers.proofs.Chain.{after_age, after_assets, after_business, after_employment, after_payroll, after_pell, after_percent, after_poverty, after_protection, after_year, length-poverty, length-protection}
 use Rattle.book_numbers.proofs.Plain.{empty_lines, is_plain}
 use Rattle.book_numbers.proofs.RowsOf.{age_lines, bracket_lines}
-use Rattle.book_numbers.specs.Book.{age_numbers, age_row, allowance_numbers, asset_numbers, bracket_numbers, bracket_row, employment_numbers, guideline_numbers, numbers_of, payroll_numbers, pell_numbers, percent_numbers, poverty_numbers, protection_numbers, schedule_numbers}
-use Rattle.book_numbers.specs.Sections.{HasLengths, start_slots}
+use Rattle.book_numbers.specs.Book.{age_numbers, age_row, asset_numbers, bracket_numbers, bracket_row, employment_numbers, numbers_of, payroll_numbers, pell_numbers, percent_numbers, poverty_numbers, protection_numbers, schedule_numbers, size_numbers}
+use Rattle.book_numbers.specs.Sections.{start_slots}
 use Rattle.filing_kinds.specs.Kinds.{age_slots, asset_slots, book_slots, bracket_slots, business_slots, employment_slots, payroll_slots, pell_slots, percent_slots, poverty_slots, protection_slots, schedule_slots}
 use Rattle.filing_kinds.specs.declared.field.Limit.{Limit}
 use Rattle.filing_kinds.specs.Layout.{AreNumbers, rows, rows_again}
@@ -177,25 +176,22 @@ each_one x h = and_from (is_amount x) true (is_amount-true x h) refl
 each_more : (x : ℤ) (xs : List ℤ) → IsAmount x → EachIsAmount xs → EachIsAmount (x ∷ xs)
 each_more x xs h k = and_from (is_amount x) (list_all is_amount xs) (is_amount-true x h) k
 
-guideline_amounts : (x : Guideline) → EachIsAmount (guideline_numbers x)
-guideline_amounts x = each_append x.sizes (x.extra ∷ []) x.sizes_in_range (each_one x.extra x.extra_in_range)
+size_amounts : {first count : ℕ} (x : BySize first count) → EachIsAmount (size_numbers x)
+size_amounts x = each_append x.sizes (x.extra ∷ []) x.sizes_in_range (each_one x.extra x.extra_in_range)
 
 poverty_amounts : (x : Poverty) → EachIsAmount (poverty_numbers x)
 poverty_amounts x =
-    each_append (guideline_numbers x.contiguous) (guideline_numbers x.alaska ++ guideline_numbers x.hawaii) (guideline_amounts x.contiguous)
-    (each_append (guideline_numbers x.alaska) (guideline_numbers x.hawaii) (guideline_amounts x.alaska) (guideline_amounts x.hawaii))
-
-allowance_amounts : (x : Allowance) → EachIsAmount (allowance_numbers x)
-allowance_amounts x = each_append x.sizes (x.extra ∷ []) x.sizes_in_range (each_one x.extra x.extra_in_range)
+    each_append (size_numbers x.contiguous) (size_numbers x.alaska ++ size_numbers x.hawaii) (size_amounts x.contiguous)
+    (each_append (size_numbers x.alaska) (size_numbers x.hawaii) (size_amounts x.alaska) (size_amounts x.hawaii))
 
 protection_amounts : (x : Protection) → EachIsAmount (protection_numbers x)
 protection_amounts x =
-    let rest = allowance_numbers x.single_parent ++ allowance_numbers x.married_parent in
-    each_append (allowance_numbers x.parents) (x.dependent_student ∷ x.single_student ∷ x.married_student ∷ rest) (allowance_amounts x.parents)
+    let rest = size_numbers x.single_parent ++ size_numbers x.married_parent in
+    each_append (size_numbers x.parents) (x.dependent_student ∷ x.single_student ∷ x.married_student ∷ rest) (size_amounts x.parents)
     (each_more x.dependent_student (x.single_student ∷ x.married_student ∷ rest) x.in_range.0
     (each_more x.single_student (x.married_student ∷ rest) x.in_range.1
     (each_more x.married_student rest x.in_range.2
-    (each_append (allowance_numbers x.single_parent) (allowance_numbers x.married_parent) (allowance_amounts x.single_parent) (allowance_amounts x.married_parent)))))
+    (each_append (size_numbers x.single_parent) (size_numbers x.married_parent) (size_amounts x.single_parent) (size_amounts x.married_parent)))))
 
 start_put : (year : ℕ) (slots : List Slot) (earlier zs : List ℤ) → IsBetween 2000 2099 year → AreNumbers slots (pos year ∷ pos 1 ∷ earlier) zs → AreNumbers (start_slots ++ slots) earlier (pos 1 ∷ pos year ∷ zs)
 start_put year slots earlier zs h n = (refl, (between (pos 2000) (pos 2099) (pos year) (omega (arith, ints, h.0), omega (arith, ints, h.1)), n))
@@ -282,10 +278,10 @@ last_put : (rows : List Bracket) (earlier : List ℤ) → IsBracketList rows →
 last_put rows earlier h base =
     subst (λ (zs : List ℤ). AreNumbers bracket_slots earlier zs) (append-nil (bracket_numbers rows)) (bracket_put rows [] earlier [] h.few h.in_range h.marginal base tt)
 
-pub book_in_range : (b : Book) → HasLengths b → IsBetween 2000 2099 b.year → IsBracketList b.business → IsAgeList b.age → IsBracketList b.bracket
+pub book_in_range : (b : Book) → IsBetween 2000 2099 b.year → IsBracketList b.business → IsAgeList b.age → IsBracketList b.bracket
     → (earlier : List ℤ) → AreNumbers book_slots earlier (numbers_of b)
 unfolding numbers_of after_year after_pell after_percent after_poverty after_payroll after_protection after_employment after_assets after_business after_age
-book_in_range b lengths year business age bracket earlier =
+book_in_range b year business age bracket earlier =
     let e0 = pos b.year ∷ pos 1 ∷ earlier in
     let e1 = onto (pell_numbers b.pell) e0 in
     let e2 = onto (percent_numbers b.percent) e1 in
@@ -311,9 +307,9 @@ book_in_range b lengths year business age bracket earlier =
     start_put b.year after_year earlier z0 year (
     pell_put b.pell after_pell e0 z1 (
     percent_put b.percent after_percent e1 z2 (
-    amounts_put poverty_slots after_poverty e2 (poverty_numbers b.poverty) z3 refl (length-poverty b.poverty lengths.poverty) (poverty_amounts b.poverty) (
+    amounts_put poverty_slots after_poverty e2 (poverty_numbers b.poverty) z3 refl (length-poverty b.poverty) (poverty_amounts b.poverty) (
     payroll_put b.payroll after_payroll e3 z4 (
-    amounts_put protection_slots after_protection e4 (protection_numbers b.protection) z5 refl (length-protection b.protection lengths.protection) (protection_amounts b.protection) (
+    amounts_put protection_slots after_protection e4 (protection_numbers b.protection) z5 refl (length-protection b.protection) (protection_amounts b.protection) (
     employment_put b.employment after_employment e5 z6 (
     asset_put b.assets after_assets e6 z7 (
     business_put b.business after_business e7 z8 business.few business.in_range business.marginal b.business_over b.business_base (

@@ -1,12 +1,11 @@
 -- The rows of tables among the numbers of a book.
-use Rattle.std.proofs.Common.{◌≡◌, ℕ, zero, suc, ◌+◌, ◌*◌, ◌≤◌, ◌<◌, ℤ, pos, negsuc, ◌≤ℤ◌, int_le, int_lt, Bool, true, false, ◌&&◌, List, [], ◌∷◌, ◌++◌, length, map, take, unsigned_abs, IsTrue, Some, option_map, codes, refl, sym, ap, ◌∙◌, subst, append_assoc, arith}
+use Rattle.std.proofs.Common.{◌≡◌, ℕ, zero, suc, ℤ, pos, ◌≤ℤ◌, int_le, int_lt, true, ◌&&◌, List, [], ◌∷◌, ◌++◌, length, Some, option_map, codes, refl, ap, arith}
 use Rattle.std.specs.Prelude.{flat_map, slice_get}
-use Rattle.std.specs.List.{All, list_all}
+use Rattle.std.specs.List.{All}
 use Rattle.std.specs.Ordering.{int_eq}
 use Rattle.std.proofs.lemmas.Bool.{and_parts, and_from}
 use Rattle.std.proofs.lemmas.Bool.Decides.{Decides-int_eq}
 use Rattle.std.proofs.lemmas.Int.{ints}
-use Rattle.std.proofs.lemmas.List.{length-append, length-map}
 use Rattle.aid_num.specs.Nearest.{share}
 use Rattle.aid_types.specs.Ranges.{IsWithin}
 use Rattle.aid_books.specs.Ages.{IsAgeRow, IsByAge, rises_from}
@@ -17,10 +16,10 @@ use Rattle.book_numbers.proofs.Plain.{is_within}
 use Rattle.book_numbers.specs.Book.{age_numbers, age_row, bracket_numbers, bracket_row}
 use Rattle.filing_kinds.specs.Kinds.{age_slots, amount, bracket_slots, business_slots, line, rate}
 use Rattle.filing_kinds.specs.Layout.{AreNumbers, rows, rows_again}
-use Rattle.filing_kinds.specs.Limits.{before, fits, is_between}
+use Rattle.filing_kinds.specs.Limits.{before, is_between}
 use Rattle.filing_kinds.specs.Parts.{Line, Slot}
 use Rattle.filing_kinds.specs.declared.field.Form.TheVariants.{I64}
-use Rattle.filing_kinds.specs.declared.field.Limit.TheVariants.{Between, UpToLast, AboveRow, Continues, Begins}
+use Rattle.filing_kinds.specs.declared.field.Limit.TheVariants.{AboveRow, Continues}
 
 all_none : {X : Type 0} (P : X → Type 0) → All P []
 all_none P k d h = absurd (omega (arith, h))

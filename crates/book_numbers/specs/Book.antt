@@ -1,12 +1,11 @@
 -- The numbers of a book, in the order of its fields. A fixed list is its numbers; a table is its count of rows, and then its
 -- rows one after the other. Own format.
-use Rattle.std.specs.Prelude.{ℤ, pos, List, [], ◌∷◌, ◌++◌, length, flat_map}
+use Rattle.std.specs.Prelude.{ℕ, ℤ, pos, List, [], ◌∷◌, ◌++◌, length, flat_map}
 use Rattle.aid_books.specs.declared.ages.AgeRow.{AgeRow}
-use Rattle.aid_books.specs.declared.book.Allowance.{Allowance}
 use Rattle.aid_books.specs.declared.book.AssetRates.{AssetRates}
 use Rattle.aid_books.specs.declared.book.Book.{Book}
 use Rattle.aid_books.specs.declared.book.Employment.{Employment}
-use Rattle.aid_books.specs.declared.book.Guideline.{Guideline}
+use Rattle.aid_books.specs.declared.by_size.BySize.{BySize}
 use Rattle.aid_books.specs.declared.book.Payroll.{Payroll}
 use Rattle.aid_books.specs.declared.book.PellFigures.{PellFigures}
 use Rattle.aid_books.specs.declared.book.Percents.{Percents}
@@ -25,22 +24,20 @@ percent_numbers x =
     x.maximum_single ∷ x.maximum_other ∷ x.minimum_dependent_single ∷ x.minimum_dependent_other ∷ x.minimum_single_parent ∷ x.minimum_parent
     ∷ x.minimum_no_dependents ∷ []
 
-abbrev pub guideline_numbers : Guideline → List ℤ
-guideline_numbers x = x.sizes ++ (x.extra ∷ [])
+-- amounts by size of family
+abbrev pub size_numbers : {first count : ℕ} → BySize first count → List ℤ
+size_numbers x = x.sizes ++ (x.extra ∷ [])
 
 abbrev pub poverty_numbers : Poverty → List ℤ
-poverty_numbers x = guideline_numbers x.contiguous ++ (guideline_numbers x.alaska ++ guideline_numbers x.hawaii)
+poverty_numbers x = size_numbers x.contiguous ++ (size_numbers x.alaska ++ size_numbers x.hawaii)
 
 abbrev pub payroll_numbers : Payroll → List ℤ
 payroll_numbers x = x.oasdi_cap ∷ x.oasdi_rate ∷ x.medicare_rate ∷ x.medicare_high ∷ x.threshold_single ∷ x.threshold_married ∷ []
 
-abbrev pub allowance_numbers : Allowance → List ℤ
-allowance_numbers x = x.sizes ++ (x.extra ∷ [])
-
 abbrev pub protection_numbers : Protection → List ℤ
 protection_numbers x =
-    allowance_numbers x.parents ++ (x.dependent_student ∷ x.single_student ∷ x.married_student
-    ∷ (allowance_numbers x.single_parent ++ allowance_numbers x.married_parent))
+    size_numbers x.parents ++ (x.dependent_student ∷ x.single_student ∷ x.married_student
+    ∷ (size_numbers x.single_parent ++ size_numbers x.married_parent))
 
 abbrev pub employment_numbers : Employment → List ℤ
 employment_numbers x = x.cap ∷ x.rate ∷ []

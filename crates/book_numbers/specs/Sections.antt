@@ -1,9 +1,6 @@
 -- What is known of numbers of which a part is read next.
-use Rattle.std.specs.Prelude.{ℕ, zero, suc, ℤ, pos, codes, Bool, true, false, ◌&&◌, List, [], ◌∷◌, ◌++◌, length, ◌≡◌, IsTrue}
+use Rattle.std.specs.Prelude.{ℕ, zero, suc, ℤ, pos, codes, Bool, true, false, ◌&&◌, List, [], ◌∷◌, ◌++◌, ◌≡◌, IsTrue}
 use Rattle.aid_types.specs.Ranges.{is_amount}
-use Rattle.aid_books.specs.declared.book.Book.{Book}
-use Rattle.aid_books.specs.declared.book.Poverty.{Poverty}
-use Rattle.aid_books.specs.declared.book.Protection.{Protection}
 use Rattle.filing_kinds.specs.Kinds.{bracket_slots, one}
 use Rattle.filing_kinds.specs.Layout.{AreNumbers}
 use Rattle.filing_kinds.specs.Limits.{before}
@@ -24,21 +21,6 @@ are_amounts (suc n) (z ∷ zs) = is_amount z && are_amounts n zs
 
 abbrev pub AreAmounts : ℕ → List ℤ → Type 0
 AreAmounts n zs = IsTrue (are_amounts n zs)
-
--- the lists of a book are as long as its type says
-pub record HasGuidelines (x : Poverty) : Type 0 where
-  pub contiguous : length x.contiguous.sizes ≡ 8
-  pub alaska : length x.alaska.sizes ≡ 8
-  pub hawaii : length x.hawaii.sizes ≡ 8
-
-pub record HasAllowances (x : Protection) : Type 0 where
-  pub parents : length x.parents.sizes ≡ 5
-  pub single_parent : length x.single_parent.sizes ≡ 5
-  pub married_parent : length x.married_parent.sizes ≡ 5
-
-pub record HasLengths (b : Book) : Type 0 where
-  pub poverty : HasGuidelines b.poverty
-  pub protection : HasAllowances b.protection
 
 -- they are numbers for these fields, after some others, and none is left over
 pub record AreLeft (slots : List Slot) (zs : List ℤ) : Type 0 where

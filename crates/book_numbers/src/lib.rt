@@ -7,4 +7,5 @@ mod read;
 mod section;
 mod tables;
 
+pub use put::put_book;
 pub use read::book_of_numbers;

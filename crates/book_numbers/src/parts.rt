@@ -1,14 +1,13 @@
 //! The parts of a book, each read from the front of the numbers that are left.
-ghost use Rattle.std.specs.Prelude.{◌≡◌, ◌∷◌, [], ◌++◌, length, pos};
+ghost use Rattle.std.specs.Prelude.{◌≡◌, ◌+◌, ◌∷◌, [], ◌++◌, length, pos};
 ghost use Rattle.aid_types.specs.Ranges.{EachIsAmount};
-ghost use Rattle.book_numbers.specs.Book.{allowance_numbers, asset_numbers, employment_numbers, guideline_numbers, payroll_numbers, pell_numbers, percent_numbers, poverty_numbers, protection_numbers, schedule_numbers};
-ghost use Rattle.book_numbers.specs.Sections.{AreAmounts, HasAllowances, HasGuidelines, IsNext, start_slots};
+ghost use Rattle.book_numbers.specs.Book.{asset_numbers, employment_numbers, payroll_numbers, pell_numbers, percent_numbers, poverty_numbers, protection_numbers, schedule_numbers, size_numbers};
+ghost use Rattle.book_numbers.specs.Sections.{AreAmounts, IsNext, start_slots};
 ghost use Rattle.filing_kinds.specs.Kinds.{asset_slots, employment_slots, payroll_slots, pell_slots, percent_slots, poverty_slots, protection_slots, schedule_slots};
 
 use crate::section::Section;
 use aid_books::{
-    Allowance, AssetRates, Employment, Guideline, Payroll, PellFigures, Percents, Poverty,
-    Protection, Schedule,
+    AssetRates, BySize, Employment, Payroll, PellFigures, Percents, Poverty, Protection, Schedule,
 };
 use aid_types::Year;
 
@@ -106,34 +105,23 @@ pub fn schedule(section: &mut Section) -> Schedule
     }
 }
 
-// The amounts that come next.
-fn amounts<const N: usize>(section: &mut Section) -> [i64; N]
-    requires { AreAmounts N section.old }
-    ensures numbers { section.old ≡ result ++ section.new }
-    ensures in_range { EachIsAmount result }
-    ensures count { length result ≡ N }
+// So many amounts by size of family, and what each further member adds.
+fn by_size<const FIRST: u8, const COUNT: usize>(section: &mut Section) -> BySize<FIRST, COUNT>
+    requires { AreAmounts (COUNT + 1) section.old }
+    ensures { section.old ≡ size_numbers result ++ section.new }
 {
-    section.take::<N>()
-}
-
-fn guideline(section: &mut Section) -> Guideline
-    requires { AreAmounts 9 section.old }
-    ensures numbers { section.old ≡ guideline_numbers result ++ section.new }
-    ensures count { length result.sizes ≡ 8 }
-{
-    let sizes = amounts::<8>(section);
-    let [extra] = amounts::<1>(section);
-    Guideline { sizes, extra }
+    let sizes = section.take::<COUNT>();
+    let [extra] = section.take::<1>();
+    BySize { sizes, extra }
 }
 
 pub fn poverty(section: &mut Section) -> Poverty
     requires { IsNext poverty_slots section.old }
-    ensures numbers { section.old ≡ poverty_numbers result ++ section.new }
-    ensures counts { HasGuidelines result }
+    ensures { section.old ≡ poverty_numbers result ++ section.new }
 {
-    let contiguous = guideline(section);
-    let alaska = guideline(section);
-    let hawaii = guideline(section);
+    let contiguous = by_size(section);
+    let alaska = by_size(section);
+    let hawaii = by_size(section);
     Poverty {
         contiguous,
         alaska,
@@ -141,25 +129,24 @@ pub fn poverty(section: &mut Section) -> Poverty
     }
 }
 
-fn allowance(section: &mut Section) -> Allowance
-    requires { AreAmounts 6 section.old }
-    ensures numbers { section.old ≡ allowance_numbers result ++ section.new }
-    ensures count { length result.sizes ≡ 5 }
+// Three amounts.
+fn amounts(section: &mut Section) -> [i64; 3]
+    requires { AreAmounts 3 section.old }
+    ensures numbers { section.old ≡ result ++ section.new }
+    ensures in_range { EachIsAmount result }
+    ensures count { length result ≡ 3 }
 {
-    let sizes = amounts::<5>(section);
-    let [extra] = amounts::<1>(section);
-    Allowance { sizes, extra }
+    section.take::<3>()
 }
 
 pub fn protection(section: &mut Section) -> Protection
     requires { IsNext protection_slots section.old }
-    ensures numbers { section.old ≡ protection_numbers result ++ section.new }
-    ensures counts { HasAllowances result }
+    ensures { section.old ≡ protection_numbers result ++ section.new }
 {
-    let parents = allowance(section);
-    let [dependent_student, single_student, married_student] = amounts::<3>(section);
-    let single_parent = allowance(section);
-    let married_parent = allowance(section);
+    let parents = by_size(section);
+    let [dependent_student, single_student, married_student] = amounts(section);
+    let single_parent = by_size(section);
+    let married_parent = by_size(section);
     Protection {
         parents,
         dependent_student,

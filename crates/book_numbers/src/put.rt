@@ -1,14 +1,13 @@
 //! The numbers of a book, put behind others.
 ghost use Rattle.std.specs.Prelude.{◌≡◌, ◌≤◌, ◌+◌, ◌∷◌, [], ◌++◌, ℤ, List, flat_map, length, pos};
 ghost use Rattle.arrayvec.specs.ArrayVec.{array_vec_len};
-ghost use Rattle.book_numbers.specs.Book.{age_numbers, age_row, allowance_numbers, asset_numbers, bracket_numbers, bracket_row, employment_numbers, guideline_numbers, numbers_of, payroll_numbers, pell_numbers, percent_numbers, poverty_numbers, protection_numbers, schedule_numbers};
-ghost use Rattle.book_numbers.specs.Sections.{HasAllowances, HasGuidelines, HasLengths};
+ghost use Rattle.book_numbers.specs.Book.{age_numbers, age_row, asset_numbers, bracket_numbers, bracket_row, employment_numbers, numbers_of, payroll_numbers, pell_numbers, percent_numbers, poverty_numbers, protection_numbers, schedule_numbers, size_numbers};
 ghost use Rattle.filing_kinds.specs.Kinds.{book_slots};
 ghost use Rattle.filing_kinds.specs.Layout.{AreNumbers};
 
 use aid_books::{
-    AgeRow, Allowance, AssetRates, Book, Bracket, Employment, Guideline, Payroll, PellFigures,
-    Percents, Poverty, Protection, Schedule,
+    AgeRow, AssetRates, Book, Bracket, BySize, Employment, Payroll, PellFigures, Percents, Poverty,
+    Protection, Schedule,
 };
 use filing_kinds::Numbers;
 
@@ -48,25 +47,26 @@ fn put_percents(percent: &Percents, numbers: &mut Numbers)
     );
 }
 
-fn put_guideline(guideline: &Guideline, numbers: &mut Numbers)
-    requires { array_vec_len numbers.old + 9 ≤ 369 }
-    ensures added { numbers.new.items ≡ numbers.old.items ++ guideline_numbers guideline.now }
-    ensures count { array_vec_len numbers.new ≡ array_vec_len numbers.old + 9 }
-    ensures length { length guideline.now.sizes ≡ 8 }
+fn put_by_size<const FIRST: u8, const COUNT: usize>(
+    by_size: &BySize<FIRST, COUNT>,
+    numbers: &mut Numbers,
+)
+    requires { array_vec_len numbers.old + (COUNT + 1) ≤ 369 }
+    ensures added { numbers.new.items ≡ numbers.old.items ++ size_numbers by_size.now }
+    ensures count { array_vec_len numbers.new ≡ array_vec_len numbers.old + (COUNT + 1) }
 {
-    put(&guideline.sizes, numbers);
-    numbers.push(guideline.extra);
+    put(&by_size.sizes, numbers);
+    numbers.push(by_size.extra);
 }
 
 fn put_poverty(poverty: &Poverty, numbers: &mut Numbers)
     requires { array_vec_len numbers.old + 27 ≤ 369 }
     ensures added { numbers.new.items ≡ numbers.old.items ++ poverty_numbers poverty.now }
     ensures count { array_vec_len numbers.new ≡ array_vec_len numbers.old + 27 }
-    ensures lengths { HasGuidelines poverty.now }
 {
-    put_guideline(&poverty.contiguous, numbers);
-    put_guideline(&poverty.alaska, numbers);
-    put_guideline(&poverty.hawaii, numbers);
+    put_by_size(&poverty.contiguous, numbers);
+    put_by_size(&poverty.alaska, numbers);
+    put_by_size(&poverty.hawaii, numbers);
 }
 
 fn put_payroll(payroll: &Payroll, numbers: &mut Numbers)
@@ -87,23 +87,12 @@ fn put_payroll(payroll: &Payroll, numbers: &mut Numbers)
     );
 }
 
-fn put_allowance(allowance: &Allowance, numbers: &mut Numbers)
-    requires { array_vec_len numbers.old + 6 ≤ 369 }
-    ensures added { numbers.new.items ≡ numbers.old.items ++ allowance_numbers allowance.now }
-    ensures count { array_vec_len numbers.new ≡ array_vec_len numbers.old + 6 }
-    ensures length { length allowance.now.sizes ≡ 5 }
-{
-    put(&allowance.sizes, numbers);
-    numbers.push(allowance.extra);
-}
-
 fn put_protection(protection: &Protection, numbers: &mut Numbers)
     requires { array_vec_len numbers.old + 21 ≤ 369 }
     ensures added { numbers.new.items ≡ numbers.old.items ++ protection_numbers protection.now }
     ensures count { array_vec_len numbers.new ≡ array_vec_len numbers.old + 21 }
-    ensures lengths { HasAllowances protection.now }
 {
-    put_allowance(&protection.parents, numbers);
+    put_by_size(&protection.parents, numbers);
     put(
         &[
             protection.dependent_student,
@@ -112,8 +101,8 @@ fn put_protection(protection: &Protection, numbers: &mut Numbers)
         ],
         numbers,
     );
-    put_allowance(&protection.single_parent, numbers);
-    put_allowance(&protection.married_parent, numbers);
+    put_by_size(&protection.single_parent, numbers);
+    put_by_size(&protection.married_parent, numbers);
 }
 
 fn put_employment(employment: &Employment, numbers: &mut Numbers)
@@ -203,7 +192,6 @@ pub fn put_book(book: &Book, numbers: &mut Numbers)
     ensures added { numbers.new.items ≡ numbers.old.items ++ numbers_of book.now }
     ensures in_range { (earlier : List ℤ) → AreNumbers book_slots earlier (numbers_of book.now) }
     ensures few { length (numbers_of book.now) ≤ 367 }
-    ensures lengths { HasLengths book.now }
 {
     put(&[1, i64::from(book.year.number())], numbers);
     put_pell_figures(&book.pell, numbers);

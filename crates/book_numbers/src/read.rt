@@ -2,7 +2,6 @@
 ghost use Rattle.std.specs.Prelude.{◌≡◌};
 ghost use Rattle.aid_books.specs.declared.book.Book.{Book};
 ghost use Rattle.book_numbers.specs.Book.{AreBookNumbers, numbers_of};
-ghost use Rattle.book_numbers.specs.Sections.{HasLengths};
 
 use crate::parts::{
     asset_rates, employment, payroll, pell_figures, percents, poverty, protection, schedule, year,
@@ -15,7 +14,7 @@ use aid_books::Book;
 pub fn book_of_numbers(numbers: &[i64]) -> Book
     requires { AreBookNumbers numbers.now }
     ensures value { numbers_of result ≡ numbers.now }
-    ensures lengths { HasLengths result }
+    ensures only { (b : Book) → numbers_of b ≡ numbers.now → b ≡ result }
 {
     let mut section = Section::new(numbers);
     let year = year(&mut section);

@@ -1,17 +1,14 @@
-use Rattle.std.proofs.Common.{refl, lit≤}
-use Rattle.book_numbers.specs.Book.{guideline_numbers}
-use Rattle.book_numbers.proofs.Amounts.{amounts_behind, fewer_amounts, length-extra, poverty_amounts}
+use Rattle.std.proofs.Common.{refl, lit≤, lit<}
+use Rattle.book_numbers.specs.Book.{size_numbers}
+use Rattle.book_numbers.proofs.Amounts.{amounts_behind, fewer_amounts, poverty_amounts}
+use Rattle.book_numbers.proofs.Chain.{length-size_numbers}
 use Rattle.book_numbers.proofs.parts.poverty.Goals as goal
 
-pub guideline-alaska-requires : goal.guideline-alaska-requires
-guideline-alaska-requires c =
-    let first = c.guideline-contiguous in
-    fewer_amounts 9 18 first.new.section (lit≤ tt) (
-    amounts_behind 9 18 27 c.args.section.now (guideline_numbers first.result) first.new.section first.ensures.numbers (length-extra 8 first.result.sizes first.result.extra first.ensures.count) refl (poverty_amounts c.args.section.now c.requires))
+pub by_size-contiguous-requires : goal.by_size-contiguous-requires
+by_size-contiguous-requires c = (lit< tt, fewer_amounts 9 27 c.args.section.now (lit≤ tt) (poverty_amounts c.args.section.now c.requires))
 
-pub guideline-hawaii-requires : goal.guideline-hawaii-requires
-guideline-hawaii-requires c =
-    let first = c.guideline-contiguous in
-    let second = c.guideline-alaska in
-    amounts_behind 9 9 18 first.new.section (guideline_numbers second.result) second.new.section second.ensures.numbers (length-extra 8 second.result.sizes second.result.extra second.ensures.count) refl (
-    amounts_behind 9 18 27 c.args.section.now (guideline_numbers first.result) first.new.section first.ensures.numbers (length-extra 8 first.result.sizes first.result.extra first.ensures.count) refl (poverty_amounts c.args.section.now c.requires))
+pub by_size-alaska-requires : goal.by_size-alaska-requires
+by_size-alaska-requires c = (lit< tt, fewer_amounts 9 18 c.by_size-contiguous.new.section (lit≤ tt) (amounts_behind 9 18 27 c.args.section.now (size_numbers c.by_size-contiguous.result) c.by_size-contiguous.new.section c.by_size-contiguous.ensures (length-size_numbers c.by_size-contiguous.result) refl (poverty_amounts c.args.section.now c.requires)))
+
+pub by_size-hawaii-requires : goal.by_size-hawaii-requires
+by_size-hawaii-requires c = (lit< tt, fewer_amounts 9 9 c.by_size-alaska.new.section (lit≤ tt) (amounts_behind 9 9 18 c.by_size-contiguous.new.section (size_numbers c.by_size-alaska.result) c.by_size-alaska.new.section c.by_size-alaska.ensures (length-size_numbers c.by_size-alaska.result) refl (amounts_behind 9 18 27 c.args.section.now (size_numbers c.by_size-contiguous.result) c.by_size-contiguous.new.section c.by_size-contiguous.ensures (length-size_numbers c.by_size-contiguous.result) refl (poverty_amounts c.args.section.now c.requires))))

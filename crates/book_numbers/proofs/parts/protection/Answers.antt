@@ -1,29 +1,17 @@
 use Rattle.std.proofs.Common.{refl, lit≤, lit<}
-use Rattle.book_numbers.specs.Book.{allowance_numbers}
-use Rattle.book_numbers.proofs.Amounts.{amounts_behind, fewer_amounts, length-extra, protection_amounts}
+use Rattle.book_numbers.specs.Book.{size_numbers}
+use Rattle.book_numbers.proofs.Amounts.{amounts_behind, fewer_amounts, protection_amounts}
+use Rattle.book_numbers.proofs.Chain.{length-size_numbers}
 use Rattle.book_numbers.proofs.parts.protection.Goals as goal
 
+pub by_size-parents-requires : goal.by_size-parents-requires
+by_size-parents-requires c = (lit< tt, fewer_amounts 6 21 c.args.section.now (lit≤ tt) (protection_amounts c.args.section.now c.requires))
+
 pub amounts-requires : goal.amounts-requires
-amounts-requires c =
-    let first = c.allowance-parents in (
-      lit< tt,
-      fewer_amounts 3 15 first.new.section (lit≤ tt) (
-          amounts_behind 6 15 21 c.args.section.now (allowance_numbers first.result) first.new.section first.ensures.numbers (length-extra 5 first.result.sizes first.result.extra first.ensures.count) refl (protection_amounts c.args.section.now c.requires)),
-    )
+amounts-requires c = fewer_amounts 3 15 c.by_size-parents.new.section (lit≤ tt) (amounts_behind 6 15 21 c.args.section.now (size_numbers c.by_size-parents.result) c.by_size-parents.new.section c.by_size-parents.ensures (length-size_numbers c.by_size-parents.result) refl (protection_amounts c.args.section.now c.requires))
 
-pub allowance-single_parent-requires : goal.allowance-single_parent-requires
-allowance-single_parent-requires c =
-    let first = c.allowance-parents in
-    let second = c.amounts in
-    fewer_amounts 6 12 second.new.section (lit≤ tt) (
-    amounts_behind 3 12 15 first.new.section second.result second.new.section second.ensures.numbers second.ensures.count refl (
-    amounts_behind 6 15 21 c.args.section.now (allowance_numbers first.result) first.new.section first.ensures.numbers (length-extra 5 first.result.sizes first.result.extra first.ensures.count) refl (protection_amounts c.args.section.now c.requires)))
+pub by_size-single_parent-requires : goal.by_size-single_parent-requires
+by_size-single_parent-requires c = (lit< tt, fewer_amounts 6 12 c.amounts.new.section (lit≤ tt) (amounts_behind 3 12 15 c.by_size-parents.new.section c.amounts.result c.amounts.new.section c.amounts.ensures.numbers c.amounts.ensures.count refl (amounts_behind 6 15 21 c.args.section.now (size_numbers c.by_size-parents.result) c.by_size-parents.new.section c.by_size-parents.ensures (length-size_numbers c.by_size-parents.result) refl (protection_amounts c.args.section.now c.requires))))
 
-pub allowance-married_parent-requires : goal.allowance-married_parent-requires
-allowance-married_parent-requires c =
-    let first = c.allowance-parents in
-    let second = c.amounts in
-    let third = c.allowance-single_parent in
-    amounts_behind 6 6 12 second.new.section (allowance_numbers third.result) third.new.section third.ensures.numbers (length-extra 5 third.result.sizes third.result.extra third.ensures.count) refl (
-    amounts_behind 3 12 15 first.new.section second.result second.new.section second.ensures.numbers second.ensures.count refl (
-    amounts_behind 6 15 21 c.args.section.now (allowance_numbers first.result) first.new.section first.ensures.numbers (length-extra 5 first.result.sizes first.result.extra first.ensures.count) refl (protection_amounts c.args.section.now c.requires)))
+pub by_size-married_parent-requires : goal.by_size-married_parent-requires
+by_size-married_parent-requires c = (lit< tt, fewer_amounts 6 6 c.by_size-single_parent.new.section (lit≤ tt) (amounts_behind 6 6 12 c.amounts.new.section (size_numbers c.by_size-single_parent.result) c.by_size-single_parent.new.section c.by_size-single_parent.ensures (length-size_numbers c.by_size-single_parent.result) refl (amounts_behind 3 12 15 c.by_size-parents.new.section c.amounts.result c.amounts.new.section c.amounts.ensures.numbers c.amounts.ensures.count refl (amounts_behind 6 15 21 c.args.section.now (size_numbers c.by_size-parents.result) c.by_size-parents.new.section c.by_size-parents.ensures (length-size_numbers c.by_size-parents.result) refl (protection_amounts c.args.section.now c.requires)))))

@@ -1,4 +1,4 @@
-use Rattle.std.proofs.Common.{◌≡◌, ◌+◌, ◌*◌, ◌∷◌, [], ◌++◌, flat_map, length, pos, take}
+use Rattle.std.proofs.Common.{◌≡◌, ◌+◌, ◌*◌, ◌++◌, flat_map, take}
 use Rattle.arrayvec.specs.ArrayVec.{array_vec_len}
 use Rattle.book_numbers.specs.Book.{age_row}
 use Rattle.book_numbers.proofs.put.put_ages.Given as goal

@@ -1,7 +1,5 @@
-use Rattle.std.proofs.Common.{◌≡◌, ◌≤◌, ◌∙◌, ◌∷◌, [], ◌++◌, All, ap, length, pos, subst, rules, arith}
+use Rattle.std.proofs.Common.{◌≡◌, ◌∙◌, ◌∷◌, [], ◌++◌, ap, length, pos, rules, arith}
 use Rattle.std.proofs.lemmas.List.{length-append}
-use Rattle.aid_books.specs.Ages.{IsAgeRow, IsByAge}
-use Rattle.aid_books.specs.Marginal.{IsBracket, IsMarginal}
 use Rattle.book_numbers.proofs.Chain.{all_put}
 use Rattle.book_numbers.proofs.InRange.{book_in_range}
 use Rattle.book_numbers.specs.Book.{age_numbers, asset_numbers, bracket_numbers, employment_numbers, numbers_of, payroll_numbers, pell_numbers, percent_numbers, poverty_numbers, protection_numbers, schedule_numbers}
@@ -17,7 +15,7 @@ returns-clause-added c =
 
 pub returns-clause-in_range : goal.returns-clause-in_range
 returns-clause-in_range c =
-    book_in_range c.args.book.now (record { poverty = c.put_poverty.ensures.lengths; protection = c.put_protection.ensures.lengths }) (let year = c.number.ensures.in_range in search rules)
+    book_in_range c.args.book.now (let year = c.number.ensures.in_range in search rules)
     (record { few = c.as_slice.ensures.few; in_range = c.as_slice.ensures.in_range; marginal = c.as_slice.ensures.marginal })
     (record { few = c.as_slice-2.ensures.few; in_range = c.as_slice-2.ensures.in_range; by_age = c.as_slice-2.ensures.by_age })
     (record { few = c.as_slice-3.ensures.few; in_range = c.as_slice-3.ensures.in_range; marginal = c.as_slice-3.ensures.marginal })

@@ -1,5 +1,5 @@
 use Rattle.std.proofs.Common.{take, length, ◌≤◌, arith}
-use Rattle.book_numbers.specs.Book.{age_numbers, age_row}
+use Rattle.book_numbers.specs.Book.{age_row}
 use Rattle.book_numbers.proofs.Behind.{age_counts, age_table, table_numbers}
 use Rattle.book_numbers.proofs.tables.age.Goals as goal
 

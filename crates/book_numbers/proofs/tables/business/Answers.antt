@@ -1,5 +1,5 @@
 use Rattle.std.proofs.Common.{take, length, ◌≤◌, arith}
-use Rattle.book_numbers.specs.Book.{bracket_numbers, bracket_row}
+use Rattle.book_numbers.specs.Book.{bracket_row}
 use Rattle.book_numbers.proofs.Behind.{business_counts, business_table, table_numbers}
 use Rattle.book_numbers.proofs.tables.business.Goals as goal
 
