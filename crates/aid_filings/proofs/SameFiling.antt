@@ -33,10 +33,10 @@ use Rattle.aid_filings.specs.contracts.filing.WithdrawFactsPartialEq.TheImpl.{eq
 use Rattle.aid_filings.specs.contracts.filing.WhatPartialEq.TheImpl.{eq-value as what_eq}
 use Rattle.aid_filings.specs.contracts.filing.FilingPartialEq.TheImpl.{eq-value as filing_eq, ghosts as filing_ghosts}
 
-school_facts_parts : SchoolFacts → ℕ × (ℕ × ℕ)
+unfoldable pub school_facts_parts : SchoolFacts → ℕ × (ℕ × ℕ)
 school_facts_parts s = (s.code, (s.terms, s.full))
 
-school_facts_whole : (x y : SchoolFacts) → school_facts_parts x ≡ school_facts_parts y → x ≡ y
+pub school_facts_whole : (x y : SchoolFacts) → school_facts_parts x ≡ school_facts_parts y → x ≡ y
 unfolding school_facts_parts
 school_facts_whole x y e =
     let P : ℕ × (ℕ × ℕ) → Type 0 = λ b. IsBetween 1 999999 b.0 × IsBetween 2 3 b.1.0 × IsBetween 1 40 b.1.1 in
@@ -47,10 +47,10 @@ pub tells_school_facts : Tells school_facts_eq.it
 unfolding school_facts_parts
 tells_school_facts = tells_by school_facts_parts school_facts_whole (tells_pair tells_ℕ (tells_pair tells_ℕ tells_ℕ))
 
-prior_facts_parts : PriorFacts → ℕ × ℕ
+unfoldable pub prior_facts_parts : PriorFacts → ℕ × ℕ
 prior_facts_parts p = (p.student, p.units)
 
-prior_facts_whole : (x y : PriorFacts) → prior_facts_parts x ≡ prior_facts_parts y → x ≡ y
+pub prior_facts_whole : (x y : PriorFacts) → prior_facts_parts x ≡ prior_facts_parts y → x ≡ y
 unfolding prior_facts_parts
 prior_facts_whole x y e = let make : ℕ × ℕ → PriorFacts = λ b. record { student = b.0; units = b.1 } in ap make e
 
@@ -58,13 +58,13 @@ pub tells_prior_facts : Tells prior_facts_eq.it
 unfolding prior_facts_parts
 tells_prior_facts = tells_by prior_facts_parts prior_facts_whole (tells_pair tells_ℕ tells_ℕ)
 
-abbrev CalendarFactsParts : Type 0
+abbrev pub CalendarFactsParts : Type 0
 CalendarFactsParts = ℕ × (ℕ × (Bool × (ℕ × (ℕ × (List (ℕ × ℕ))))))
 
-calendar_facts_parts : CalendarFacts → CalendarFactsParts
+unfoldable pub calendar_facts_parts : CalendarFacts → CalendarFactsParts
 calendar_facts_parts x = (x.year, (x.term, (x.extra, (x.first, (x.last, x.breaks)))))
 
-calendar_facts_whole : (x y : CalendarFacts) → calendar_facts_parts x ≡ calendar_facts_parts y → x ≡ y
+pub calendar_facts_whole : (x y : CalendarFacts) → calendar_facts_parts x ≡ calendar_facts_parts y → x ≡ y
 unfolding calendar_facts_parts
 calendar_facts_whole x y e =
     let P : CalendarFactsParts → Type 0 = λ b. IsBetween 1 8 b.1.0 in
@@ -75,13 +75,13 @@ pub tells_calendar_facts : Tells calendar_facts_eq.it
 unfolding calendar_facts_parts
 tells_calendar_facts = tells_by calendar_facts_parts calendar_facts_whole (tells_pair tells_ℕ (tells_pair tells_ℕ (tells_pair tells_Bool (tells_pair tells_day (tells_pair tells_day tells_breaks)))))
 
-abbrev EnrolFactsParts : Type 0
+abbrev pub EnrolFactsParts : Type 0
 EnrolFactsParts = ℕ × (ℕ × (ℕ × (ℕ)))
 
-enrol_facts_parts : EnrolFacts → EnrolFactsParts
+unfoldable pub enrol_facts_parts : EnrolFacts → EnrolFactsParts
 enrol_facts_parts x = (x.student, (x.year, (x.term, x.credits)))
 
-enrol_facts_whole : (x y : EnrolFacts) → enrol_facts_parts x ≡ enrol_facts_parts y → x ≡ y
+pub enrol_facts_whole : (x y : EnrolFacts) → enrol_facts_parts x ≡ enrol_facts_parts y → x ≡ y
 unfolding enrol_facts_parts
 enrol_facts_whole x y e =
     let P : EnrolFactsParts → Type 0 = λ b. IsBetween 1 8 b.1.1.0 in
@@ -92,13 +92,13 @@ pub tells_enrol_facts : Tells enrol_facts_eq.it
 unfolding enrol_facts_parts
 tells_enrol_facts = tells_by enrol_facts_parts enrol_facts_whole (tells_pair tells_ℕ (tells_pair tells_ℕ (tells_pair tells_ℕ tells_ℕ)))
 
-abbrev OriginateFactsParts : Type 0
+abbrev pub OriginateFactsParts : Type 0
 OriginateFactsParts = ℕ × (ℕ × (ℕ))
 
-originate_facts_parts : OriginateFacts → OriginateFactsParts
+unfoldable pub originate_facts_parts : OriginateFacts → OriginateFactsParts
 originate_facts_parts x = (x.student, (x.year, x.cost))
 
-originate_facts_whole : (x y : OriginateFacts) → originate_facts_parts x ≡ originate_facts_parts y → x ≡ y
+pub originate_facts_whole : (x y : OriginateFacts) → originate_facts_parts x ≡ originate_facts_parts y → x ≡ y
 unfolding originate_facts_parts
 originate_facts_whole x y e =
     let P : OriginateFactsParts → Type 0 = λ b. b.1.1 ≤ 999999 in
@@ -109,13 +109,13 @@ pub tells_originate_facts : Tells originate_facts_eq.it
 unfolding originate_facts_parts
 tells_originate_facts = tells_by originate_facts_parts originate_facts_whole (tells_pair tells_ℕ (tells_pair tells_ℕ tells_ℕ))
 
-abbrev AmountParts : Type 0
+abbrev pub AmountParts : Type 0
 AmountParts = ℕ × (ℕ × (ℕ × (Program × (ℕ))))
 
-amount_parts : Amount → AmountParts
+unfoldable pub amount_parts : Amount → AmountParts
 amount_parts x = (x.student, (x.year, (x.term, (x.program, x.cents))))
 
-amount_whole : (x y : Amount) → amount_parts x ≡ amount_parts y → x ≡ y
+pub amount_whole : (x y : Amount) → amount_parts x ≡ amount_parts y → x ≡ y
 unfolding amount_parts
 amount_whole x y e =
     let P : AmountParts → Type 0 = λ b. IsBetween 1 8 b.1.1.0 × (b.1.1.1.1 ≤ 99999999) in
@@ -126,13 +126,13 @@ pub tells_amount : Tells amount_eq.it
 unfolding amount_parts
 tells_amount = tells_by amount_parts amount_whole (tells_pair tells_ℕ (tells_pair tells_ℕ (tells_pair tells_ℕ (tells_pair tells_program tells_ℕ))))
 
-abbrev WithdrawFactsParts : Type 0
+abbrev pub WithdrawFactsParts : Type 0
 WithdrawFactsParts = ℕ × (ℕ × (ℕ × (ℕ × (ℕ × (ℕ × (List ℕ))))))
 
-withdraw_facts_parts : WithdrawFacts → WithdrawFactsParts
+unfoldable pub withdraw_facts_parts : WithdrawFacts → WithdrawFactsParts
 withdraw_facts_parts x = (x.student, (x.year, (x.term, (x.last, (x.determined, (x.charges, x.could))))))
 
-withdraw_facts_whole : (x y : WithdrawFacts) → withdraw_facts_parts x ≡ withdraw_facts_parts y → x ≡ y
+pub withdraw_facts_whole : (x y : WithdrawFacts) → withdraw_facts_parts x ≡ withdraw_facts_parts y → x ≡ y
 unfolding withdraw_facts_parts
 withdraw_facts_whole x y e =
     let P : WithdrawFactsParts → Type 0 = λ b. (IsBetween 1 8 b.1.1.0 × (b.1.1.1.1.1.0 ≤ 99999999)) × EachIsCents b.1.1.1.1.1.1 in
@@ -172,10 +172,10 @@ tells_what = record { same = same; told = told } where
   told (Repay x) = tells_amount.told x
   told (Adjust x) = tells_amount.told x
 
-filing_parts : Filing → Key × What
+unfoldable pub filing_parts : Filing → Key × What
 filing_parts f = (f.key, f.what)
 
-filing_whole : (x y : Filing) → filing_parts x ≡ filing_parts y → x ≡ y
+pub filing_whole : (x y : Filing) → filing_parts x ≡ filing_parts y → x ≡ y
 unfolding filing_parts
 filing_whole x y e = let make : Key × What → Filing = λ b. record { key = b.0; what = b.1 } in ap make e
 

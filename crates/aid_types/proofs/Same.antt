@@ -65,10 +65,10 @@ le_ℤ-prop a b = hlevel (T-prop)
 is_between-prop : (low high n : ℕ) → IsProp (IsBetween low high n)
 is_between-prop low high n = ×_prop le_prop le_prop
 
-key_parts : Key → ℕ × ℕ
+unfoldable pub key_parts : Key → ℕ × ℕ
 key_parts k = (k.school, k.number)
 
-key_whole : (x y : Key) → key_parts x ≡ key_parts y → x ≡ y
+pub key_whole : (x y : Key) → key_parts x ≡ key_parts y → x ≡ y
 unfolding key_parts
 key_whole x y e =
     let P : ℕ × ℕ → Type 0 = λ b. IsBetween 1 999999999999 b.1 in
@@ -79,13 +79,13 @@ pub tells_key : Tells key_eq.it
 unfolding key_parts
 tells_key = tells_by key_parts key_whole (tells_pair tells_ℕ tells_ℕ)
 
-abbrev SideParts : Type 0
+abbrev pub SideParts : Type 0
 SideParts = ℤ × (ℤ × (ℤ × (ℤ × (ℤ × (ℤ × (ℤ × (ℤ × (ℤ × (ℤ × (ℤ × (ℤ × (ℤ × (ℤ × (ℤ × (ℤ)))))))))))))))
 
-side_parts : Side → SideParts
+unfoldable pub side_parts : Side → SideParts
 side_parts s = (s.agi, (s.ira, (s.interest, (s.ira_untaxed, (s.pension, (s.foreign, (s.grants, (s.credits, (s.work_study, (s.tax, (s.earned_first, (s.earned_second, (s.support, (s.cash, (s.investments, s.business)))))))))))))))
 
-side_whole : (x y : Side) → side_parts x ≡ side_parts y → x ≡ y
+pub side_whole : (x y : Side) → side_parts x ≡ side_parts y → x ≡ y
 unfolding side_parts
 side_whole x y e =
     let P : SideParts → Type 0 = λ b. IsSignedAmount b.0 × IsAmount b.1.0 × IsAmount b.1.1.0 × IsAmount b.1.1.1.0 × IsAmount b.1.1.1.1.0 × IsAmount b.1.1.1.1.1.0 × IsAmount b.1.1.1.1.1.1.0 × IsAmount b.1.1.1.1.1.1.1.0 × IsAmount b.1.1.1.1.1.1.1.1.0 × IsSignedAmount b.1.1.1.1.1.1.1.1.1.0 × IsAmount b.1.1.1.1.1.1.1.1.1.1.0 × IsAmount b.1.1.1.1.1.1.1.1.1.1.1.0 × IsAmount b.1.1.1.1.1.1.1.1.1.1.1.1.0 × IsAmount b.1.1.1.1.1.1.1.1.1.1.1.1.1.0 × IsAmount b.1.1.1.1.1.1.1.1.1.1.1.1.1.1.0 × IsAmount b.1.1.1.1.1.1.1.1.1.1.1.1.1.1.1 in

@@ -37,13 +37,13 @@ tells_region = record { same = same; told = told } where
   told Alaska = refl
   told Hawaii = refl
 
-abbrev ApplicationParts : Type 0
+abbrev pub ApplicationParts : Type 0
 ApplicationParts = ℕ × (ℕ × (ℕ × (ℕ × (Region × (ℕ × (Bool × (Bool × (Bool × (Bool × (Bool × (Bool × (Bool × (Bool × (Bool × (Bool × (Bool × (Side × (Bool × (Bool × (ℕ × (Side)))))))))))))))))))))
 
-application_parts : Application → ApplicationParts
+unfoldable pub application_parts : Application → ApplicationParts
 application_parts a = (a.student, (a.year, (a.transaction, (a.birth_year, (a.region, (a.family, (a.married, (a.graduate, (a.bachelor, (a.veteran, (a.dependents, (a.orphan, (a.ward, (a.foster, (a.emancipated, (a.homeless, (a.student_file, (a.own, (a.parents_married, (a.parents_file, (a.parent_age, a.parents)))))))))))))))))))))
 
-application_whole : (x y : Application) → application_parts x ≡ application_parts y → x ≡ y
+pub application_whole : (x y : Application) → application_parts x ≡ application_parts y → x ≡ y
 unfolding application_parts
 application_whole x y e =
     let P : ApplicationParts → Type 0 = λ b. IsBetween 1 99 b.1.1.0 × IsBetween 1900 2099 b.1.1.1.0 × IsBetween 1 30 b.1.1.1.1.1.0 × IsBetween 0 120 b.1.1.1.1.1.1.1.1.1.1.1.1.1.1.1.1.1.1.1.1.0 in

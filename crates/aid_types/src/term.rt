@@ -1,5 +1,5 @@
 //! The terms of a school's year.
-ghost use Rattle.std.specs.Prelude.{◌≡◌, ◌<◌, [], ◌∷◌, ◌++◌, length};
+ghost use Rattle.std.specs.Prelude.{◌≡◌, ◌<◌, ◌≤◌, [], ◌∷◌, ◌++◌, length};
 ghost use Rattle.aid_types.specs.Ranges.{IsBetween};
 
 use crate::day::Day;
@@ -37,7 +37,8 @@ impl Breaks {
     }
 
     pub fn len(&self) -> usize
-        ensures { result ≡ length self.now }
+        ensures value { result ≡ length self.now }
+        ensures at_most { result ≤ 8 }
     {
         self.count
     }
