@@ -1,1 +1,7 @@
-pub mod NumbersLemmas
+pub mod Same
+pub mod Applications
+pub mod Calendars
+pub mod Breaks
+pub mod Could
+pub mod Ranges
+pub mod Slots

@@ -1,8 +1,9 @@
-//! The kinds of filings, their fields, and a filing as the list of its numbers.
+//! A filing as the list of its numbers, in the order of its kind's fields, both ways.
 #![tactic(auto)]
 
-mod fields;
-mod numbers;
+mod application;
+mod facts;
+mod filing;
+mod scalar;
 
-pub use fields::{Field, Kind, PRIOR_FIELDS, SCHOOL_FIELDS, Width};
-pub use numbers::{Numbers, from_numbers, kind, numbers_in};
+pub use filing::{filing_of, kind, numbers_in};

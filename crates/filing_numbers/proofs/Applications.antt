@@ -1,0 +1,214 @@
+-- The numbers of an application, by its parts.
+use Rattle.std.proofs.Common.{◌≡◌, ℕ, ℤ, pos, neg_ℤ, List, [], ◌∷◌, ◌++◌, length, drop, take, refl, sym, ap, ◌∙◌, arith}
+use Rattle.std.specs.Prelude.{Bool, true, false, IsTrue, map, slice_index_or}
+use Rattle.std.proofs.Common.{subst, to_z, of_z, w64}
+use Rattle.std.proofs.lemmas.Int.{ints}
+use Rattle.filing_kinds.proofs.LimitLemmas.{narrow}
+use Rattle.std.proofs.lemmas.List.{take-append-drop}
+use Rattle.aid_types.specs.Ranges.{IsAmount, IsSignedAmount, IsWithin}
+use Rattle.aid_types.specs.declared.application.Application.{Application}
+use Rattle.aid_types.specs.declared.application.Side.{Side}
+use Rattle.filing_kinds.specs.Kinds.{apply_slots, own_slots, parent_slots}
+use Rattle.filing_kinds.specs.Limits.{is_between}
+use Rattle.filing_numbers.specs.Numbers.{applicant_numbers, application_numbers, flag_number, parents_numbers, side_numbers, standing_numbers, upbringing_numbers}
+use Rattle.filing_numbers.specs.Parts.{FitAnywhere, FitSomewhere, applicant_slots, parents_slots, standing_slots, upbringing_slots}
+use Rattle.filing_numbers.proofs.Calendars.{flag_fits}
+use Rattle.filing_numbers.proofs.Ranges.{is_natural_within, is_within, within}
+use Rattle.filing_numbers.proofs.Slots.{as_many, fit_joined, fit_parted, same_limits}
+
+amount_fits : (z : ℤ) → IsAmount z → IsTrue (is_between (pos 0) (pos 99999999) z)
+amount_fits z h = is_within (pos 0) (pos 99999999) z h.0 h.1
+
+signed_fits : (z : ℤ) → IsSignedAmount z → IsTrue (is_between (neg_ℤ (pos 99999999)) (pos 99999999) z)
+signed_fits z h = is_within (neg_ℤ (pos 99999999)) (pos 99999999) z h.0 h.1
+
+side_fits : (x : Side) → FitAnywhere own_slots (side_numbers x)
+side_fits x earlier = let r = x.in_range in (
+  signed_fits x.agi r.0,
+  (
+    amount_fits x.ira r.1,
+    (
+      amount_fits x.interest r.2,
+      (
+        amount_fits x.ira_untaxed r.3,
+        (
+          amount_fits x.pension r.4,
+          (
+            amount_fits x.foreign r.5,
+            (
+              amount_fits x.grants r.6,
+              (
+                amount_fits x.credits r.7,
+                (
+                  amount_fits x.work_study r.8,
+                  (
+                    signed_fits x.tax r.9,
+                    (
+                      amount_fits x.earned_first r.10,
+                      (
+                        amount_fits x.earned_second r.11,
+                        (amount_fits x.support r.12, (amount_fits x.cash r.13, (amount_fits x.investments r.14, (amount_fits x.business r.15, tt)))),
+                      ),
+                    ),
+                  ),
+                ),
+              ),
+            ),
+          ),
+        ),
+      ),
+    ),
+  ),
+)
+
+standing_fits : (x : Application) → FitAnywhere standing_slots (standing_numbers x)
+standing_fits x earlier = (flag_fits x.married, (flag_fits x.graduate, (flag_fits x.bachelor, (flag_fits x.veteran, (flag_fits x.dependents, tt)))))
+
+upbringing_fits : (x : Application) → FitAnywhere upbringing_slots (upbringing_numbers x)
+upbringing_fits x earlier = (flag_fits x.orphan, (flag_fits x.ward, (flag_fits x.foster, (flag_fits x.emancipated, (flag_fits x.homeless, (flag_fits x.student_file, tt))))))
+
+parents_fits : (x : Application) → FitAnywhere parents_slots (parents_numbers x)
+parents_fits x earlier = (flag_fits x.parents_married, (flag_fits x.parents_file, (is_natural_within 0 120 x.parent_age x.in_range.3.0 x.in_range.3.1, tt)))
+
+pub application_fits : (x : Application) → FitAnywhere applicant_slots (applicant_numbers x) → FitAnywhere apply_slots (application_numbers x)
+application_fits x h =
+    let parents = fit_joined parents_slots parent_slots (parents_numbers x) (side_numbers x.parents) (parents_fits x) (side_fits x.parents) in
+    let own = fit_joined own_slots (drop 33 apply_slots) (side_numbers x.own) (parents_numbers x ++ side_numbers x.parents) (side_fits x.own) parents in
+    let upbringing = fit_joined upbringing_slots (drop 17 apply_slots) (upbringing_numbers x) (side_numbers x.own ++ (parents_numbers x ++ side_numbers x.parents)) (upbringing_fits x) own in
+    let standing = fit_joined standing_slots (drop 11 apply_slots) (standing_numbers x) (upbringing_numbers x ++ (side_numbers x.own ++ (parents_numbers x ++ side_numbers x.parents))) (standing_fits x) upbringing in
+    fit_joined applicant_slots (drop 6 apply_slots) (applicant_numbers x) (standing_numbers x ++ (upbringing_numbers x ++ (side_numbers x.own ++ (parents_numbers x ++ side_numbers x.parents)))) h standing
+
+-- ---- the parts of the list of an application's numbers
+abbrev pub behind_applicant : List ℤ → List ℤ
+behind_applicant zs = drop 6 zs
+
+abbrev pub behind_standing : List ℤ → List ℤ
+behind_standing zs = drop 5 (behind_applicant zs)
+
+abbrev pub behind_upbringing : List ℤ → List ℤ
+behind_upbringing zs = drop 6 (behind_standing zs)
+
+abbrev pub behind_own : List ℤ → List ℤ
+behind_own zs = drop 16 (behind_upbringing zs)
+
+abbrev pub behind_said : List ℤ → List ℤ
+behind_said zs = drop 3 (behind_own zs)
+
+pub record HasParts (zs : List ℤ) : Type 0 where
+  pub many : length zs ≡ 52
+  pub applicant : FitSomewhere applicant_slots (take 6 zs)
+  pub standing : FitSomewhere standing_slots (take 5 (behind_applicant zs))
+  pub upbringing : FitSomewhere upbringing_slots (take 6 (behind_standing zs))
+  pub own : FitSomewhere own_slots (take 16 (behind_upbringing zs))
+  pub said : FitSomewhere parents_slots (take 3 (behind_own zs))
+  pub parents : FitSomewhere own_slots (behind_said zs)
+  pub whole : take 6 zs ++ (take 5 (behind_applicant zs) ++ (take 6 (behind_standing zs) ++ (take 16 (behind_upbringing zs) ++ (take 3 (behind_own zs) ++ behind_said zs)))) ≡ zs
+
+pub parts_of : (zs : List ℤ) → FitSomewhere apply_slots zs → HasParts zs
+parts_of zs h =
+    let a = fit_parted 6 apply_slots zs refl h in
+    let b = fit_parted 5 (drop 6 apply_slots) (behind_applicant zs) refl a.1 in
+    let c = fit_parted 6 (drop 11 apply_slots) (behind_standing zs) refl b.1 in
+    let d = fit_parted 16 (drop 17 apply_slots) (behind_upbringing zs) refl c.1 in
+    let e = fit_parted 3 (drop 33 apply_slots) (behind_own zs) refl d.1 in
+    record {
+      many = as_many apply_slots h.0 zs refl h.1;
+      applicant = a.0;
+      standing = b.0;
+      upbringing = c.0;
+      own = d.0;
+      said = e.0;
+      parents = (e.1.0, same_limits parent_slots own_slots e.1.0 (behind_said zs) refl refl refl e.1.1);
+      whole =
+          ap (λ (ys : List ℤ). take 6 zs ++ (take 5 (behind_applicant zs) ++ (take 6 (behind_standing zs) ++ (take 16 (behind_upbringing zs) ++ ys)))) (take-append-drop 3 (behind_own zs))
+          ∙ ap (λ (ys : List ℤ). take 6 zs ++ (take 5 (behind_applicant zs) ++ (take 6 (behind_standing zs) ++ ys))) (take-append-drop 16 (behind_upbringing zs))
+          ∙ ap (λ (ys : List ℤ). take 6 zs ++ (take 5 (behind_applicant zs) ++ ys)) (take-append-drop 6 (behind_standing zs))
+          ∙ ap (λ (ys : List ℤ). take 6 zs ++ ys) (take-append-drop 5 (behind_applicant zs))
+          ∙ take-append-drop 6 zs;
+    }
+
+-- ---- the numbers of a household as machine words
+abbrev pub word : ℤ → ℤ
+word z = to_z w64 (of_z w64 z)
+
+amount_word : (z : ℤ) → IsAmount z → word z ≡ z
+amount_word z h = narrow z (grind (arith, ints))
+
+signed_word : (z : ℤ) → IsSignedAmount z → word z ≡ z
+signed_word z h = narrow z (grind (arith, ints))
+
+pub side_words : (x : Side) →
+    (word x.agi ∷ word x.ira ∷ word x.interest ∷ word x.ira_untaxed ∷ word x.pension ∷ word x.foreign ∷ word x.grants ∷ word x.credits ∷ word x.work_study ∷ word x.tax
+    ∷ word x.earned_first ∷ word x.earned_second ∷ word x.support ∷ word x.cash ∷ word x.investments ∷ word x.business ∷ []) ≡ side_numbers x
+side_words x = let r = x.in_range in λ i.
+    signed_word x.agi r.0 i ∷ amount_word x.ira r.1 i ∷ amount_word x.interest r.2 i ∷ amount_word x.ira_untaxed r.3 i ∷ amount_word x.pension r.4 i ∷ amount_word x.foreign r.5 i
+    ∷ amount_word x.grants r.6 i ∷ amount_word x.credits r.7 i ∷ amount_word x.work_study r.8 i ∷ signed_word x.tax r.9 i ∷ amount_word x.earned_first r.10 i
+    ∷ amount_word x.earned_second r.11 i ∷ amount_word x.support r.12 i ∷ amount_word x.cash r.13 i ∷ amount_word x.investments r.14 i ∷ amount_word x.business r.15 i ∷ []
+
+pub flag_word : (z : ℤ) (b : Bool) → z ≡ flag_number b → word z ≡ flag_number b
+flag_word z true e = ap word e
+flag_word z false e = ap word e
+
+-- flags in an array
+pub five_flags : (bs : List Bool) → length bs ≡ 5 → map flag_number bs
+    ≡ (flag_number (slice_index_or bs 0 false) ∷ flag_number (slice_index_or bs 1 false) ∷ flag_number (slice_index_or bs 2 false) ∷ flag_number (slice_index_or bs 3 false)
+    ∷ flag_number (slice_index_or bs 4 false) ∷ [])
+five_flags (a ∷ b ∷ c ∷ d ∷ e ∷ []) len = refl
+five_flags bs len = absurd (omega arith)
+
+pub six_flags : (bs : List Bool) → length bs ≡ 6 → map flag_number bs
+    ≡ (flag_number (slice_index_or bs 0 false) ∷ flag_number (slice_index_or bs 1 false) ∷ flag_number (slice_index_or bs 2 false) ∷ flag_number (slice_index_or bs 3 false)
+    ∷ flag_number (slice_index_or bs 4 false) ∷ flag_number (slice_index_or bs 5 false) ∷ [])
+six_flags (a ∷ b ∷ c ∷ d ∷ e ∷ f ∷ []) len = refl
+six_flags bs len = absurd (omega arith)
+
+abbrev pub word_at : List ℤ → ℕ → ℤ
+word_at zs k = word (slice_index_or zs k (pos 0))
+
+pub record IsSide (zs : List ℤ) : Type 0 where
+  pub ranges : IsSignedAmount (word_at zs 0) × IsAmount (word_at zs 1) × IsAmount (word_at zs 2) × IsAmount (word_at zs 3) × IsAmount (word_at zs 4) × IsAmount (word_at zs 5)
+      × IsAmount (word_at zs 6) × IsAmount (word_at zs 7) × IsAmount (word_at zs 8) × IsSignedAmount (word_at zs 9) × IsAmount (word_at zs 10) × IsAmount (word_at zs 11)
+      × IsAmount (word_at zs 12) × IsAmount (word_at zs 13) × IsAmount (word_at zs 14) × IsAmount (word_at zs 15)
+  pub whole :
+      (word_at zs 0 ∷ word_at zs 1 ∷ word_at zs 2 ∷ word_at zs 3 ∷ word_at zs 4 ∷ word_at zs 5 ∷ word_at zs 6 ∷ word_at zs 7 ∷ word_at zs 8 ∷ word_at zs 9 ∷ word_at zs 10
+      ∷ word_at zs 11 ∷ word_at zs 12 ∷ word_at zs 13 ∷ word_at zs 14 ∷ word_at zs 15 ∷ []) ≡ zs
+
+record IsWord (low high z : ℤ) : Type 0 where
+  same : word z ≡ z
+  range : IsWithin low high (word z)
+
+amount_read : (z : ℤ) → IsTrue (is_between (pos 0) (pos 99999999) z) → IsWord (pos 0) (pos 99999999) z
+amount_read z h = let r = within (pos 0) (pos 99999999) z h in record { same = amount_word z r; range = subst IsAmount (sym (amount_word z r)) r }
+
+signed_read : (z : ℤ) → IsTrue (is_between (neg_ℤ (pos 99999999)) (pos 99999999) z) → IsWord (neg_ℤ (pos 99999999)) (pos 99999999) z
+signed_read z h = let r = within (neg_ℤ (pos 99999999)) (pos 99999999) z h in record { same = signed_word z r; range = subst IsSignedAmount (sym (signed_word z r)) r }
+
+side_by : (zs : List ℤ) → FitSomewhere own_slots zs → length zs ≡ 16 → IsSide zs
+side_by (a ∷ b ∷ c ∷ d ∷ e ∷ f ∷ g ∷ h ∷ k ∷ l ∷ m ∷ n ∷ o ∷ p ∷ q ∷ r ∷ []) fit len =
+    let t = fit.1 in
+    let ra = signed_read a t.0 in
+    let rb = amount_read b t.1.0 in
+    let rc = amount_read c t.1.1.0 in
+    let rd = amount_read d t.1.1.1.0 in
+    let re = amount_read e t.1.1.1.1.0 in
+    let rf = amount_read f t.1.1.1.1.1.0 in
+    let rg = amount_read g t.1.1.1.1.1.1.0 in
+    let rh = amount_read h t.1.1.1.1.1.1.1.0 in
+    let rk = amount_read k t.1.1.1.1.1.1.1.1.0 in
+    let rl = signed_read l t.1.1.1.1.1.1.1.1.1.0 in
+    let rm = amount_read m t.1.1.1.1.1.1.1.1.1.1.0 in
+    let rn = amount_read n t.1.1.1.1.1.1.1.1.1.1.1.0 in
+    let ro = amount_read o t.1.1.1.1.1.1.1.1.1.1.1.1.0 in
+    let rp = amount_read p t.1.1.1.1.1.1.1.1.1.1.1.1.1.0 in
+    let rq = amount_read q t.1.1.1.1.1.1.1.1.1.1.1.1.1.1.0 in
+    let rr = amount_read r t.1.1.1.1.1.1.1.1.1.1.1.1.1.1.1.0 in
+    record {
+      ranges = (ra.range, rb.range, rc.range, rd.range, re.range, rf.range, rg.range, rh.range, rk.range, rl.range, rm.range, rn.range, ro.range, rp.range, rq.range, rr.range);
+      whole = λ i.
+          ra.same i ∷ rb.same i ∷ rc.same i ∷ rd.same i ∷ re.same i ∷ rf.same i ∷ rg.same i ∷ rh.same i ∷ rk.same i ∷ rl.same i ∷ rm.same i ∷ rn.same i ∷ ro.same i ∷ rp.same i
+          ∷ rq.same i ∷ rr.same i ∷ [];
+    }
+side_by zs fit len = absurd (omega arith)
+
+pub side_is : (zs : List ℤ) → FitSomewhere own_slots zs → IsSide zs
+side_is zs fit = side_by zs fit (as_many own_slots fit.0 zs refl fit.1)

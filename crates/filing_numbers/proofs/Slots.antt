@@ -1,0 +1,108 @@
+-- Numbers of fields that come in parts.
+use Rattle.std.proofs.Common.{◌≡◌, ℕ, zero, suc, ◌≤◌, ℤ, List, [], ◌∷◌, ◌++◌, Bool, true, false, length, take, drop, refl, sym, ap, subst, ◌∙◌, append_assoc, length-append, arith}
+use Rattle.std.specs.Prelude.{IsTrue, map, unsigned_abs}
+use Rattle.std.specs.List.{list_all}
+use Rattle.std.proofs.lemmas.Bool.{and_parts, true≢false}
+use Rattle.std.proofs.Common.{◌-◌, length-drop}
+use Rattle.std.proofs.Math.Seq.{take-length}
+use Rattle.std.proofs.lemmas.List.{append-nil}
+use Rattle.filing_kinds.specs.Layout.{AreNumbers, after, plain, rows, rows_again}
+use Rattle.filing_kinds.specs.Limits.{fits}
+use Rattle.filing_kinds.specs.Parts.{Line, Slot}
+use Rattle.filing_kinds.specs.declared.field.Limit.{Limit}
+use Rattle.filing_numbers.specs.Parts.{FitAnywhere, FitSomewhere}
+
+-- ---- numbers of fields one after the other
+pub joined : (front back : List Slot) (earlier xs ys : List ℤ) → AreNumbers front earlier xs → FitAnywhere back ys → AreNumbers (front ++ back) earlier (xs ++ ys)
+joined [] back earlier [] ys h k = k earlier
+joined [] back earlier (x ∷ xs) ys h k = absurd h
+joined (slot ∷ front) back earlier [] ys h k = absurd h
+joined (slot ∷ front) back earlier (x ∷ xs) ys h k =
+    let more : AreNumbers (after (slot ∷ front) x ++ back) (x ∷ earlier) (xs ++ ys) = joined (after (slot ∷ front) x) back (x ∷ earlier) xs ys h.1 k in
+    (h.0, subst (λ (slots : List Slot). AreNumbers slots (x ∷ earlier) (xs ++ ys)) (append_assoc (rows (unsigned_abs x) slot.first slot.later) front back) more)
+
+pub fit_joined : (front back : List Slot) (xs ys : List ℤ) → FitAnywhere front xs → FitAnywhere back ys → FitAnywhere (front ++ back) (xs ++ ys)
+fit_joined front back xs ys h k earlier = joined front back earlier xs ys (h earlier) k
+
+-- each field takes a number at least
+pub enough : (slots : List Slot) (earlier zs : List ℤ) → AreNumbers slots earlier zs → length slots ≤ length zs
+enough [] earlier zs h = omega arith
+enough (slot ∷ slots) earlier [] h = absurd h
+enough (slot ∷ slots) earlier (z ∷ zs) h =
+    let more = enough (after (slot ∷ slots) z) (z ∷ earlier) zs h.1 in
+    omega (arith, more, length-append (rows (unsigned_abs z) slot.first slot.later) slots)
+
+-- ---- fields that count nothing
+abbrev pub has_none : List Line → Bool
+has_none [] = true
+has_none (line ∷ lines) = false
+
+abbrev pub are_plain : List Slot → Bool
+are_plain slots = list_all (λ slot. has_none slot.first) slots
+
+no_rows : (n : ℕ) (first later : List Line) → has_none first ≡ true → rows n first later ≡ []
+no_rows n [] later h = refl
+no_rows n (line ∷ lines) later h = absurd (true≢false (sym h))
+
+-- the first of them, and those behind
+pub parted : (n : ℕ) (slots : List Slot) (earlier zs : List ℤ) → are_plain (take n slots) ≡ true → AreNumbers slots earlier zs
+    → AreNumbers (take n slots) earlier (take n zs) × FitSomewhere (drop n slots) (drop n zs)
+parted zero slots earlier zs p h = (tt, (earlier, h))
+parted (suc n) [] earlier [] p h = (tt, (earlier, tt))
+parted (suc n) [] earlier (z ∷ zs) p h = absurd h
+parted (suc n) (slot ∷ slots) earlier [] p h = absurd h
+parted (suc n) (slot ∷ slots) earlier (z ∷ zs) p h =
+    let both = and_parts (has_none slot.first) (are_plain (take n slots)) p in
+    let none : rows (unsigned_abs z) slot.first slot.later ≡ [] = no_rows (unsigned_abs z) slot.first slot.later both.0 in
+    let more : AreNumbers slots (z ∷ earlier) zs = subst (λ (lines : List Slot). AreNumbers (lines ++ slots) (z ∷ earlier) zs) none h.1 in
+    let k = parted n slots (z ∷ earlier) zs both.1 more in
+    ((h.0, subst (λ (lines : List Slot). AreNumbers (lines ++ take n slots) (z ∷ earlier) (take n zs)) (sym none) k.0), k.1)
+
+pub fit_parted : (n : ℕ) (slots : List Slot) (zs : List ℤ) → are_plain (take n slots) ≡ true → FitSomewhere slots zs
+    → FitSomewhere (take n slots) (take n zs) × FitSomewhere (drop n slots) (drop n zs)
+fit_parted n slots zs p h = let k = parted n slots h.0 zs p h.1 in ((h.0, k.0), k.1)
+
+pub as_many : (slots : List Slot) (earlier zs : List ℤ) → are_plain slots ≡ true → AreNumbers slots earlier zs → length zs ≡ length slots
+as_many [] earlier [] p h = refl
+as_many [] earlier (z ∷ zs) p h = absurd h
+as_many (slot ∷ slots) earlier [] p h = absurd h
+as_many (slot ∷ slots) earlier (z ∷ zs) p h =
+    let both = and_parts (has_none slot.first) (are_plain slots) p in
+    let none : rows (unsigned_abs z) slot.first slot.later ≡ [] = no_rows (unsigned_abs z) slot.first slot.later both.0 in
+    let more : AreNumbers slots (z ∷ earlier) zs = subst (λ (lines : List Slot). AreNumbers (lines ++ slots) (z ∷ earlier) zs) none h.1 in
+    ap suc (as_many slots (z ∷ earlier) zs both.1 more)
+
+-- fields with the same limits
+abbrev pub limits_of : List Slot → List Limit
+limits_of slots = map (λ slot. slot.line.limit) slots
+
+pub same_limits : (slots others : List Slot) (earlier zs : List ℤ) → are_plain slots ≡ true → are_plain others ≡ true → limits_of slots ≡ limits_of others
+    → AreNumbers slots earlier zs → AreNumbers others earlier zs
+same_limits [] [] earlier zs p q e h = h
+same_limits [] (other ∷ others) earlier zs p q e h = absurd cc
+same_limits (slot ∷ slots) [] earlier zs p q e h = absurd cc
+same_limits (slot ∷ slots) (other ∷ others) earlier [] p q e h = absurd h
+same_limits (slot ∷ slots) (other ∷ others) earlier (z ∷ zs) p q e h =
+    let here : slot.line.limit ≡ other.line.limit = cc in
+    let rest : limits_of slots ≡ limits_of others = cc in
+    let ours = and_parts (has_none slot.first) (are_plain slots) p in
+    let theirs = and_parts (has_none other.first) (are_plain others) q in
+    let none : rows (unsigned_abs z) slot.first slot.later ≡ [] = no_rows (unsigned_abs z) slot.first slot.later ours.0 in
+    let empty : rows (unsigned_abs z) other.first other.later ≡ [] = no_rows (unsigned_abs z) other.first other.later theirs.0 in
+    let more : AreNumbers slots (z ∷ earlier) zs = subst (λ (lines : List Slot). AreNumbers (lines ++ slots) (z ∷ earlier) zs) none h.1 in
+    let k : AreNumbers others (z ∷ earlier) zs = same_limits slots others (z ∷ earlier) zs ours.1 theirs.1 rest more in
+    (subst (λ (limit : Limit). IsTrue (fits limit earlier z)) here h.0, subst (λ (lines : List Slot). AreNumbers (lines ++ others) (z ∷ earlier) zs) (sym empty) k)
+
+-- ---- rows
+pub rows-again : (n : ℕ) (lines : List Line) → has_none lines ≡ false → rows n lines lines ≡ rows_again n lines
+rows-again n [] h = absurd (true≢false h)
+rows-again zero (line ∷ lines) h = refl
+rows-again (suc n) (line ∷ lines) h = refl
+
+pub rows_again-more : (n : ℕ) (lines : List Line) → rows_again n lines ++ map plain lines ≡ rows_again (suc n) lines
+rows_again-more zero lines = sym (append-nil (map plain lines))
+rows_again-more (suc n) lines = append_assoc (map plain lines) (rows_again n lines) (map plain lines) ∙ ap (λ (slots : List Slot). map plain lines ++ slots) (rows_again-more n lines)
+
+-- what is behind the first numbers, as a slice of it is handed on
+pub all_of_rest : (n : ℕ) (zs : List ℤ) → take (length zs - n) (drop n zs) ≡ drop n zs
+all_of_rest n zs = rw (← length-drop n zs) (take-length (drop n zs))
