@@ -1,6 +1,6 @@
-pub mod FilingLaws
 pub mod NumberLaws
-pub mod RangeTests
 pub mod ReadingLoop
+pub mod RowLaws
+pub mod Widths
 pub mod WordLemmas
 pub mod WritingLemmas

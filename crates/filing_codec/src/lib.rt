@@ -3,9 +3,3 @@
 
 mod reading;
 mod writing;
-
-pub use reading::{TakeError, take};
-pub use writing::put;
-
-#[cfg(test)]
-mod tests;

@@ -1,109 +1,66 @@
 //! A filing from bytes.
-ghost use Rattle.std.specs.Prelude.{◌≡◌, ◌≢◌, ◌≤◌, length, pos, Ok, Err, IfOk, IfSome};
+ghost use Rattle.std.specs.Prelude.{◌≡◌, ◌≤◌, ◌<◌, ℕ, length, nat_lt, pos, ◌-ℤ◌, ◌*◌, [], Ok, Err, None, IfSome, if◌then◌else◌};
 ghost use Rattle.std.specs.Int.{w64, from_le_bytes};
-ghost use Rattle.aid_filings.specs.declared.filing.Filing.{Filing};
-ghost use Rattle.filing_numbers.specs.Fields.{IsFiling, width_of};
-ghost use Rattle.filing_codec.specs.Spelling.{spelling};
-ghost use Rattle.filing_codec.specs.Taking.{Gives, kind_at as kind_in, number_at as number_in, numbers_at as numbers_in, taken, tested as tested_in};
+ghost use Rattle.filing_codec.specs.Reading.{IsNumber, IsNoNumber, Reads};
+ghost use Rattle.filing_codec.specs.Taking.{numbers_at as numbers_in, value_in};
+ghost use Rattle.filing_kinds.specs.Kinds.{slots_of_kind};
+ghost use Rattle.filing_kinds.specs.Parts.{width_of};
 
-use aid_filings::Filing;
-use filing_numbers::{Field, Kind, Numbers, from_numbers};
-use std::alloc::Global;
+use filing_kinds::{Draft, Form, Kind};
 
-/// Why bytes are no filing.
-#[derive(Clone, Copy, PartialEq, Eq, Debug)]
-pub enum TakeError {
-    /// The place of the first byte of the first field that is short or out of range, or of the first byte too many.
-    NotFiling(u64),
-    /// There is no memory. No call of this crate answers it so far; it is there for a kind that is too large to hold
-    /// without memory.
-    NoMemory,
-}
-
-/// The filing that the bytes spell, all of them. No kind so far takes memory.
-pub fn take(_alloc: Global, bytes: &[u8]) -> Result<Filing, TakeError>
-    // What is taken is spelled so.
-    ensures found { IfOk result (λ filing. IsFiling filing × (bytes.now ≡ spelling filing)) }
-    // What is spelled so is taken, unless memory runs out.
-    ensures only { (filing : Filing) → IsFiling filing → bytes.now ≡ spelling filing → result ≢ Err TakeError.NoMemory → result ≡ Ok filing }
-    // Which place it is.
-    ensures exact { Gives result (taken bytes.now) }
-    // No kind so far takes memory.
-    ensures memory { result ≢ Err TakeError.NoMemory }
+// The numbers of a kind in all of the bytes, which stand behind the kind's code.
+fn numbers_at(kind: Kind, bytes: &[u8]) -> Result<Draft, u64>
+    ensures value { Reads result (numbers_in (length bytes.now) (slots_of_kind kind) [] 1 bytes.now) }
 {
-    filing_in(bytes)
-}
-
-fn filing_in(bytes: &[u8]) -> Result<Filing, TakeError>
-    ensures exact { Gives result (taken bytes.now) }
-    ensures no_memory { result ≢ Err TakeError.NoMemory }
-{
-    let [code, rest @ ..] = bytes else {
-        return Err(TakeError::NotFiling(0));
-    };
-    let Some(kind) = kind_at(*code) else {
-        return Err(TakeError::NotFiling(0));
-    };
-    match numbers_at(kind.fields(), rest) {
-        Ok(numbers) => Ok(from_numbers(kind, numbers.as_slice())),
-        Err(place) => Err(TakeError::NotFiling(place)),
-    }
-}
-
-fn kind_at(code: u8) -> Option<Kind>
-    ensures value { result ≡ kind_in code }
-{
-    match code {
-        2 => Some(Kind::School),
-        4 => Some(Kind::Prior),
-        _ => None,
-    }
-}
-
-// The numbers of the fields in all of the bytes, which stand behind the kind's code.
-fn numbers_at(fields: &[Field], bytes: &[u8]) -> Result<Numbers, u64>
-    requires few { length fields.now ≤ 64 }
-    ensures value { result ≡ numbers_in fields.now 1 bytes.now }
-{
-    let mut numbers = Numbers::new();
+    let mut draft = Draft::new(kind);
     let mut place = 1;
     let mut rest = bytes;
-    for field in fields {
-        let Some(number) = number_at(field, rest) else {
+    while let Some(field) = draft.next() {
+        let Some(number) = number_at(field.form, rest) else {
             return Err(place);
         };
-        numbers.push(number);
-        let width = field.width.bytes();
+        if !draft.push(number) {
+            return Err(place);
+        }
+        let width = field.form.width();
         let (_, behind) = rest.split_at(width);
         rest = behind;
         place += width as u64;
     }
-    if rest.is_empty() {
-        Ok(numbers)
-    } else {
-        Err(place)
-    }
+    if rest.is_empty() { Ok(draft) } else { Err(place) }
 }
 
-fn number_at(field: &Field, bytes: &[u8]) -> Option<i64>
-    ensures value { result ≡ number_in field.now bytes.now }
-    ensures enough { IfSome result (λ _. width_of field.now.width ≤ length bytes.now) }
+// The number of a field at the front of the bytes, where they are enough and it is one of 64 bits with sign.
+fn number_at(form: Form, bytes: &[u8]) -> Option<i64>
+    ensures some { IfSome result (λ number. IsNumber form bytes.now number) }
+    ensures none { result ≡ None → IsNoNumber form bytes.now }
 {
-    let width = field.width.bytes();
+    let width = form.width();
     if bytes.len() < width {
         return None;
     }
-    tested(field, word_of(&bytes[..width]))
+    i64::try_from(value_of(form, word_of(&bytes[..width]))).ok()
 }
 
-fn tested(field: &Field, word: u64) -> Option<i64>
-    ensures value { result ≡ tested_in field.now (pos word) }
+// The number that a word is in a form.
+fn value_of(form: Form, word: u64) -> i128
+    ensures { result ≡ value_in form word }
 {
-    let high = field.high;
-    match i64::try_from(word) {
-        Err(_) => None,
-        Ok(number) if field.low <= number && number <= high => Some(number),
-        Ok(_) => None,
+    match form {
+        Form::I64 => signed(word, 1 << 63),
+        Form::Day => signed(word, 1 << 31),
+        _ => word as i128,
+    }
+}
+
+// The words from a half on are the numbers below 0.
+fn signed(word: u64, half: u64) -> i128
+    ensures { result ≡ (if nat_lt word half then pos word else pos word -ℤ pos (2 * half)) }
+{
+    if word < half {
+        word as i128
+    } else {
+        word as i128 - 2 * half as i128
     }
 }
 

@@ -196,7 +196,7 @@ AreNumbers-few (slot ∷ slots) earlier (z ∷ zs) h a =
 pub few_numbers : (kind : Kind) (zs : List ℤ) → AreNumbers (slots_of_kind kind) [] zs → length zs ≤ 369
 few_numbers kind zs h = omega (arith, AreNumbers-few (slots_of_kind kind) [] zs (are_sound-kind kind) h, most_of-kind kind)
 
-All-IsNarrow-cons : (z : ℤ) (zs : List ℤ) → IsNarrow z → All IsNarrow zs → All IsNarrow (z ∷ zs)
+pub All-IsNarrow-cons : (z : ℤ) (zs : List ℤ) → IsNarrow z → All IsNarrow zs → All IsNarrow (z ∷ zs)
 All-IsNarrow-cons z zs h k zero d below = h
 All-IsNarrow-cons z zs h k (suc i) d below = k i d (omega arith)
 
