@@ -1,3 +1,4 @@
+pub mod FilingLaws
 pub mod NumberLaws
 pub mod ReadingLoop
 pub mod RowLaws

@@ -1,5 +1,5 @@
 -- One number's bytes: what was read was spelled so, and what was spelled is read again.
-use Rattle.std.proofs.Common.{◌≡◌, ℕ, suc, ◌+◌, ◌-◌, ◌*◌, ◌^◌, ◌<◌, ◌≤◌, ℤ, pos, negsuc, ◌-ℤ◌, ◌≤ℤ◌, lit<, Bool, true, false, cond, ltb, lt-ltb, List, ◌++◌, length, take, drop, Option, Some, None, refl, sym, ap, subst, ◌∙◌, arith, length-append, inl, inr}
+use Rattle.std.proofs.Common.{◌≡◌, ℕ, suc, ◌+◌, ◌-◌, ◌^◌, ◌<◌, ◌≤◌, ℤ, pos, negsuc, ◌-ℤ◌, ◌≤ℤ◌, lit<, Bool, true, false, cond, ltb, lt-ltb, List, ◌++◌, length, take, drop, Option, Some, None, refl, sym, ap, subst, ◌∙◌, arith, length-append, inl, inr}
 use Rattle.std.specs.Int.{w64, to_le_bytes, from_le_bytes, cast_unsigned}
 use Rattle.std.proofs.lemmas.Bool.{cases_lt, ltb-false, le-ltb}
 use Rattle.std.proofs.lemmas.Int.{ints}
@@ -11,7 +11,7 @@ use Rattle.filing_kinds.specs.declared.field.Form.{Form}
 use Rattle.filing_kinds.specs.declared.field.Form.TheVariants.{U8, U16, U32, U64, I64, Cents, Day, Flag, Program, Count}
 use Rattle.filing_codec.specs.Spelling.{number_bytes}
 use Rattle.filing_codec.specs.Taking.{number_at, tested, value_in, with_sign}
-use Rattle.filing_codec.proofs.Widths.{AreBytes, AreBytes-drop, AreBytes-take, Width, bytes_again, low_four, size, size-word, within_word, word_again}
+use Rattle.filing_codec.proofs.Widths.{AreBytes, AreBytes-take, Width, bytes_again, low_four, size, size-word, within_word, word_again}
 use Rattle.filing_codec.proofs.Widths.Width.{one, two, four, eight}
 
 -- the width of a form

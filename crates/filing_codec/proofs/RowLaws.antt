@@ -1,6 +1,6 @@
 -- The bytes of a kind's numbers: what was read was spelled so, what was spelled is read again, and no spelling begins
 -- another.
-use Rattle.std.proofs.Common.{◌≡◌, ℕ, zero, suc, ◌+◌, ◌*◌, ◌≤◌, ◌==◌, Bool, true, false, cond, find, append_assoc, ℤ, List, [], ◌∷◌, ◌++◌, All, length, take, drop, Option, Some, None, Result, Ok, Err, refl, sym, ap, subst, ◌∙◌, arith, length-append, lit≤}
+use Rattle.std.proofs.Common.{◌≡◌, ℕ, zero, suc, ◌+◌, ◌*◌, ◌≤◌, ◌==◌, Bool, true, false, cond, find, append_assoc, ℤ, List, [], ◌∷◌, ◌++◌, All, length, take, drop, Option, Some, None, Result, Ok, Err, refl, sym, ap, subst, ◌∙◌, arith, length-append}
 use Rattle.std.specs.Int.{w64, from_le_bytes}
 use Rattle.std.proofs.lemmas.Bool.{and_parts, eqb-true}
 use Rattle.std.proofs.lemmas.List.{drop_at, take_at}
@@ -8,7 +8,7 @@ use Rattle.filing_kinds.specs.Forms.{IsHeld, are_sound, is_sound_slot}
 use Rattle.filing_kinds.specs.Kinds.{code_of, kind_at, kinds, row_of, slots_of_kind}
 use Rattle.filing_kinds.specs.Layout.{AreNumbers, after}
 use Rattle.filing_kinds.specs.Limits.{IsNarrow, fits}
-use Rattle.filing_kinds.specs.Parts.{Line, Slot, width_of}
+use Rattle.filing_kinds.specs.Parts.{Slot, width_of}
 use Rattle.filing_kinds.specs.declared.field.Form.{Form}
 use Rattle.filing_kinds.specs.declared.kind.Kind.{Kind}
 use Rattle.filing_kinds.specs.declared.kind.Kind.TheVariants.{Book, School, Calendar, Prior, Apply, Enrol, Originate, Pay, Withdraw, Repay, Adjust}

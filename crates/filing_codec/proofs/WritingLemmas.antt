@@ -1,5 +1,5 @@
 -- The bytes of numbers, one number after the other.
-use Rattle.std.proofs.Common.{◌≡◌, ℕ, ◌+◌, ◌<◌, ℤ, List, [], ◌∷◌, ◌++◌, length, drop, get_or, Bor, Option, Some, None, refl, sym, ap, subst, ◌∙◌, drop-cons, add-one, append_assoc}
+use Rattle.std.proofs.Common.{◌≡◌, ℕ, ◌+◌, ◌<◌, ℤ, List, [], ◌∷◌, ◌++◌, length, drop, get_or, Some, None, refl, sym, ap, subst, ◌∙◌, drop-cons, add-one, append_assoc}
 use Rattle.std.specs.Prelude.{option_map, slice_get}
 use Rattle.filing_codec.specs.Spelling.{number_bytes, numbers_bytes}
 use Rattle.filing_kinds.specs.Layout.{after}

@@ -1,13 +1,17 @@
 -- Reading a filing's bytes from left to right, with the place of the first fault.
-use Rattle.std.specs.Prelude.{ℕ, zero, suc, ◌+◌, ◌-◌, ◌^◌, ◌*◌, ℤ, pos, ◌-ℤ◌, nat_lt, Bool, List, [], ◌∷◌, length, take, drop, Option, Some, None, Result, Ok, Err, if◌then◌else◌}
+use Rattle.std.specs.Prelude.{◌≡◌, ℕ, zero, suc, ◌+◌, ◌-◌, ◌^◌, ◌*◌, ℤ, pos, ◌-ℤ◌, nat_lt, List, [], ◌∷◌, length, take, drop, Option, Some, None, Result, Ok, Err, if◌then◌else◌}
 use Rattle.std.specs.Int.{w64, from_le_bytes}
+use Rattle.aid_filings.specs.declared.filing.Filing.{Filing}
 use Rattle.filing_kinds.specs.Kinds.{kind_at, slots_of_kind}
 use Rattle.filing_kinds.specs.Layout.{after}
 use Rattle.filing_kinds.specs.Limits.{fits}
 use Rattle.filing_kinds.specs.Parts.{Line, Slot, width_of}
 use Rattle.filing_kinds.specs.declared.field.Form.{Form}
-use Rattle.filing_kinds.specs.declared.field.Form.TheVariants.{U8, U16, U32, U64, I64, Cents, Day, Flag, Program, Count}
+use Rattle.filing_kinds.specs.declared.field.Form.TheVariants.{I64, Day}
 use Rattle.filing_kinds.specs.declared.kind.Kind.{Kind}
+use Rattle.filing_numbers.specs.Numbers.{kind_of, numbers_of}
+use Rattle.filing_codec.specs.declared.reading.TakeError.{TakeError}
+use Rattle.filing_codec.specs.declared.reading.TakeError.TheVariants.{NotFiling, NoMemory}
 
 -- the number that so many bytes hold with a sign: the upper half of the words are the numbers below 0
 abbrev pub with_sign : ℕ → ℕ → ℤ
@@ -62,3 +66,9 @@ of_kind (Some kind) bytes = with_kind kind (numbers_at (length bytes) (slots_of_
 abbrev pub taken : List ℕ → Result (Kind × List ℤ) ℕ
 taken [] = Err 0
 taken (code ∷ bytes) = of_kind (kind_at code) bytes
+
+-- an answer is what reading gives, unless memory ran out
+abbrev pub Gives : Result Filing TakeError → Result (Kind × List ℤ) ℕ → Type 0
+Gives (Ok filing) read = read ≡ Ok (kind_of filing.what, numbers_of filing)
+Gives (Err (NotFiling place)) read = read ≡ Err place
+Gives (Err NoMemory) read = Unit {0}

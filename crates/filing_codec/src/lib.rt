@@ -3,3 +3,6 @@
 
 mod reading;
 mod writing;
+
+pub use reading::{TakeError, take};
+pub use writing::put;

@@ -1,12 +1,60 @@
 //! A filing from bytes.
-ghost use Rattle.std.specs.Prelude.{◌≡◌, ◌≤◌, ◌<◌, ℕ, length, nat_lt, pos, ◌-ℤ◌, ◌*◌, [], Ok, Err, None, IfSome, if◌then◌else◌};
+ghost use Rattle.std.specs.Prelude.{◌≡◌, ◌≢◌, ◌≤◌, ◌*◌, ◌-ℤ◌, [], length, nat_lt, pos, slice_get, Some, None, Ok, Err, IfOk, IfSome, if◌then◌else◌};
 ghost use Rattle.std.specs.Int.{w64, from_le_bytes};
+ghost use Rattle.aid_filings.specs.declared.filing.Filing.{Filing};
 ghost use Rattle.filing_codec.specs.Reading.{IsNumber, IsNoNumber, Reads};
-ghost use Rattle.filing_codec.specs.Taking.{numbers_at as numbers_in, value_in};
-ghost use Rattle.filing_kinds.specs.Kinds.{slots_of_kind};
-ghost use Rattle.filing_kinds.specs.Parts.{width_of};
+ghost use Rattle.filing_codec.specs.Spelling.{spelling};
+ghost use Rattle.filing_codec.specs.Taking.{Gives, numbers_at as numbers_in, taken, value_in};
+ghost use Rattle.filing_kinds.specs.Kinds.{code_of, slots_of_kind};
+ghost use Rattle.filing_numbers.specs.Numbers.{IsFiling};
 
-use filing_kinds::{Draft, Form, Kind};
+use aid_filings::Filing;
+use filing_kinds::{Draft, Form, Kind, kind_at};
+use filing_numbers::filing_of;
+use std::alloc::Global;
+
+/// Why bytes are no filing.
+#[derive(Clone, Copy, PartialEq, Eq, Debug)]
+pub enum TakeError {
+    /// The place of the first byte of the first field that is short or past its limit, or of the first byte too many.
+    NotFiling(u64),
+    /// There is no memory for the book that the bytes spell.
+    NoMemory,
+}
+
+/// The filing that the bytes spell, all of them. Only a book takes memory.
+pub fn take(alloc: Global, bytes: &[u8]) -> Result<Filing, TakeError>
+    // What is taken is spelled so.
+    ensures found { IfOk result (λ filing. IsFiling filing × (bytes.now ≡ spelling filing)) }
+    // What is spelled so is taken, unless memory runs out.
+    ensures only { (filing : Filing) → IsFiling filing → bytes.now ≡ spelling filing → result ≢ Err TakeError.NoMemory → result ≡ Ok filing }
+    // Which place it is.
+    ensures exact { Gives result (taken bytes.now) }
+    // Only a book takes memory.
+    ensures memory { result ≡ Err TakeError.NoMemory → slice_get bytes.now 0 ≡ Some (code_of Kind.Book) }
+{
+    filing_in(alloc, bytes)
+}
+
+fn filing_in(alloc: Global, bytes: &[u8]) -> Result<Filing, TakeError>
+    ensures exact { Gives result (taken bytes.now) }
+    ensures memory { result ≡ Err TakeError.NoMemory → slice_get bytes.now 0 ≡ Some (code_of Kind.Book) }
+{
+    let [code, rest @ ..] = bytes else {
+        return Err(TakeError::NotFiling(0));
+    };
+    let Some(kind) = kind_at(*code) else {
+        return Err(TakeError::NotFiling(0));
+    };
+    let draft = match numbers_at(kind, rest) {
+        Ok(draft) => draft,
+        Err(place) => return Err(TakeError::NotFiling(place)),
+    };
+    match filing_of(alloc, kind, draft.numbers()) {
+        Ok(filing) => Ok(filing),
+        Err(_) => Err(TakeError::NoMemory),
+    }
+}
 
 // The numbers of a kind in all of the bytes, which stand behind the kind's code.
 fn numbers_at(kind: Kind, bytes: &[u8]) -> Result<Draft, u64>
@@ -27,7 +75,11 @@ fn numbers_at(kind: Kind, bytes: &[u8]) -> Result<Draft, u64>
         rest = behind;
         place += width as u64;
     }
-    if rest.is_empty() { Ok(draft) } else { Err(place) }
+    if rest.is_empty() {
+        Ok(draft)
+    } else {
+        Err(place)
+    }
 }
 
 // The number of a field at the front of the bytes, where they are enough and it is one of 64 bits with sign.

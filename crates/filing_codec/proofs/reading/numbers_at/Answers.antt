@@ -1,4 +1,4 @@
-use Rattle.std.proofs.Common.{◌≡◌, ◌+◌, ◌-◌, ◌≤◌, length, arith, rules, refl, sym, ◌∙◌, SFits, w64}
+use Rattle.std.proofs.Common.{◌≡◌, ◌-◌, length, arith, rules, refl, sym, ◌∙◌, SFits, w64}
 use Rattle.std.proofs.lemmas.Int.{to_z-of_z}
 use Rattle.filing_kinds.specs.Draft.{onward}
 use Rattle.filing_kinds.specs.Parts.{line_of}
