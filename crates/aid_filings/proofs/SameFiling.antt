@@ -1,14 +1,11 @@
 -- The derived `==` of filings is equality.
-use Rattle.std.proofs.Common.{◌≡◌, ℕ, pos, arith, Bool, true, ◌&&◌, ◌≤◌, List, length, take, refl, ap, sym, ◌∙◌, Decides}
+use Rattle.std.proofs.Common.{◌≡◌, ℕ, Bool, true, ◌≤◌, List, refl, ap, sym, Decides}
 use Rattle.std.specs.Coded.{le_prop}
-use Rattle.std.specs.Prelude.{◌-ℤ◌, nat_eq}
-use Rattle.std.proofs.lemmas.Int.{ints}
-use Rattle.std.proofs.lemmas.Bool.{and_parts, and_from, eqb-true, eq-eqb, true≢false}
+use Rattle.std.proofs.lemmas.Bool.{true≢false}
 use denote.Struct.Props.{props}
-use lib.Pointwise.{pointwise}
 use Rattle.aid_types.proofs.Same.{Tells, decides, tells_pair, tells_by, same_with_fact, tells_ℕ, tells_key}
 use Rattle.aid_types.proofs.SameApplication.{tells_Bool, tells_application}
-use Rattle.aid_types.proofs.SameTerm.{tells_breaks, tells_day, tells_program, tells_ℕs}
+use Rattle.aid_types.proofs.SameTerm.{tells_breaks, tells_day, tells_program, tells_by_program}
 use Rattle.aid_books.proofs.SameBook.{tells_book}
 use Rattle.aid_types.specs.Ranges.{EachIsCents, IsBetween}
 use Rattle.aid_types.specs.declared.number.Key.{Key}
@@ -141,7 +138,7 @@ withdraw_facts_whole x y e =
 
 pub tells_withdraw_facts : Tells withdraw_facts_eq.it
 unfolding withdraw_facts_parts
-tells_withdraw_facts = tells_by withdraw_facts_parts withdraw_facts_whole (tells_pair tells_ℕ (tells_pair tells_ℕ (tells_pair tells_ℕ (tells_pair tells_day (tells_pair tells_day (tells_pair tells_ℕ tells_ℕs))))))
+tells_withdraw_facts = tells_by withdraw_facts_parts withdraw_facts_whole (tells_pair tells_ℕ (tells_pair tells_ℕ (tells_pair tells_ℕ (tells_pair tells_day (tells_pair tells_day (tells_pair tells_ℕ tells_by_program))))))
 
 pub tells_what : Tells what_eq.it
 tells_what = record { same = same; told = told } where

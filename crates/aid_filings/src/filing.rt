@@ -3,7 +3,7 @@ ghost use Rattle.std.specs.Prelude.{◌≡◌, ◌≤◌};
 ghost use Rattle.aid_types.specs.Ranges.{EachIsCents, IsBetween};
 
 use aid_books::BoxedBook;
-use aid_types::{Application, Breaks, Day, Key, Program, Student, Term, Year};
+use aid_types::{Application, Breaks, ByProgram, Day, Key, Program, Student, Term, Year};
 
 /// A school with its main terms in a year, 2 or 3, and its full-time credits, 1 to 40. `code` is 1 to 999,999.
 #[derive(Clone, Copy, PartialEq, Eq, Debug)]
@@ -76,7 +76,7 @@ pub struct WithdrawFacts {
     pub last: Day,
     pub determined: Day,
     pub charges: u64,
-    pub could: [u64; 6],
+    pub could: ByProgram,
     pub ghost in_range: { IsBetween 1 8 term × (charges ≤ 99999999) },
     pub ghost could_in_range: { EachIsCents could },
 }
@@ -123,6 +123,25 @@ impl CalendarFacts {
             first: self.first,
             last: self.last,
             breaks: self.breaks,
+        }
+    }
+}
+
+impl What {
+    ghost use Rattle.aid_filings.specs.Students.{student_of};
+
+    /// The student whom it is about; `None` where it is a book, a school or a term.
+    pub fn student(&self) -> Option<Student>
+        ensures { result ≡ student_of self.now }
+    {
+        match self {
+            What::Book(_) | What::School(_) | What::Calendar(_) => None,
+            What::Prior(prior) => Some(prior.student),
+            What::Apply(application) => Some(application.student),
+            What::Enrol(enrolment) => Some(enrolment.student),
+            What::Originate(origination) => Some(origination.student),
+            What::Withdraw(withdrawal) => Some(withdrawal.student),
+            What::Pay(amount) | What::Repay(amount) | What::Adjust(amount) => Some(amount.student),
         }
     }
 }

@@ -1,15 +1,15 @@
--- The derived `==` of programs, days and breaks is equality.
+-- The derived `==` of programs, amounts by program, days and breaks is equality.
 use Rattle.std.proofs.Common.{◌≡◌, ℕ, pos, arith, true, refl, sym}
-use Rattle.std.specs.Prelude.{◌-ℤ◌, nat_eq}
+use Rattle.std.specs.Prelude.{◌-ℤ◌}
 use Rattle.std.proofs.lemmas.Int.{ints}
 use Rattle.std.proofs.lemmas.Bool.{true≢false}
-use lib.Pointwise.{pointwise}
 use Rattle.aid_types.proofs.Same.{Tells, tells_by, tells_filled, tells_list, tells_pair, tells_ℕ, tells_ℤ}
 use Rattle.aid_types.specs.declared.number.Program.{Program}
 use Rattle.aid_types.specs.declared.number.Program.TheVariants.{Unsub, Sub, Plus, Pell, Fseog, Teach}
 use Rattle.aid_types.specs.contracts.number.ProgramPartialEq.TheImpl.{eq-value as program_eq}
 use Rattle.aid_types.specs.contracts.day.DayPartialEq.TheImpl.{eq-value as day_eq}
 use Rattle.aid_types.specs.contracts.term.BreaksPartialEq.TheImpl.{eq-value as breaks_eq}
+use Rattle.aid_types.specs.contracts.by_program.ByProgramPartialEq.TheImpl.{eq-value as by_program_eq}
 
 pub tells_program : Tells program_eq.it
 tells_program = record { same = same; told = told } where
@@ -38,5 +38,5 @@ tells_day = tells_by (λ (n : ℕ). pos n -ℤ pos 25567) whole tells_ℤ where
 pub tells_breaks : Tells breaks_eq.it
 tells_breaks = tells_filled 8 (25567, 25567) (tells_pair tells_day tells_day)
 
-pub tells_ℕs : Tells (pointwise nat_eq)
-tells_ℕs = tells_list tells_ℕ
+pub tells_by_program : Tells by_program_eq.it
+tells_by_program = tells_list tells_ℕ

@@ -3,7 +3,7 @@ use std::marker::Model;
 
 /// A civil day, by the days since 1970-01-01: 1900-01-01, which is -25,567, to 9999-12-31, which is 2,932,896. A contract
 /// sees the count of days since 1900-01-01.
-#[derive(Clone, Copy, PartialEq, Eq, PartialOrd, Ord, Debug)]
+#[derive(Clone, Copy, PartialEq, Eq, Debug)]
 pub struct Day(pub i32);
 
 impl Model for Day {

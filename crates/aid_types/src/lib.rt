@@ -3,6 +3,7 @@
 
 mod application;
 mod award;
+mod by_program;
 mod day;
 mod name;
 mod number;
@@ -10,6 +11,7 @@ mod term;
 
 pub use application::{Application, Region, Side};
 pub use award::{Formula, Refusal, Way};
+pub use by_program::ByProgram;
 pub use day::Day;
 pub use name::Name;
 pub use number::{Key, Program, School, Student, Year};

@@ -5,7 +5,7 @@ ghost use Rattle.aid_types.specs.Ranges.{IsBetween};
 use std::marker::Model;
 
 /// An award year, by the first of its two calendar years: 2000 to 2099.
-#[derive(Clone, Copy, PartialEq, Eq, PartialOrd, Ord, Debug)]
+#[derive(Clone, Copy, PartialEq, Eq, Debug)]
 pub struct Year(pub u16);
 
 impl Model for Year {
@@ -22,7 +22,7 @@ impl Model for Year {
 }
 
 /// A student's number: 1 to 999,999,999,999.
-#[derive(Clone, Copy, PartialEq, Eq, PartialOrd, Ord, Debug)]
+#[derive(Clone, Copy, PartialEq, Eq, Debug)]
 pub struct Student(pub u64);
 
 impl Model for Student {
@@ -39,7 +39,7 @@ impl Model for Student {
 }
 
 /// A school's code: 0, the office's own desk, to 999,999.
-#[derive(Clone, Copy, PartialEq, Eq, PartialOrd, Ord, Debug)]
+#[derive(Clone, Copy, PartialEq, Eq, Debug)]
 pub struct School(pub u32);
 
 impl Model for School {
@@ -55,7 +55,7 @@ impl Model for School {
 }
 
 /// A program of aid under Title IV, in the order of returns (34 CFR 668.22(i)).
-#[derive(Clone, Copy, PartialEq, Eq, PartialOrd, Ord, Debug)]
+#[derive(Clone, Copy, PartialEq, Eq, Debug)]
 pub enum Program {
     Unsub,
     Sub,
@@ -67,6 +67,16 @@ pub enum Program {
 
 impl Program {
     ghost use Rattle.aid_types.specs.Programs.{rank as rank_of};
+
+    /// All programs in the order of returns.
+    pub const ALL: [Program; 6] = [
+        Program::Unsub,
+        Program::Sub,
+        Program::Plus,
+        Program::Pell,
+        Program::Fseog,
+        Program::Teach,
+    ];
 
     /// Its place in the order of returns, from 0.
     pub fn rank(self) -> usize

@@ -7,4 +7,4 @@ mod terms;
 
 pub use calendar::{day, due};
 pub use day_text::{put_day, read_day};
-pub use terms::{days, intensity, period_pay};
+pub use terms::{days, intensity, period_pay, shares_day};

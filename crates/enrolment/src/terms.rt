@@ -1,7 +1,7 @@
 //! The days of a term, enrolment intensity and the payment of a term.
 ghost use Rattle.std.specs.Prelude.{◌≡◌, ◌≤◌, ◌*◌, ◌<◌, ◌+◌, ◌-◌, ◌^◌};
 ghost use Rattle.aid_types.specs.Ranges.{IsBetween};
-ghost use Rattle.enrolment.specs.Terms.{IsLawful, days_upto, intensity_of, payment_of, long_days};
+ghost use Rattle.enrolment.specs.Terms.{IsLawful, days_upto, intensity_of, payment_of, long_days, shares_day as shares_day_of};
 
 use aid_num::nearest_whole;
 use aid_types::{Day, Term};
@@ -62,4 +62,11 @@ fn long_break_days(from: u32, to: u32, first: u32, end: u32) -> u32
         return 0;
     }
     (to + 1).min(end).saturating_sub(from)
+}
+
+/// Whether two terms share a day, breaks included.
+pub fn shares_day(term: &Term, other: &Term) -> bool
+    ensures { result ≡ shares_day_of term.now other.now }
+{
+    !other.last.is_before(term.first) && !term.last.is_before(other.first)
 }

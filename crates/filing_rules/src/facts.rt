@@ -1,5 +1,5 @@
 //! What the rules read of the filings so far.
-use aid_types::{Refusal, Term};
+use aid_types::{ByProgram, Refusal, Term};
 
 /// What the rules read of the filings that stand. A position counts from 1, and is 0 where there is nothing; amounts are
 /// in cents, awards and costs in dollars, lifetime use in thousandths of a percent. 'The school' is that of the filing's
@@ -55,7 +55,7 @@ pub struct Facts {
     pub after: u64,
     pub after_all: u64,
     pub post: u64,
-    pub could: [u64; 6],
+    pub could: ByProgram,
     /// What the student owes of the program in the term, and what was repaid of it.
     pub owed: u64,
     pub repaid: u64,
@@ -65,4 +65,45 @@ pub struct Facts {
     /// more net Pell than that award gives it.
     pub next_scheduled: u32,
     pub term_over: Option<Refusal>,
+}
+
+impl Facts {
+    /// The facts where there is nothing.
+    pub const EMPTY: Facts = Facts {
+        filings: 0,
+        school_at: 0,
+        terms: 0,
+        full: 0,
+        code_at: 0,
+        book_at: 0,
+        term_at: 0,
+        term: None,
+        overlap_at: 0,
+        main_terms: 0,
+        prior_at: 0,
+        pell_at: 0,
+        transaction: 0,
+        scheduled: 0,
+        cost_at: 0,
+        cost: 0,
+        credits: 0,
+        withdrawn_at: 0,
+        net: 0,
+        pell_term: 0,
+        pell_year: 0,
+        pell_main: 0,
+        fseog_year: 0,
+        net_all: 0,
+        used_else: 0,
+        other_school: 0,
+        after: 0,
+        after_all: 0,
+        post: 0,
+        could: ByProgram::EMPTY,
+        owed: 0,
+        repaid: 0,
+        unfit: None,
+        next_scheduled: 0,
+        term_over: None,
+    };
 }

@@ -136,7 +136,7 @@ fn broken_by_withdrawal(f: &Facts, program: Program, cents: u64) -> Option<Refus
     if f.withdrawn_at == 0 {
         return None;
     }
-    let could = f.could[program.rank()];
+    let could = f.could.at(program);
     if f.after + cents > could {
         return refused(52, f.after + cents, could);
     }

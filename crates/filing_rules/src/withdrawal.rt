@@ -1,5 +1,5 @@
 //! The rules on a withdrawal.
-ghost use Rattle.std.specs.Prelude.{◌≡◌, ◌≤◌, ◌<◌, [], ◌∷◌, IsNone, sum, length};
+ghost use Rattle.std.specs.Prelude.{◌≡◌, ◌≤◌, ◌<◌, [], ◌∷◌, IsNone};
 ghost use Rattle.aid_types.specs.Ranges.{EachIsCents};
 ghost use Rattle.aid_filings.specs.declared.filing.What.TheVariants.{Withdraw};
 ghost use Rattle.filing_rules.specs.InRange.{IsInRange};
@@ -10,7 +10,7 @@ use crate::facts::Facts;
 use crate::limits::{PellRules, broken_by_cost, broken_by_fseog, broken_by_pell};
 use crate::refusal::{broken_by_school, refused};
 use aid_filings::WithdrawFacts;
-use aid_types::{Program, Refusal, School};
+use aid_types::{ByProgram, Program, Refusal, School};
 
 /// The rule on a withdrawal after which what could have been disbursed of Pell is past a limit.
 const WITHDRAWAL_RULES: PellRules = PellRules {
@@ -86,21 +86,21 @@ fn broken_by_days(f: &Facts, withdrawal: &WithdrawFacts) -> Option<Refusal>
 }
 
 /// The first limit that what could have been disbursed passes, all of it paid at once.
-#[tactic(auto, using(crate::proofs::Groups::could_groups))]
-fn broken_by_could(f: &Facts, could: &[u64; 6]) -> Option<Refusal>
+#[tactic(auto, using(crate::proofs::Groups::could_groups, aid_types::proofs::ProgramLemmas::cents_at))]
+fn broken_by_could(f: &Facts, could: &ByProgram) -> Option<Refusal>
     requires facts { IsInRange f.now }
     requires on_file { f.now.school_at ≡ 0 → ⊥ }
     requires enrolled { 1 ≤ f.now.credits }
     requires amounts { EachIsCents could.now }
     ensures { result ≡ first_broken (rule_63 f.now could.now) }
 {
-    if let Some(refusal) = broken_by_pell_could(f, could[Program::Pell.rank()]) {
+    if let Some(refusal) = broken_by_pell_could(f, could.at(Program::Pell)) {
         return Some(refusal);
     }
-    if let Some(refusal) = broken_by_fseog_could(f, could[Program::Fseog.rank()]) {
+    if let Some(refusal) = broken_by_fseog_could(f, could.at(Program::Fseog)) {
         return Some(refusal);
     }
-    broken_by_total_could(f, total_of(could))
+    broken_by_total_could(f, could.sum())
 }
 
 /// The first limit on Pell that the Pell amount passes, if there is one.
@@ -139,14 +139,4 @@ fn broken_by_total_could(f: &Facts, cents: u64) -> Option<Refusal>
         return None;
     }
     broken_by_cost(f, 63, cents)
-}
-
-/// The sum of the amounts of all programs.
-#[tactic(auto, using(crate::proofs::Cents::cents_at))]
-fn total_of(amounts: &[u64; 6]) -> u64
-    requires { EachIsCents amounts.now }
-    ensures value { result ≡ sum amounts.now }
-    ensures at_most { result ≤ 599999994 }
-{
-    amounts[0] + amounts[1] + amounts[2] + amounts[3] + amounts[4] + amounts[5]
 }

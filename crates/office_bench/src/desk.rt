@@ -11,11 +11,11 @@ use aid_filings::{CalendarFacts, Filing, SchoolFacts, What};
 use aid_replies::{Ask, Verdict};
 use aid_types::{Breaks, Day, Key, School, Student, Year};
 use office_core::Office;
-use steps::Steps;
 use specimen::specimen_book;
 use std::alloc::{AllocError, Global};
 use std::marker::Brand;
 use std::sync::ledger::{Blank, Ledger};
+use steps::Steps;
 
 /// An office, and what came of the filings so far.
 #[derive(Drop)]

@@ -3,7 +3,7 @@ ghost use Rattle.std.specs.Prelude.{◌<◌, ◌≤◌};
 ghost use Rattle.aid_types.specs.Ranges.{IsAmount, IsBetween};
 
 use aid_filings::{Amount, EnrolFacts, OriginateFacts, What, WithdrawFacts};
-use aid_types::{Application, Day, Program, Region, Side, Student, Year};
+use aid_types::{Application, ByProgram, Day, Program, Region, Side, Student, Year};
 
 /// The award year of all filings.
 pub const YEAR: u16 = 2025;
@@ -64,34 +64,12 @@ impl Sequence {
     }
 }
 
-// A household without income and assets.
-fn nothing() -> Side {
-    Side {
-        agi: 0,
-        ira: 0,
-        interest: 0,
-        ira_untaxed: 0,
-        pension: 0,
-        foreign: 0,
-        grants: 0,
-        credits: 0,
-        work_study: 0,
-        tax: 0,
-        earned_first: 0,
-        earned_second: 0,
-        support: 0,
-        cash: 0,
-        investments: 0,
-        business: 0,
-    }
-}
-
 /// The application of a dependent student of a family of four, whose parents earned all of their income and paid a tenth
 /// of it in tax.
 pub fn application(student: Student, agi: u32) -> What
     requires { agi < 120000 }
 {
-    let mut parents = nothing();
+    let mut parents = Side::EMPTY;
     parents.agi = i64::from(agi);
     parents.tax = i64::from(agi / 10);
     parents.earned_first = i64::from(agi);
@@ -113,7 +91,7 @@ pub fn application(student: Student, agi: u32) -> What
         emancipated: false,
         homeless: false,
         student_file: true,
-        own: nothing(),
+        own: Side::EMPTY,
         parents_married: true,
         parents_file: true,
         parent_age: 48,
@@ -163,6 +141,6 @@ pub fn withdrawal(student: Student, days: u8) -> What {
         last: Day(last),
         determined: Day(last + 7),
         charges: 200_000,
-        could: [0; 6],
+        could: ByProgram::EMPTY,
     })
 }

@@ -8,21 +8,18 @@ ghost use Rattle.on_file.specs.Names.{NoneNames};
 ghost use Rattle.office_history.specs.Answer.{IsLegal};
 ghost use Rattle.office_history.specs.Award.{unfit_under};
 ghost use Rattle.office_history.specs.Past.{the_book, application as application_in_force};
-ghost use Rattle.office_history.specs.FactsOf.{aid_facts as aid_facts_of, apply_facts as apply_facts_of, award_filed as award_filed_of, desk_facts as desk_facts_of, facts_of, no_facts as no_facts_of, payment_facts as payment_facts_of, transaction_of};
+ghost use Rattle.office_history.specs.FactsOf.{aid_facts as aid_facts_of, apply_facts as apply_facts_of, award_filed as award_filed_of, desk_facts as desk_facts_of, facts_of, payment_facts as payment_facts_of, transaction_of};
 
 use crate::terms::{other_school, term_over};
 use aid_filings::{Amount, CalendarFacts, EnrolFacts, Filing, OriginateFacts, What};
-use aid_types::{Application, Program, Refusal, School, Student, Year};
+use aid_types::{Application, ByProgram, Program, Refusal, School, Student, Year};
 use filing_rules::Facts;
 use on_file::{
-    application_since, award, before_student, book, cost_since, credits_since, main_terms,
-    overlapping_term, position_of_book, position_of_cost_since, position_of_pell,
-    position_of_prior, position_of_school, position_of_term, position_of_withdrawal_since,
-    scheduled_since, school, term, withdrawal_since,
-};
-use on_file::{
-    net_at, net_at_school, net_in_year, net_of_main_terms, owed, paid_after, paid_after_all, post,
-    repaid, used_else,
+    application_since, award, before_student, book, cost_since, credits_since, main_terms, net_at,
+    net_at_school, net_in_year, net_of_main_terms, overlapping_term, owed, paid_after,
+    paid_after_all, position_of_book, position_of_cost_since, position_of_pell, position_of_prior,
+    position_of_school, position_of_term, position_of_withdrawal_since, post, repaid,
+    scheduled_since, school, term, used_else, withdrawal_since,
 };
 use sai_index::fits;
 
@@ -69,48 +66,6 @@ fn facts_of_kind(history: &[Filing], filing: &Filing) -> Facts
     }
 }
 
-fn no_facts() -> Facts
-    ensures { result ≡ no_facts_of }
-{
-    Facts {
-        filings: 0,
-        school_at: 0,
-        terms: 0,
-        full: 0,
-        code_at: 0,
-        book_at: 0,
-        term_at: 0,
-        term: None,
-        overlap_at: 0,
-        main_terms: 0,
-        prior_at: 0,
-        pell_at: 0,
-        transaction: 0,
-        scheduled: 0,
-        cost_at: 0,
-        cost: 0,
-        credits: 0,
-        withdrawn_at: 0,
-        net: 0,
-        pell_term: 0,
-        pell_year: 0,
-        pell_main: 0,
-        fseog_year: 0,
-        net_all: 0,
-        used_else: 0,
-        other_school: 0,
-        after: 0,
-        after_all: 0,
-        post: 0,
-        could: [0; 6],
-        owed: 0,
-        repaid: 0,
-        unfit: None,
-        next_scheduled: 0,
-        term_over: None,
-    }
-}
-
 // What is given for every kind.
 #[tactic(auto, using(crate::proofs::Short::counted))]
 fn desk_facts(history: &[Filing], code: School) -> Facts
@@ -126,7 +81,7 @@ fn desk_facts(history: &[Filing], code: School) -> Facts
         school_at: position_of_school(history, code.0),
         terms,
         full,
-        ..no_facts()
+        ..Facts::EMPTY
     }
 }
 
@@ -193,7 +148,7 @@ fn facts_of_payment(
     let since = before_student(history, student);
     let could = match withdrawal_since(history, since, school, student, year, number) {
         Some(facts) => facts.could,
-        None => [0; 6],
+        None => ByProgram::EMPTY,
     };
     Facts {
         other_school: other_school(history, since, school, student, year, number),

@@ -11,6 +11,6 @@ mod terms;
 
 pub use answers::{answer, is_legal};
 pub use kinds::{facts, payment_facts};
+pub use office::Office;
 pub use outcomes::{outcome, past_outcome};
 pub use standings::{quote, standing};
-pub use office::Office;

@@ -16,15 +16,15 @@ ghost use Rattle.office_history.specs.Past.{key_at};
 ghost use Rattle.office_history.specs.Within.{IsWithin};
 ghost use Rattle.office_core.specs.Register.{filing_in};
 
-use steps::Steps;
+use crate::{answer, outcome, past_outcome, quote, standing};
 use aid_filings::Filing;
 use aid_replies::{Ask, Outcome, Verdict};
 use aid_types::{Program, School, Student, Year};
 use on_file::net_at;
-use crate::{answer, outcome, past_outcome, quote, standing};
 use std::alloc::{AllocError, Global};
 use std::marker::Model;
 use std::sync::ledger::Ledger;
+use steps::Steps;
 
 /// An office: the filings that were admitted, and room for more. A contract sees its history, the newest filing first,
 /// and its spare room. The history of every office is legal.

@@ -1,5 +1,5 @@
 //! With what a filing is admitted.
-ghost use Rattle.std.specs.Prelude.{◌≡◌, ◌∷◌, ◌≤◌, Some, length, reverse, sum};
+ghost use Rattle.std.specs.Prelude.{◌≡◌, ◌∷◌, ◌≤◌, Some, length, reverse};
 ghost use Rattle.aid_types.specs.Ranges.{IsBetween};
 ghost use Rattle.office_history.specs.Answer.{IsLegal, indexed, indexed_by, outcome_at, outcome_of};
 ghost use Rattle.office_history.specs.Net.{sheet as sheet_after};
@@ -12,9 +12,10 @@ use aid_books::Book;
 use aid_filings::{Amount, Filing, What, WithdrawFacts};
 use aid_replies::Outcome;
 use aid_types::{Application, Key, Program};
-use on_file::{application_since, before_student, book, scheduled_since};
 use lifetime_ledger::use_of;
-use on_file::{net_in_year, sheet, used, used_else};
+use on_file::{
+    application_since, before_student, book, net_in_year, scheduled_since, sheet, used, used_else,
+};
 use sai_index::formula_of;
 
 /// With what a filing is admitted after the filings so far: an application with the award it brings, a payment with the
@@ -113,15 +114,7 @@ fn outcome_of_withdrawal(history: &[Filing], key: &Key, withdrawal: &WithdrawFac
     Outcome::Returned {
         percent: lines.percent,
         school: lines.school,
-        owed: total_of(&lines.owed),
+        owed: lines.owed.sum(),
         post: lines.post,
     }
-}
-
-// The sum of the amounts of all programs.
-fn total_of(amounts: &[u64; 6]) -> u64
-    requires { sum amounts.now ≤ 600000000 }
-    ensures { result ≡ sum amounts.now }
-{
-    amounts[0] + amounts[1] + amounts[2] + amounts[3] + amounts[4] + amounts[5]
 }

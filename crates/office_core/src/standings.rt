@@ -10,8 +10,7 @@ use aid_books::Book;
 use aid_filings::Filing;
 use aid_replies::StandingRow;
 use aid_types::{Application, Formula, Program, School, Student, Way, Year};
-use on_file::{application_since, before_student, book};
-use on_file::{net_in_year, used};
+use on_file::{application_since, before_student, book, net_in_year, used};
 use sai_index::formula_of;
 
 /// The greatest Pell payment in cents, of whole dollars, that the school could file for the student's term under a new

@@ -2,7 +2,6 @@
 ghost use Rattle.std.specs.Prelude.{◌≡◌, ℕ, ◌≤◌, ◌∷◌, true, List, Some, length, reverse, take};
 ghost use Rattle.std.specs.Option.{option_copied};
 ghost use Rattle.aid_filings.specs.declared.filing.Filing.{Filing as AnyFiling};
-ghost use Rattle.enrolment.specs.Terms.{shares_day as shares_day_of};
 ghost use Rattle.office_history.specs.Answer.{IsLegal};
 ghost use Rattle.office_history.specs.FactsOf.{is_over as is_over_of, is_paid_beside as is_paid_beside_of, least_code, lesser_code, payment_at as payment_of_term, term_over as term_over_of};
 ghost use Rattle.office_history.specs.Past.{the_term, terms_on_file};
@@ -11,9 +10,8 @@ ghost use Rattle.office_core.specs.Terms.{calendar_in as calendar_filed, earlier
 
 use aid_filings::{CalendarFacts, Filing, What};
 use aid_types::{Program, Refusal, School, Student, Term, Year};
-use enrolment::{intensity, period_pay};
-use on_file::{credits_since, school, term};
-use on_file::net_at;
+use enrolment::{intensity, period_pay, shares_day};
+use on_file::{credits_since, net_at, school, term};
 
 /// The least code of another school that has a term which shares a day with this one and holds net Pell of the student;
 /// 0 where there is none.
@@ -191,13 +189,6 @@ fn is_paid_beside(
             calendar.term,
             Program::Pell,
         )
-}
-
-// Whether two terms share a day, breaks included.
-fn shares_day(term: &Term, other: &Term) -> bool
-    ensures { result ≡ shares_day_of term.now other.now }
-{
-    term.first <= other.last && other.first <= term.last
 }
 
 // Whether a term of the year holds more net Pell of the student than an award gives it.

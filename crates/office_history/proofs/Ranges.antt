@@ -2,13 +2,14 @@
 use Rattle.std.proofs.Common.{◌+◌, ◌≡◌, ℕ, ◌*◌, ◌≤◌, arith, refl, Bool, true, false, ◌&&◌, ◌||◌, List, [], ◌∷◌, Option, Some, None, zero-le, cond, length, ◌<◌, not, ◌++◌, subst, leb-false, eqb-true, ltb-false}
 use Rattle.std.specs.Prelude.{◌==◌, nat_lt, is_some, nat_le, sum, slice_index}
 use Rattle.std.proofs.lemmas.Bool.Decides.{nat_tests}
+use Rattle.aid_types.specs.Programs.{six}
 use Rattle.aid_types.specs.declared.number.Key.{Key}
 use Rattle.aid_filings.specs.declared.filing.What.{What}
 use Rattle.aid_filings.specs.declared.filing.What.TheVariants.{Book as BookFiled, School, Calendar, Prior, Apply, Enrol, Originate, Pay, Withdraw, Repay, Adjust}
 use Rattle.filing_rules.specs.Rules.{lines_of, rule_21, rule_22, rule_23, rule_24, where_true, only, over, too_early, rule_62, rule_63, past_payment, past_year, past_lifetime, past_fseog, past_cost}
 use Rattle.aid_filings.specs.declared.filing.Filing.{Filing}
 use Rattle.office_history.specs.Past.{amount_or, at_school, cost, cost_in, credits, credits_in, earlier, earliest, given, if_here, later, latest, OnFile, terms_on_file, the_school, the_withdrawal, the_term}
-use Rattle.office_history.specs.Net.{Cell, is_cell, paid, net_at, at_school_in_year, Move, onto, cell_of, paid_after, repaid, used_else, use_in, all_years, net, taken, owed, post, sheet, six, days_of, last_of, withdrawn_cell}
+use Rattle.office_history.specs.Net.{Cell, is_cell, paid, net_at, at_school_in_year, Move, onto, cell_of, paid_after, repaid, used_else, use_in, all_years, net, taken, owed, post, sheet, days_of, last_of, withdrawn_cell}
 use Rattle.office_history.specs.FactsOf.{facts_of, terms_of}
 use Rattle.office_history.specs.Answer.{breaks, IsLegal}
 use Rattle.office_history.proofs.Checks.{all_hold, hold_back, hold_only, AllHold, over_holds}

@@ -1,9 +1,10 @@
 -- What a worksheet returns and leaves owed of a program is at most its net.
 use Rattle.std.proofs.Common.{◌≡◌, ℕ, zero, suc, ◌+◌, ◌-◌, ◌≤◌, refl, arith, cond, Bool, true, false, List, min, zero-le, ◌*◌, ltb-false}
 use Rattle.std.specs.Prelude.{nat_le, nat_lt, sum}
+use Rattle.aid_types.specs.Programs.{six}
 use Rattle.aid_types.specs.declared.number.Key.{Key}
 use Rattle.aid_filings.specs.declared.filing.WithdrawFacts.{WithdrawFacts}
-use Rattle.office_history.specs.Net.{Cell, six, withdrawn_cell}
+use Rattle.office_history.specs.Net.{Cell, withdrawn_cell}
 use Rattle.withdrawal_returns.specs.Worksheet.{grant_owed, worksheet_of, percent_earned}
 use Rattle.office_history.proofs.Cells.{SumsBelow}
 use Rattle.std.proofs.Math.Nat.{div-zero, mul-le-mul_left}

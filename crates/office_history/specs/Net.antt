@@ -1,7 +1,7 @@
 -- Net amounts: sums over all positions of a history.
 use Rattle.std.specs.Prelude.{ℕ, ◌+◌, ◌-◌, ◌==◌, ◌&&◌, Bool, not, List, [], ◌∷◌, Option, Some, None, is_some, if◌then◌else◌}
 use Rattle.std.specs.List.{range_with_len}
-use Rattle.aid_types.specs.Programs.{rank}
+use Rattle.aid_types.specs.Programs.{rank, six}
 use Rattle.aid_types.specs.declared.number.Key.{Key}
 use Rattle.aid_types.specs.declared.term.Term.{Term}
 use Rattle.aid_filings.specs.declared.filing.Amount.{Amount}
@@ -68,10 +68,6 @@ days_of (Some t) upto = days_upto t upto
 abbrev pub last_of : Option Term → ℕ
 last_of None = 0
 last_of (Some t) = t.last
-
--- the six nets before a withdrawal
-abbrev pub six : (ℕ → ℕ) → List ℕ
-six g = g 0 ∷ g 1 ∷ g 2 ∷ g 3 ∷ g 4 ∷ g 5 ∷ []
 
 -- the worksheet of a withdrawal: on the term, and on the nets before it
 abbrev pub sheet_of : Option Term → (Cell → ℕ) → Key → WithdrawFacts → Lines

@@ -1,17 +1,16 @@
 -- An account with what one filing more moves.
 use Rattle.std.proofs.Common.{◌≡◌, ℕ, refl, sym, ◌∙◌, ◌-◌, ◌≤◌, arith, Bool, List, ◌∷◌}
 use Rattle.std.specs.Prelude.{slice_index}
-use Rattle.withdrawal_returns.specs.Worksheet.{remains}
-use Rattle.aid_types.specs.Programs.{rank}
+use Rattle.aid_types.specs.Programs.{minus, plus, rank, six}
 use Rattle.aid_types.specs.declared.number.Program.{Program}
 use Rattle.aid_filings.specs.declared.filing.Filing.{Filing}
-use Rattle.office_history.specs.Net.{Cell, Move, six, is_cell, in_term, moved, onto, net_at, paid, taken, owed, repaid, post, paid_after, payments_in, takings_in, owings_in, repayments_in, payments_after, posts_in}
+use Rattle.office_history.specs.Net.{Cell, Move, is_cell, in_term, moved, onto, net_at, paid, taken, owed, repaid, post, paid_after, payments_in, takings_in, owings_in, repayments_in, payments_after, posts_in}
 use Rattle.office_history.specs.FactsOf.{cell_at}
 use Rattle.office_history.specs.Answer.{IsLegal}
 use Rattle.office_history.proofs.Cells.{onto_is}
 use Rattle.on_file.specs.declared.account.Account.{Account}
-use Rattle.on_file.specs.Accounts.{IsAccount, IsEntry, HasSums, both, joined, nothing}
-use Rattle.on_file.proofs.Sixes.{both-six, six-sums, six-rank}
+use Rattle.on_file.specs.Accounts.{IsAccount, IsEntry, HasSums, joined, nothing}
+use Rattle.on_file.proofs.Sixes.{plus-six, six-sums, six-rank}
 use Rattle.on_file.proofs.Bounds.{paid-most, taken-most, owed-most, repaid-most, after-most, post-most}
 
 pub account-joined : (past : List Filing) (f : Filing) (school student year term : ℕ) (a e : Account) →
@@ -20,18 +19,18 @@ account-joined past f school student year term a e h k =
     let cell = cell_at school student year term in
     let all = in_term school student year term in
     record {
-      paid = rw (h.paid, k.paid) (both-six _ _ _ (λ p. onto_is (is_cell (cell p)) (payments_in f.key f.what) (paid past (is_cell (cell p)))));
-      taken = rw (h.taken, k.taken) (both-six _ _ _ (λ p. onto_is (is_cell (cell p)) (takings_in past (net_at past) f.key f.what) (taken past (is_cell (cell p)))));
-      owed = rw (h.owed, k.owed) (both-six _ _ _ (λ p. onto_is (is_cell (cell p)) (owings_in past f.key f.what) (owed past (is_cell (cell p)))));
-      repaid = rw (h.repaid, k.repaid) (both-six _ _ _ (λ p. onto_is (is_cell (cell p)) (repayments_in f.key f.what) (repaid past (is_cell (cell p)))));
-      after = rw (h.after, k.after) (both-six _ _ _ (λ p. onto_is (is_cell (cell p)) (payments_after past f.key f.what) (paid_after past (is_cell (cell p)))));
+      paid = rw (h.paid, k.paid) (plus-six _ _ _ (λ p. onto_is (is_cell (cell p)) (payments_in f.key f.what) (paid past (is_cell (cell p)))));
+      taken = rw (h.taken, k.taken) (plus-six _ _ _ (λ p. onto_is (is_cell (cell p)) (takings_in past (net_at past) f.key f.what) (taken past (is_cell (cell p)))));
+      owed = rw (h.owed, k.owed) (plus-six _ _ _ (λ p. onto_is (is_cell (cell p)) (owings_in past f.key f.what) (owed past (is_cell (cell p)))));
+      repaid = rw (h.repaid, k.repaid) (plus-six _ _ _ (λ p. onto_is (is_cell (cell p)) (repayments_in f.key f.what) (repaid past (is_cell (cell p)))));
+      after = rw (h.after, k.after) (plus-six _ _ _ (λ p. onto_is (is_cell (cell p)) (payments_after past f.key f.what) (paid_after past (is_cell (cell p)))));
       after_all = let o = onto_is all (payments_after past f.key f.what) (paid_after past all) in omega (arith, h.after_all, k.after_all);
       post = let o = onto_is all (posts_in past f.key f.what) (post past all) in omega (arith, h.post, k.post);
     }
 
 -- amounts with none more
-both-none : (ns : List ℕ) (g : ℕ → ℕ) → ns ≡ six g → both ns (six (λ p. 0)) ≡ ns
-both-none ns g e = rw e (both-six g (λ p. 0) g (λ p. omega arith))
+plus-none : (ns : List ℕ) (g : ℕ → ℕ) → ns ≡ six g → plus ns (six (λ p. 0)) ≡ ns
+plus-none ns g e = rw e (plus-six g (λ p. 0) g (λ p. omega arith))
 
 -- an account with what moves nothing
 pub account-kept : (past : List Filing) (f : Filing) (school student year term : ℕ) (a : Account) →
@@ -40,11 +39,11 @@ account-kept past f school student year term a h k =
     let cell = λ (p : ℕ). is_cell (cell_at school student year term p) in
     let j = account-joined past f school student year term a nothing h k in
     record {
-      paid = sym (both-none a.paid (λ p. paid past (cell p)) h.paid) ∙ j.paid;
-      taken = sym (both-none a.taken (λ p. taken past (cell p)) h.taken) ∙ j.taken;
-      owed = sym (both-none a.owed (λ p. owed past (cell p)) h.owed) ∙ j.owed;
-      repaid = sym (both-none a.repaid (λ p. repaid past (cell p)) h.repaid) ∙ j.repaid;
-      after = sym (both-none a.after (λ p. paid_after past (cell p)) h.after) ∙ j.after;
+      paid = sym (plus-none a.paid (λ p. paid past (cell p)) h.paid) ∙ j.paid;
+      taken = sym (plus-none a.taken (λ p. taken past (cell p)) h.taken) ∙ j.taken;
+      owed = sym (plus-none a.owed (λ p. owed past (cell p)) h.owed) ∙ j.owed;
+      repaid = sym (plus-none a.repaid (λ p. repaid past (cell p)) h.repaid) ∙ j.repaid;
+      after = sym (plus-none a.after (λ p. paid_after past (cell p)) h.after) ∙ j.after;
       after_all = omega (arith, j.after_all);
       post = omega (arith, j.post);
     }
@@ -84,25 +83,27 @@ entry-sums past f school student year term e legal k =
 
 -- its nets
 pub account-nets : (past : List Filing) (school student year term : ℕ) (a : Account) → IsAccount past school student year term a →
-    remains a.paid a.taken ≡ six (λ p. net_at past (cell_at school student year term p))
+    minus a.paid a.taken ≡ six (λ p. net_at past (cell_at school student year term p))
 account-nets past school student year term a h = rw (h.paid, h.taken) refl
 
 -- its amounts of a program
-pub net-of_program : (past : List Filing) (school student year term : ℕ) (a : Account) (program : Program) (r : ℕ) →
-    IsAccount past school student year term a → r ≡ rank program →
-    slice_index a.paid r - slice_index a.taken r ≡ net_at past (cell_at school student year term (rank program))
-net-of_program past school student year term a program r h e =
+pub net-of_program : (past : List Filing) (school student year term : ℕ) (a : Account) (program : Program) → IsAccount past school student year term a →
+    slice_index a.paid (rank program) - slice_index a.taken (rank program) ≡ net_at past (cell_at school student year term (rank program))
+net-of_program past school student year term a program h =
     let cell = λ (p : ℕ). is_cell (cell_at school student year term p) in
-    rw (e, h.paid, h.taken, six-rank (λ p. paid past (cell p)) program, six-rank (λ p. taken past (cell p)) program) refl
+    rw (h.paid, h.taken, six-rank (λ p. paid past (cell p)) program, six-rank (λ p. taken past (cell p)) program) refl
 
-pub repaid-of_program : (past : List Filing) (school student year term : ℕ) (a : Account) (program : Program) (r : ℕ) →
-    IsAccount past school student year term a → r ≡ rank program →
-    slice_index a.repaid r ≡ repaid past (is_cell (cell_at school student year term (rank program)))
-repaid-of_program past school student year term a program r h e =
-    rw (e, h.repaid, six-rank (λ p. repaid past (is_cell (cell_at school student year term p))) program) refl
+pub repaid-of_program : (past : List Filing) (school student year term : ℕ) (a : Account) (program : Program) → IsAccount past school student year term a →
+    slice_index a.repaid (rank program) ≡ repaid past (is_cell (cell_at school student year term (rank program)))
+repaid-of_program past school student year term a program h =
+    rw (h.repaid, six-rank (λ p. repaid past (is_cell (cell_at school student year term p))) program) refl
 
-pub after-of_program : (past : List Filing) (school student year term : ℕ) (a : Account) (program : Program) (r : ℕ) →
-    IsAccount past school student year term a → r ≡ rank program →
-    slice_index a.after r ≡ paid_after past (is_cell (cell_at school student year term (rank program)))
-after-of_program past school student year term a program r h e =
-    rw (e, h.after, six-rank (λ p. paid_after past (is_cell (cell_at school student year term p))) program) refl
+pub after-of_program : (past : List Filing) (school student year term : ℕ) (a : Account) (program : Program) → IsAccount past school student year term a →
+    slice_index a.after (rank program) ≡ paid_after past (is_cell (cell_at school student year term (rank program)))
+after-of_program past school student year term a program h =
+    rw (h.after, six-rank (λ p. paid_after past (is_cell (cell_at school student year term p))) program) refl
+
+pub owed-of_program : (past : List Filing) (school student year term : ℕ) (a : Account) (program : Program) → IsAccount past school student year term a →
+    slice_index a.owed (rank program) ≡ owed past (is_cell (cell_at school student year term (rank program)))
+owed-of_program past school student year term a program h =
+    rw (h.owed, six-rank (λ p. owed past (is_cell (cell_at school student year term p))) program) refl

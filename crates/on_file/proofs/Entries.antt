@@ -2,13 +2,14 @@
 use Rattle.std.proofs.Common.{◌≡◌, ℕ, ◌+◌, refl, sym, ap, subst, ◌∙◌, arith, Bool, true, false, ◌&&◌, List, [], ◌∷◌, length, get_or, eqb-true, eq-eqb, add-zero}
 use Rattle.std.specs.Prelude.{◌==◌}
 use Rattle.std.proofs.lemmas.Bool.{and_parts}
+use Rattle.aid_types.specs.Programs.{six}
 use Rattle.aid_types.specs.declared.number.Key.{Key}
 use Rattle.aid_filings.specs.declared.filing.Filing.{Filing}
 use Rattle.aid_filings.specs.declared.filing.WithdrawFacts.{WithdrawFacts}
 use Rattle.aid_filings.specs.declared.filing.What.TheVariants.{Withdraw}
 use Rattle.withdrawal_returns.specs.Worksheet.{worksheet_of}
 use Rattle.withdrawal_returns.specs.declared.Lines.{Lines}
-use Rattle.office_history.specs.Net.{six, is_cell, in_term, moved, moves_at, withdrawn_cell, sheet}
+use Rattle.office_history.specs.Net.{is_cell, in_term, moved, moves_at, withdrawn_cell, sheet}
 use Rattle.office_history.specs.FactsOf.{cell_at}
 use Rattle.office_history.proofs.Cells.{moved_own}
 use Rattle.on_file.specs.declared.account.Account.{Account}

@@ -4,6 +4,7 @@ use Rattle.std.specs.List.{list_all}
 use Rattle.std.proofs.lemmas.List.Elements.{All-cons, All-nil}
 use Rattle.std.proofs.lemmas.Bool.{and_parts}
 use Rattle.std.proofs.lemmas.Bool.Decides.{nat_tests}
+use Rattle.aid_types.specs.Programs.{six}
 use Rattle.aid_types.specs.Ranges.{is_cents, EachIsCents}
 use Rattle.aid_types.specs.declared.number.Key.{Key}
 use Rattle.aid_types.specs.declared.term.Term.{Term}
@@ -13,30 +14,12 @@ use Rattle.enrolment.specs.Terms.{days_upto}
 use Rattle.withdrawal_returns.specs.Worksheet.{IsInRange}
 use Rattle.withdrawal_returns.specs.declared.Inputs.{Inputs}
 use Rattle.office_history.specs.Past.{the_term}
-use Rattle.office_history.specs.Net.{six, net_at, withdrawn_cell, days_of, last_of}
+use Rattle.office_history.specs.Net.{net_at, withdrawn_cell, days_of, last_of}
 use Rattle.office_history.specs.Answer.{IsLegal}
 use Rattle.office_history.specs.Sheets.{CanBeWorkedOut}
 use Rattle.office_history.proofs.Ranges.{net_is_small}
+use Rattle.on_file.proofs.Sixes.{six-cents}
 use Rattle.on_file.proofs.TermDays.{days-begun, days-inside}
-
-abbrev IsCents : ℕ → Type 0
-IsCents cents = cents ≤ 99999999
-
-pub cents-All : (ns : List ℕ) → EachIsCents ns → All (λ cents. cents ≤ 99999999) ns
-cents-All [] h = All-nil IsCents
-cents-All (n ∷ ns) h = let k = and_parts (is_cents n) (list_all is_cents ns) h in All-cons IsCents n ns (small n k.0) (cents-All ns k.1)
-  where
-    small : (n : ℕ) → is_cents n ≡ true → n ≤ 99999999
-    small n h = grind (arith, nat_tests)
-
-pub six-All : (g : ℕ → ℕ) → ((p : ℕ) → g p ≤ 99999999) → All (λ cents. cents ≤ 99999999) (six g)
-six-All g h zero d lt = h 0
-six-All g h (suc zero) d lt = h 1
-six-All g h (suc (suc zero)) d lt = h 2
-six-All g h (suc (suc (suc zero))) d lt = h 3
-six-All g h (suc (suc (suc (suc zero)))) d lt = h 4
-six-All g h (suc (suc (suc (suc (suc zero))))) d lt = h 5
-six-All g h (suc (suc (suc (suc (suc (suc k)))))) d lt = absurd (omega arith)
 
 -- the days of a withdrawal that can be worked out
 pub worked_days : (past : List Filing) (key : Key) (w : WithdrawFacts) → CanBeWorkedOut past key w →
@@ -57,6 +40,6 @@ inputs_in_range past key w t i legal can is e =
       begun = omega arith;
       inside = omega arith;
       charges = w.in_range.1;
-      net = six-All (λ p. net_at past (withdrawn_cell key w p)) (λ p. net_is_small past legal (withdrawn_cell key w p));
-      could = cents-All w.could w.could_in_range;
+      net = six-cents (λ p. net_at past (withdrawn_cell key w p)) (λ p. net_is_small past legal (withdrawn_cell key w p));
+      could = w.could_in_range;
     })

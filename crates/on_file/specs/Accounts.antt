@@ -1,9 +1,10 @@
 -- What a student's account in a term of a school holds.
 use Rattle.std.specs.Prelude.{◌≡◌, ℕ, ◌+◌, ◌^◌, ◌≤◌, List, [], ◌∷◌, Option, Some, None, slice_index}
+use Rattle.aid_types.specs.Programs.{plus, six}
 use Rattle.aid_types.specs.declared.number.Key.{Key}
 use Rattle.aid_filings.specs.declared.filing.Filing.{Filing}
 use Rattle.aid_filings.specs.declared.filing.What.{What}
-use Rattle.office_history.specs.Net.{is_cell, in_term, six, moved, net_at, paid, taken, owed, repaid, post, paid_after, payments_in, takings_in, owings_in, repayments_in, payments_after, posts_in}
+use Rattle.office_history.specs.Net.{is_cell, in_term, moved, net_at, paid, taken, owed, repaid, post, paid_after, payments_in, takings_in, owings_in, repayments_in, payments_after, posts_in}
 use Rattle.office_history.specs.FactsOf.{cell_at}
 use Rattle.on_file.specs.declared.account.Account.{Account}
 
@@ -44,20 +45,14 @@ abbrev pub or_nothing : Option Account → Account
 or_nothing None = nothing
 or_nothing (Some a) = a
 
--- sums item by item
-abbrev pub both : List ℕ → List ℕ → List ℕ
-both [] ms = []
-both (n ∷ ns) [] = []
-both (n ∷ ns) (m ∷ ms) = (n + m) ∷ both ns ms
-
 -- two accounts in one
 abbrev pub joined : Account → Account → Account
 joined a b = record {
-  paid = both a.paid b.paid;
-  taken = both a.taken b.taken;
-  owed = both a.owed b.owed;
-  repaid = both a.repaid b.repaid;
-  after = both a.after b.after;
+  paid = plus a.paid b.paid;
+  taken = plus a.taken b.taken;
+  owed = plus a.owed b.owed;
+  repaid = plus a.repaid b.repaid;
+  after = plus a.after b.after;
   after_all = a.after_all + b.after_all;
   post = a.post + b.post;
 }

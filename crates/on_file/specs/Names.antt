@@ -1,22 +1,17 @@
 -- Filings about a student.
-use Rattle.std.specs.Prelude.{◌≡◌, ℕ, ◌==◌, Bool, false, List, [], ◌∷◌}
+use Rattle.std.specs.Prelude.{◌≡◌, ℕ, ◌==◌, Bool, false, List, [], ◌∷◌, Option, Some, None}
+use Rattle.aid_filings.specs.Students.{student_of}
 use Rattle.aid_filings.specs.declared.filing.Filing.{Filing}
 use Rattle.aid_filings.specs.declared.filing.What.{What}
-use Rattle.aid_filings.specs.declared.filing.What.TheVariants.{Book, School, Calendar, Prior, Apply, Enrol, Originate, Pay, Withdraw, Repay, Adjust}
+
+-- this student is named, where one is
+abbrev pub is_named : ℕ → Option ℕ → Bool
+is_named student None = false
+is_named student (Some named) = named == student
 
 -- what is filed is about the student
 abbrev pub names : ℕ → What → Bool
-names student (Book b) = false
-names student (School s) = false
-names student (Calendar c) = false
-names student (Prior p) = p.student == student
-names student (Apply a) = a.student == student
-names student (Enrol e) = e.student == student
-names student (Originate o) = o.student == student
-names student (Pay a) = a.student == student
-names student (Withdraw w) = w.student == student
-names student (Repay a) = a.student == student
-names student (Adjust a) = a.student == student
+names student what = is_named student (student_of what)
 
 -- none of these filings is
 abbrev pub NoneNames : ℕ → List Filing → Type 0

@@ -5,11 +5,11 @@ ghost use Rattle.office_history.specs.Answer.{IsLegal};
 ghost use Rattle.office_history.specs.FactsOf.{cell_at};
 ghost use Rattle.office_history.specs.Net.{is_cell, in_term, net_at as net_of_cell, owed as owed_at, repaid as repaid_at, post as post_at, paid_after as paid_after_at};
 ghost use Rattle.on_file.specs.Names.{NoneNames};
-ghost use Rattle.on_file.specs.Accounts.{IsAccount, HasSums, both, joined, AreSums};
+ghost use Rattle.on_file.specs.Accounts.{IsAccount, HasSums, joined};
 
 use crate::entry::{Place, entry};
 use aid_filings::Filing;
-use aid_types::{Program, School, Student, Year};
+use aid_types::{ByProgram, Program, School, Student, Year};
 
 /// What moved in a student's term at a school, in cents and by program in the order of returns: what was paid and what
 /// was taken back by returns, repayments and adjustments; what withdrawals left the student to repay and what was
@@ -17,11 +17,11 @@ use aid_types::{Program, School, Student, Year};
 /// (34 CFR 668.22).
 #[derive(Clone, Copy, PartialEq, Eq, Debug)]
 pub struct Account {
-    pub paid: [u64; 6],
-    pub taken: [u64; 6],
-    pub owed: [u64; 6],
-    pub repaid: [u64; 6],
-    pub after: [u64; 6],
+    pub paid: ByProgram,
+    pub taken: ByProgram,
+    pub owed: ByProgram,
+    pub repaid: ByProgram,
+    pub after: ByProgram,
     pub after_all: u64,
     pub post: u64,
 }
@@ -29,11 +29,11 @@ pub struct Account {
 impl Account {
     /// Nothing moved.
     pub const EMPTY: Account = Account {
-        paid: [0; 6],
-        taken: [0; 6],
-        owed: [0; 6],
-        repaid: [0; 6],
-        after: [0; 6],
+        paid: ByProgram::EMPTY,
+        taken: ByProgram::EMPTY,
+        owed: ByProgram::EMPTY,
+        repaid: ByProgram::EMPTY,
+        after: ByProgram::EMPTY,
         after_all: 0,
         post: 0,
     };
@@ -45,32 +45,15 @@ impl Account {
         ensures { result ≡ joined self.now other.now }
     {
         Account {
-            paid: sums(&self.paid, &other.paid),
-            taken: sums(&self.taken, &other.taken),
-            owed: sums(&self.owed, &other.owed),
-            repaid: sums(&self.repaid, &other.repaid),
-            after: sums(&self.after, &other.after),
+            paid: self.paid.plus(&other.paid),
+            taken: self.taken.plus(&other.taken),
+            owed: self.owed.plus(&other.owed),
+            repaid: self.repaid.plus(&other.repaid),
+            after: self.after.plus(&other.after),
             after_all: self.after_all + other.after_all,
             post: self.post + other.post,
         }
     }
-}
-
-// Sums by program.
-#[tactic(auto, using(crate::proofs::Sixes::both_six))]
-fn sums(amounts: &[u64; 6], more: &[u64; 6]) -> [u64; 6]
-    requires amounts { AreSums amounts.now }
-    requires more { AreSums more.now }
-    ensures { result ≡ both amounts.now more.now }
-{
-    [
-        amounts[0] + more[0],
-        amounts[1] + more[1],
-        amounts[2] + more[2],
-        amounts[3] + more[3],
-        amounts[4] + more[4],
-        amounts[5] + more[5],
-    ]
 }
 
 /// A student's account in a term of a school's year, over all the filings, of which none before `since` is about the student.
@@ -121,8 +104,10 @@ pub fn net_at(
     ensures at_most { result ≤ 99999999 }
 {
     let moved = account_of(history, since, school, student, year, term);
-    let rank = program.rank();
-    moved.paid[rank].saturating_sub(moved.taken[rank])
+    moved
+        .paid
+        .at(program)
+        .saturating_sub(moved.taken.at(program))
 }
 
 /// What withdrawals left a student to repay of a program in a term of a school, in cents.
@@ -140,7 +125,9 @@ pub fn owed(
     requires none { NoneNames student (reverse (take since history.now)) }
     ensures { result ≡ owed_at (reverse history.now) (is_cell (cell_at school student year term (rank_of program))) }
 {
-    account_of(history, since, school, student, year, term).owed[program.rank()]
+    account_of(history, since, school, student, year, term)
+        .owed
+        .at(program)
 }
 
 /// What a student repaid of a program in a term of a school, in cents.
@@ -159,7 +146,9 @@ pub fn repaid(
     ensures value { result ≡ repaid_at (reverse history.now) (is_cell (cell_at school student year term (rank_of program))) }
     ensures at_most { result ≤ 20000000000000 }
 {
-    account_of(history, since, school, student, year, term).repaid[program.rank()]
+    account_of(history, since, school, student, year, term)
+        .repaid
+        .at(program)
 }
 
 /// What was paid of a program to a student in a term of a school after the withdrawal from it, in cents.
@@ -178,7 +167,9 @@ pub fn paid_after(
     ensures value { result ≡ paid_after_at (reverse history.now) (is_cell (cell_at school student year term (rank_of program))) }
     ensures at_most { result ≤ 20000000000000 }
 {
-    account_of(history, since, school, student, year, term).after[program.rank()]
+    account_of(history, since, school, student, year, term)
+        .after
+        .at(program)
 }
 
 /// The same of all programs.

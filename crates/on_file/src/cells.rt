@@ -10,9 +10,9 @@ ghost use Rattle.on_file.specs.Names.{NoneNames};
 ghost use Rattle.on_file.specs.CellTests.{test_of, are_of, student_of};
 
 use crate::sheets::sheet;
+use crate::term;
 use aid_filings::{Amount, Filing, What, WithdrawFacts};
 use aid_types::{Key, Program, School, Student, Year};
-use crate::term;
 
 /// The cells that a net is of: a student's program in a year at all schools, a student's Pell in the main terms of a
 /// year, and all programs of a student at a school in a year.
@@ -113,14 +113,13 @@ fn taken_by(past: &[Filing], filing: &Filing, history: &[Filing], cells: &Cells)
 fn cents_at(key: &Key, amount: &Amount, history: &[Filing], cells: &Cells) -> u64
     ensures { result ≡ (if test_of (reverse history.now) cells.now (cell_of key.now amount.now) then amount.now.cents else 0) }
 {
-    let program = amount.program.rank();
     if cells.holds(
         history,
         key.school,
         amount.student,
         amount.year,
         amount.term,
-        program,
+        amount.program,
     ) {
         amount.cents
     } else {
@@ -145,7 +144,7 @@ fn returned_at(
     }
     let returned = sheet(past, 0, key, withdrawal).returned;
     let mut sum = 0;
-    for program in 0..6 {
+    for program in Program::ALL {
         if cells.holds(
             history,
             key.school,
@@ -154,7 +153,7 @@ fn returned_at(
             withdrawal.term,
             program,
         ) {
-            sum += returned[program];
+            sum += returned.at(program);
         }
     }
     sum
@@ -174,7 +173,7 @@ impl Cells {
         }
     }
 
-    // Whether they have the cell of the program with that rank, in a student's term at a school.
+    // Whether they have the cell of a program in a student's term at a school.
     fn holds(
         &self,
         history: &[Filing],
@@ -182,18 +181,18 @@ impl Cells {
         student: Student,
         year: Year,
         term: u8,
-        program: usize,
+        program: Program,
     ) -> bool
-        ensures { result ≡ test_of (reverse history.now) self.now (cell_at school student year term program) }
+        ensures { result ≡ test_of (reverse history.now) self.now (cell_at school student year term (rank_of program)) }
     {
         match *self {
             Cells::InYear(its_student, its_year, its_program) => {
-                student == its_student && year == its_year && program == its_program.rank()
+                student == its_student && year == its_year && program.rank() == its_program.rank()
             }
             Cells::InMainTerms(its_student, its_year) => {
                 student == its_student
                     && year == its_year
-                    && program == Program::Pell.rank()
+                    && program == Program::Pell
                     && !is_extra(history, school, year, term)
             }
             Cells::AtSchool(its_school, its_student, its_year) => {

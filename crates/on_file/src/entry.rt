@@ -1,19 +1,18 @@
 //! What one filing moves in a student's term at a school.
-ghost use Rattle.std.specs.Prelude.{◌≡◌, ◌==◌, ◌∷◌, List, reverse, if◌then◌else◌};
+ghost use Rattle.std.specs.Prelude.{◌≡◌, ◌∷◌, List, reverse};
 ghost use Rattle.aid_filings.specs.declared.filing.Filing.{Filing};
-ghost use Rattle.aid_types.specs.Programs.{rank as rank_of};
 ghost use Rattle.aid_filings.specs.declared.filing.What.TheVariants.{Pay, Withdraw, Repay, Adjust};
 ghost use Rattle.office_history.specs.Answer.{IsLegal};
 ghost use Rattle.office_history.specs.FactsOf.{cell_at};
-ghost use Rattle.office_history.specs.Net.{in_term, six};
+ghost use Rattle.office_history.specs.Net.{in_term};
 ghost use Rattle.office_history.specs.Sheets.{CanBeWorkedOut};
 ghost use Rattle.on_file.specs.Accounts.{IsAccount, IsEntry, or_nothing};
 
 use crate::account::Account;
 use crate::sheets::sheet_on;
-use aid_filings::{Amount, Filing, What, WithdrawFacts};
-use aid_types::{Key, Program, School, Student, Year};
 use crate::withdrawal;
+use aid_filings::{Amount, Filing, What, WithdrawFacts};
+use aid_types::{ByProgram, Key, School, Student, Year};
 use withdrawal_returns::Lines;
 
 /// A student's term at a school.
@@ -56,7 +55,7 @@ fn payment(past: &[Filing], key: &Key, amount: &Amount, place: &Place) -> Option
     if !place.is_at(key.school, amount.student, amount.year, amount.term) {
         return None;
     }
-    let paid = of_program(amount.program, amount.cents);
+    let paid = ByProgram::of(amount.program, amount.cents);
     match withdrawal(past, key.school, amount.student, amount.year, amount.term) {
         Some(_) => Some(Account {
             paid,
@@ -78,7 +77,7 @@ fn repayment(key: &Key, amount: &Amount, place: &Place) -> Option<Account>
     if !place.is_at(key.school, amount.student, amount.year, amount.term) {
         return None;
     }
-    let repaid = of_program(amount.program, amount.cents);
+    let repaid = ByProgram::of(amount.program, amount.cents);
     Some(Account {
         taken: repaid,
         repaid,
@@ -94,7 +93,7 @@ fn adjustment(key: &Key, amount: &Amount, place: &Place) -> Option<Account>
         return None;
     }
     Some(Account {
-        taken: of_program(amount.program, amount.cents),
+        taken: ByProgram::of(amount.program, amount.cents),
         ..Account::EMPTY
     })
 }
@@ -127,14 +126,4 @@ fn withdrawn(
         post,
         ..Account::EMPTY
     })
-}
-
-// Cents of one program.
-#[tactic(auto, using(crate::proofs::Sixes::six_of_program))]
-fn of_program(program: Program, cents: u64) -> [u64; 6]
-    ensures { result ≡ six (λ p. if rank_of program == p then cents else 0) }
-{
-    let mut amounts = [0; 6];
-    amounts[program.rank()] = cents;
-    amounts
 }

@@ -7,9 +7,9 @@ ghost use Rattle.on_file.specs.Names.{NoneNames};
 ghost use Rattle.on_file.specs.Years.{use_but};
 
 use crate::cells::net_in_year;
+use crate::{is_paid_pell_since, prior_units_since, scheduled_since};
 use aid_filings::Filing;
 use aid_types::{Program, Student, Year};
-use crate::{is_paid_pell_since, prior_units_since, scheduled_since};
 use lifetime_ledger::use_of;
 
 /// The lifetime units that a student has used, thousandths of a percent: before this office, and in each year of it (HEA

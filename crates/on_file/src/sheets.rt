@@ -4,15 +4,15 @@ ghost use Rattle.enrolment.specs.Terms.{IsLawful, days_upto};
 ghost use Rattle.office_history.specs.Answer.{IsLegal};
 ghost use Rattle.office_history.specs.Net.{sheet as sheet_after};
 ghost use Rattle.office_history.specs.Sheets.{CanBeWorkedOut};
-ghost use Rattle.withdrawal_returns.specs.Worksheet.{remains};
+ghost use Rattle.aid_types.specs.Programs.{minus};
 ghost use Rattle.on_file.specs.Names.{NoneNames};
 ghost use Rattle.on_file.specs.Accounts.{IsAccount};
 
 use crate::account::{Account, account_of};
+use crate::term;
 use aid_filings::{Filing, WithdrawFacts};
 use aid_types::{Key, Term};
 use enrolment::days;
-use crate::term;
 use withdrawal_returns::{Inputs, Lines, worksheet};
 
 /// The worksheet of a withdrawal on the filings before it (34 CFR 668.22).
@@ -56,7 +56,7 @@ fn inputs(term: &Term, withdrawal: &WithdrawFacts, moved: &Account) -> Inputs
       completed = days_upto term.now withdrawal.now.last;
       total = days_upto term.now term.now.last;
       charges = withdrawal.now.charges;
-      net = remains moved.now.paid moved.now.taken;
+      net = minus moved.now.paid moved.now.taken;
       could = withdrawal.now.could;
     } }
 {
@@ -64,21 +64,7 @@ fn inputs(term: &Term, withdrawal: &WithdrawFacts, moved: &Account) -> Inputs
         completed: days(term, withdrawal.last),
         total: days(term, term.last),
         charges: withdrawal.charges,
-        net: nets(moved),
+        net: moved.paid.minus(&moved.taken),
         could: withdrawal.could,
     }
-}
-
-// What was paid less what was taken back, by program.
-fn nets(moved: &Account) -> [u64; 6]
-    ensures { result ≡ remains moved.now.paid moved.now.taken }
-{
-    [
-        moved.paid[0].saturating_sub(moved.taken[0]),
-        moved.paid[1].saturating_sub(moved.taken[1]),
-        moved.paid[2].saturating_sub(moved.taken[2]),
-        moved.paid[3].saturating_sub(moved.taken[3]),
-        moved.paid[4].saturating_sub(moved.taken[4]),
-        moved.paid[5].saturating_sub(moved.taken[5]),
-    ]
 }

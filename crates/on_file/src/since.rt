@@ -22,16 +22,9 @@ use aid_types::{Application, School, Student, Year};
 fn is_about(what: &What, student: Student) -> bool
     ensures { result ≡ names student what.now }
 {
-    match what {
-        What::Book(_) | What::School(_) | What::Calendar(_) => false,
-        What::Prior(facts) => facts.student == student,
-        What::Apply(filed) => filed.student == student,
-        What::Enrol(facts) => facts.student == student,
-        What::Originate(facts) => facts.student == student,
-        What::Withdraw(facts) => facts.student == student,
-        What::Pay(amount) | What::Repay(amount) | What::Adjust(amount) => {
-            amount.student == student
-        }
+    match what.student() {
+        Some(named) => named == student,
+        None => false,
     }
 }
 

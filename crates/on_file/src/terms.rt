@@ -8,15 +8,14 @@ ghost use Rattle.on_file.specs.Filed.{is_main_term as main_term_told, is_overlap
 use crate::positions::place;
 use aid_filings::{Filing, What};
 use aid_types::{School, Term, Year};
+use enrolment::shares_day;
 
 fn is_overlapping(filing: &Filing, school: School, term: &Term) -> bool
     ensures { result ≡ overlapping_told school term.now filing.now.key.school filing.now.what }
 {
     match &filing.what {
         What::Calendar(facts) => {
-            filing.key.school == school
-                && term.first.count() <= facts.last.count()
-                && facts.first.count() <= term.last.count()
+            filing.key.school == school && shares_day(term, &facts.to_term())
         }
         _ => false,
     }

@@ -71,7 +71,7 @@ fn lifetime_cents(f: &Facts) -> u64
 fn post_dollars(f: &Facts) -> u64
     ensures { IsMostDollars (IsWithinPost f.now) result }
 {
-    let of_pell = dollars_between(f.after, f.could[Program::Pell.rank()]);
+    let of_pell = dollars_between(f.after, f.could.at(Program::Pell));
     of_pell.min(dollars_between(f.after_all, f.post))
 }
 

@@ -3,7 +3,8 @@ use Rattle.std.proofs.Common.{◌≡◌, ℕ, zero, suc, ◌≤◌, ◌+◌, ◌
 use Rattle.std.specs.Prelude.{slice_index, sum}
 use Rattle.std.proofs.lemmas.List.{take_more_set}
 use Rattle.std.proofs.lemmas.List.Sums.{sum_by-cons}
-use Rattle.withdrawal_returns.specs.Worksheet.{spread, remains, worksheet_of}
+use Rattle.aid_types.specs.Programs.{minus}
+use Rattle.withdrawal_returns.specs.Worksheet.{spread, worksheet_of}
 
 -- one step of a spread
 pub spread_step : (amounts parts whole : List ℕ) (p rest n : ℕ) → p < length amounts → p < length parts → n ≡ get_or amounts p 0 →
@@ -16,13 +17,6 @@ spread_step amounts parts whole p rest n la lp e h =
     let m : min n rest ≡ min (get_or amounts p 0) rest = omega arith in
     h ∙ rw (take_more_set parts p (min n rest) lp, append_assoc, r, m, s, add-one p) refl
 
--- six items one by one
-pub remains_six : (ns ts : List ℕ) → length ns ≡ 6 → length ts ≡ 6 →
-    remains ns ts ≡ (slice_index ns 0 - slice_index ts 0) ∷ (slice_index ns 1 - slice_index ts 1) ∷ (slice_index ns 2 - slice_index ts 2)
-    ∷ (slice_index ns 3 - slice_index ts 3) ∷ (slice_index ns 4 - slice_index ts 4) ∷ (slice_index ns 5 - slice_index ts 5) ∷ []
-remains_six (n ∷ o ∷ p ∷ q ∷ r ∷ s ∷ []) (t ∷ u ∷ v ∷ w ∷ x ∷ y ∷ []) h k = refl
-remains_six ns ts h k = absurd (omega arith)
-
 sum-cons : (n : ℕ) (ns : List ℕ) → sum (n ∷ ns) ≡ n + sum ns
 sum-cons n ns = sum_by-cons (λ x. x) n ns
 
@@ -31,14 +25,14 @@ pub sum-spread : (left : ℕ) (ns : List ℕ) → sum (spread left ns) ≡ min l
 sum-spread left [] = omega arith
 sum-spread left (n ∷ ns) = omega (arith, sum-spread (left - n) ns, sum-cons n ns, sum-cons (min n left) (spread (left - n) ns))
 
-sum-remains : (left : ℕ) (ns : List ℕ) → sum (remains ns (spread left ns)) ≡ sum ns - left
-sum-remains left [] = omega arith
-sum-remains left (n ∷ ns) =
-    omega (arith, sum-remains (left - n) ns, sum-cons n ns, sum-cons (n - min n left) (remains ns (spread (left - n) ns)))
+sum-minus : (left : ℕ) (ns : List ℕ) → sum (minus ns (spread left ns)) ≡ sum ns - left
+sum-minus left [] = omega arith
+sum-minus left (n ∷ ns) =
+    omega (arith, sum-minus (left - n) ns, sum-cons n ns, sum-cons (n - min n left) (minus ns (spread (left - n) ns)))
 
 -- a second spread takes what the first one left
 both-within : (left more : ℕ) (ns : List ℕ) (p : ℕ) →
-    slice_index (spread left ns) p + slice_index (spread more (remains ns (spread left ns))) p ≤ slice_index ns p
+    slice_index (spread left ns) p + slice_index (spread more (minus ns (spread left ns))) p ≤ slice_index ns p
 both-within left more [] p = omega arith
 both-within left more (n ∷ ns) zero = omega arith
 both-within left more (n ∷ ns) (suc p) = both-within (left - n) (more - (n - min n left)) ns p
@@ -55,8 +49,8 @@ pub sum-laid : (completed total charges : ℕ) (net could : List ℕ) →
     sum (worksheet_of completed total charges net could).laid ≡ (worksheet_of completed total charges net could).student
 unfolding worksheet_of
 sum-laid completed total charges net could =
-    let k = sum-spread (worksheet_of completed total charges net could).student (remains net (worksheet_of completed total charges net could).returned) in
-    let m = sum-remains (worksheet_of completed total charges net could).school net in
+    let k = sum-spread (worksheet_of completed total charges net could).student (minus net (worksheet_of completed total charges net could).returned) in
+    let m = sum-minus (worksheet_of completed total charges net could).school net in
     omega arith
 
 pub within-net : (completed total charges : ℕ) (net could : List ℕ) (p : ℕ) →

@@ -1,7 +1,10 @@
 -- The return of Title IV funds after a withdrawal (HEA 484B; 34 CFR 668.22(e) to (i)). Percents are in tenths of a percent,
 -- amounts in cents, lists by program in the order of returns: Unsub, Sub, Plus, Pell, FSEOG, TEACH.
-use Rattle.std.specs.Prelude.{ℕ, ◌+◌, ◌-◌, ◌*◌, ◌≤◌, min, nat_lt, nat_le, List, [], ◌∷◌, All, sum, slice_index, if◌then◌else◌}
+use Rattle.std.specs.Prelude.{ℕ, ◌+◌, ◌-◌, ◌*◌, ◌≤◌, min, nat_lt, nat_le, List, [], ◌∷◌, sum, slice_index, if◌then◌else◌}
 use Rattle.aid_num.specs.Nearest.{half_up}
+use Rattle.aid_types.specs.Programs.{minus, rank}
+use Rattle.aid_types.specs.Ranges.{EachIsCents}
+use Rattle.aid_types.specs.declared.number.Program.TheVariants.{Pell, Fseog, Teach}
 use Rattle.withdrawal_returns.specs.declared.Inputs.{Inputs}
 use Rattle.withdrawal_returns.specs.declared.Lines.{Lines}
 
@@ -10,8 +13,8 @@ pub record IsInRange (i : Inputs) : Type 0 where
   pub begun : 1 ≤ i.completed
   pub inside : i.completed ≤ i.total
   pub charges : i.charges ≤ 99999999
-  pub net : All (λ cents. cents ≤ 99999999) i.net
-  pub could : All (λ cents. cents ≤ 99999999) i.could
+  pub net : EachIsCents i.net
+  pub could : EachIsCents i.could
 
 -- the percent of the term that was completed: all of it past 60 percent of the days, which is tested on the days themselves
 unfoldable pub percent_earned : ℕ → ℕ → ℕ
@@ -23,12 +26,6 @@ abbrev pub spread : ℕ → List ℕ → List ℕ
 spread left [] = []
 spread left (n ∷ ns) = min n left ∷ spread (left - n) ns
 
--- what remains of each amount
-abbrev pub remains : List ℕ → List ℕ → List ℕ
-remains [] taken = []
-remains (n ∷ ns) [] = n ∷ ns
-remains (n ∷ ns) (t ∷ ts) = (n - t) ∷ remains ns ts
-
 -- What the student repays of a grant: what was laid on it less half of all of it that was or could have been disbursed, and
 -- nothing where that is at most 50 dollars (34 CFR 668.22(h)(3)). By program, which is the office's own.
 abbrev pub grant_owed : ℕ → ℕ → ℕ
@@ -36,6 +33,11 @@ grant_owed laid half = if nat_le (laid - half) 5000 then 0 else laid - half
 
 abbrev pub owed_of : List ℕ → List ℕ → List ℕ → ℕ → ℕ
 owed_of laid net could p = grant_owed (slice_index laid p) (half_up (slice_index net p + slice_index could p) 2)
+
+-- the same by program, 0 of each loan
+abbrev pub owed_by_program : List ℕ → List ℕ → List ℕ → List ℕ
+owed_by_program laid net could =
+    0 ∷ 0 ∷ 0 ∷ owed_of laid net could (rank Pell) ∷ owed_of laid net could (rank Fseog) ∷ owed_of laid net could (rank Teach) ∷ []
 
 -- the worksheet, line by line
 unfoldable pub worksheet_of : ℕ → ℕ → ℕ → List ℕ → List ℕ → Lines
@@ -46,7 +48,7 @@ worksheet_of completed total charges net could =
     let school = min unearned (half_up (charges * (1000 - percent)) 1000) in
     let returned = spread school net in
     let student = unearned - school in
-    let laid = spread student (remains net returned) in
+    let laid = spread student (minus net returned) in
     record {
       percent = percent;
       earned = earned;
@@ -55,6 +57,6 @@ worksheet_of completed total charges net could =
       returned = returned;
       student = student;
       laid = laid;
-      owed = 0 ∷ 0 ∷ 0 ∷ owed_of laid net could 3 ∷ owed_of laid net could 4 ∷ owed_of laid net could 5 ∷ [];
+      owed = owed_by_program laid net could;
       post = earned - sum net;
     }

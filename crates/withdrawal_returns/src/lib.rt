@@ -1,11 +1,13 @@
 //! The worksheet of a withdrawal: what a school and a student return of Title IV funds (HEA 484B; 34 CFR 668.22).
 #![tactic(auto)]
 
-ghost use Rattle.std.specs.Prelude.{◌≡◌, ℕ, ◌+◌, ◌*◌, ◌<◌, ◌≤◌, ◌^◌, All, length, sum, slice_index};
+ghost use Rattle.std.specs.Prelude.{◌≡◌, ℕ, ◌+◌, ◌*◌, ◌≤◌, ◌^◌, sum, slice_index};
+ghost use Rattle.aid_types.specs.Ranges.{EachIsCents};
 ghost use Rattle.aid_num.specs.Nearest.{half_up};
-ghost use Rattle.withdrawal_returns.specs.Worksheet.{IsInRange, grant_owed, owed_of, percent_earned as percent_of, remains as remains_of, spread as spread_of, worksheet_of};
+ghost use Rattle.withdrawal_returns.specs.Worksheet.{IsInRange, grant_owed, owed_by_program, percent_earned as percent_of, spread as spread_of, worksheet_of};
 
 use aid_num::nearest_whole;
+use aid_types::{ByProgram, Program};
 
 /// What a worksheet is worked out from: the days of the term that were completed and all its days, without breaks of
 /// at least five days; the institutional charges in cents; by program, in the order of returns, the net disbursed in
@@ -15,8 +17,8 @@ pub struct Inputs {
     pub completed: u32,
     pub total: u32,
     pub charges: u64,
-    pub net: [u64; 6],
-    pub could: [u64; 6],
+    pub net: ByProgram,
+    pub could: ByProgram,
 }
 
 /// The lines of a worksheet: the percent earned in tenths of a percent, all else in cents. `returned` is the school's
@@ -28,10 +30,10 @@ pub struct Lines {
     pub earned: u64,
     pub unearned: u64,
     pub school: u64,
-    pub returned: [u64; 6],
+    pub returned: ByProgram,
     pub student: u64,
-    pub laid: [u64; 6],
-    pub owed: [u64; 6],
+    pub laid: ByProgram,
+    pub owed: ByProgram,
     pub post: u64,
 }
 
@@ -55,13 +57,13 @@ fn worked_out(i: &Inputs) -> Lines
     ensures { result ≡ worksheet_of i.now.completed i.now.total i.now.charges i.now.net i.now.could }
 {
     let percent = percent_earned(i.completed, i.total);
-    let disbursed = total_of(&i.net);
-    let earned = part_of(disbursed + total_of(&i.could), percent);
+    let disbursed = i.net.sum();
+    let earned = part_of(disbursed + i.could.sum(), percent);
     let unearned = disbursed.saturating_sub(earned);
     let school = unearned.min(part_of(i.charges, 1000 - percent));
     let returned = spread(school, &i.net);
     let student = unearned - school;
-    let laid = spread(student, &remains(&i.net, &returned));
+    let laid = spread(student, &i.net.minus(&returned));
     Lines {
         percent,
         earned,
@@ -70,14 +72,7 @@ fn worked_out(i: &Inputs) -> Lines
         returned,
         student,
         laid,
-        owed: [
-            0,
-            0,
-            0,
-            owed(laid[3], i.net[3], i.could[3]),
-            owed(laid[4], i.net[4], i.could[4]),
-            owed(laid[5], i.net[5], i.could[5]),
-        ],
+        owed: owed(&laid, i),
         post: earned.saturating_sub(disbursed),
     }
 }
@@ -109,19 +104,11 @@ fn part_of(cents: u64, percent: u16) -> u64
     nearest_whole(cents * u64::from(percent), 1000)
 }
 
-// The sum of the amounts of all programs.
-fn total_of(amounts: &[u64; 6]) -> u64
-    requires { All (λ cents. cents ≤ 99999999) amounts.now }
-    ensures value { result ≡ sum amounts.now }
-    ensures at_most { result ≤ 600000000 }
-{
-    amounts[0] + amounts[1] + amounts[2] + amounts[3] + amounts[4] + amounts[5]
-}
-
 // An amount spread over the programs in their order, each up to its own.
-fn spread(left: u64, amounts: &[u64; 6]) -> [u64; 6]
+fn spread(left: u64, amounts: &ByProgram) -> ByProgram
     ensures { result ≡ spread_of left amounts.now }
 {
+    let amounts = amounts.cents();
     let mut parts = [0; 6];
     let mut rest = left;
     for p in 0..6 {
@@ -129,25 +116,31 @@ fn spread(left: u64, amounts: &[u64; 6]) -> [u64; 6]
         parts[p] = part;
         rest -= part;
     }
-    parts
+    ByProgram::new(parts)
 }
 
-// What remains of each amount.
-fn remains(amounts: &[u64; 6], taken: &[u64; 6]) -> [u64; 6]
-    ensures { result ≡ remains_of amounts.now taken.now }
+// What the student repays of each program: of the grants alone.
+#[tactic(auto, using(aid_types::proofs::ProgramLemmas::cents_at))]
+fn owed(laid: &ByProgram, i: &Inputs) -> ByProgram
+    requires { IsInRange i.now }
+    ensures { result ≡ owed_by_program laid.now i.now.net i.now.could }
 {
-    [
-        amounts[0].saturating_sub(taken[0]),
-        amounts[1].saturating_sub(taken[1]),
-        amounts[2].saturating_sub(taken[2]),
-        amounts[3].saturating_sub(taken[3]),
-        amounts[4].saturating_sub(taken[4]),
-        amounts[5].saturating_sub(taken[5]),
-    ]
+    let (net, could) = (i.net, i.could);
+    let pell = Program::Pell;
+    let fseog = Program::Fseog;
+    let teach = Program::Teach;
+    ByProgram::new([
+        0,
+        0,
+        0,
+        owed_of_grant(laid.at(pell), net.at(pell), could.at(pell)),
+        owed_of_grant(laid.at(fseog), net.at(fseog), could.at(fseog)),
+        owed_of_grant(laid.at(teach), net.at(teach), could.at(teach)),
+    ])
 }
 
 // What the student repays of a grant.
-fn owed(laid: u64, net: u64, could: u64) -> u64
+fn owed_of_grant(laid: u64, net: u64, could: u64) -> u64
     requires disbursed { net ≤ 99999999 }
     requires not_disbursed { could ≤ 99999999 }
     ensures { result ≡ grant_owed laid (half_up (net + could) 2) }

@@ -10,5 +10,5 @@ pub returns-clause-at_most : goal.returns-clause-at_most
 returns-clause-at_most c =
     let cell = cell_at c.args.school c.args.student c.args.year c.args.term (rank c.args.program) in
     let small = repaid-most (reverse c.args.history.now) c.requires.legal (is_cell cell) in
-    let here = repaid-of_program (reverse c.args.history.now) c.args.school c.args.student c.args.year c.args.term c.account_of.result c.args.program c.rank.result c.account_of.ensures c.rank.ensures.value in
-    omega (arith, small, here)
+    let here = repaid-of_program (reverse c.args.history.now) c.args.school c.args.student c.args.year c.args.term c.account_of.result c.args.program c.account_of.ensures in
+    omega (arith, small, here, c.at.ensures)

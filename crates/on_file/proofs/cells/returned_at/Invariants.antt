@@ -5,7 +5,7 @@ use Rattle.on_file.proofs.cells.returned_at.Given as goal
 
 abbrev pub invariant-loop-program : goal.invariant-loop-program
 invariant-loop-program l = record {
-  sum : l.sum + moved (test_of (reverse l.history) l.cells) (moves_at l.key l.withdrawal l.program (drop l.program l.returned))
+  sum : l.sum + moved (test_of (reverse l.history) l.cells) (moves_at l.key l.withdrawal l.program-index (drop l.program-index l.returned))
       ≡ moved (test_of (reverse l.history) l.cells) (moves_at l.key l.withdrawal 0 l.returned);
-  small : l.sum ≤ 99999999 * l.program;
+  small : l.sum ≤ 99999999 * l.program-index;
 }

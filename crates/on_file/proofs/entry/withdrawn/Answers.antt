@@ -9,5 +9,5 @@ returns-then-not-is_at c =
 
 pub returns : goal.returns
 returns c =
-    entry-here _ c.args.key.now c.args.facts.now c.args.place.now.school c.args.place.now.student c.args.place.now.year c.args.place.now.term c.sheet_on-post.result
-    (sym c.is_at.ensures ∙ c.if-not-is_at.false) c.sheet_on-post.ensures
+    entry-here _ c.args.key.now c.args.facts.now c.args.place.now.school c.args.place.now.student c.args.place.now.year c.args.place.now.term c.sheet_on-returned.result
+    (sym c.is_at.ensures ∙ c.if-not-is_at.false) c.sheet_on-returned.ensures
