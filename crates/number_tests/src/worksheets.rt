@@ -1,3 +1,4 @@
+use aid_types::{ByProgram, Program};
 use withdrawal_returns::{Inputs, Lines, worksheet};
 
 // All is earned past 60 percent of the days, though 242 of 403 rounds to 60.0 percent.
@@ -16,8 +17,8 @@ fn percents(rt: HostRuntime) {
             completed,
             total,
             charges: 0,
-            net: [0; 6],
-            could: [0; 6],
+            net: ByProgram::EMPTY,
+            could: ByProgram::EMPTY,
         };
         assert_eq!(rt; worksheet(&inputs).percent, want);
     }
@@ -30,18 +31,18 @@ fn loans_are_returned_first(rt: HostRuntime) {
         completed: 30,
         total: 100,
         charges: 400_000,
-        net: [200_000, 0, 0, 300_000, 0, 0],
-        could: [0; 6],
+        net: ByProgram::new([200_000, 0, 0, 300_000, 0, 0]),
+        could: ByProgram::EMPTY,
     };
     let want = Lines {
         percent: 300,
         earned: 150_000,
         unearned: 350_000,
         school: 280_000,
-        returned: [200_000, 0, 0, 80_000, 0, 0],
+        returned: ByProgram::new([200_000, 0, 0, 80_000, 0, 0]),
         student: 70_000,
-        laid: [0, 0, 0, 70_000, 0, 0],
-        owed: [0; 6],
+        laid: ByProgram::of(Program::Pell, 70_000),
+        owed: ByProgram::EMPTY,
         post: 0,
     };
     assert_eq!(rt; worksheet(&inputs), want);
@@ -62,10 +63,13 @@ fn pell_alone(rt: HostRuntime) {
             completed,
             total,
             charges,
-            net: [0, 0, 0, net, 0, 0],
-            could: [0, 0, 0, could, 0, 0],
+            net: ByProgram::of(Program::Pell, net),
+            could: ByProgram::of(Program::Pell, could),
         };
         let lines = worksheet(&inputs);
-        assert_eq!(rt; (lines.school, lines.owed[3], lines.post), want);
+        assert_eq!(rt;
+            (lines.school, lines.owed.at(Program::Pell), lines.post),
+            want
+        );
     }
 }

@@ -5,7 +5,7 @@ ghost use Rattle.aid_types.specs.Ranges.{EachIsCents, IsAmount, IsBetween};
 
 use aid_books::BoxedBook;
 use aid_filings::{Amount, CalendarFacts, EnrolFacts, Filing, OriginateFacts, PriorFacts, SchoolFacts, What, WithdrawFacts};
-use aid_types::{Application, Breaks, Day, Key, Program, Region, School, Side, Student, Year};
+use aid_types::{Application, Breaks, ByProgram, Day, Key, Program, Region, School, Side, Student, Year};
 use specimen::specimen_book;
 use std::alloc::{AllocError, Global};
 
@@ -297,6 +297,6 @@ pub(crate) fn withdraw(
         last: Day(i32::from(days.0)),
         determined: Day(i32::from(days.1)),
         charges,
-        could,
+        could: ByProgram::new(could),
     })
 }
