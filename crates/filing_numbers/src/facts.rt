@@ -13,7 +13,7 @@ use crate::scalar::{
 use aid_filings::{
     Amount, CalendarFacts, EnrolFacts, OriginateFacts, PriorFacts, SchoolFacts, WithdrawFacts,
 };
-use aid_types::{Breaks, Day, Key, School};
+use aid_types::{Breaks, ByProgram, Day, Key, School};
 use filing_kinds::Numbers;
 
 pub(crate) fn put_key(key: &Key, numbers: &mut Numbers)
@@ -189,7 +189,7 @@ pub(crate) fn put_withdraw(facts: &WithdrawFacts, numbers: &mut Numbers)
     ensures in_range { FitAnywhere withdraw_slots (withdraw_numbers facts.now) }
 {
     put_withdrawal(facts, numbers);
-    put_could(&facts.could, numbers);
+    put_could(&facts.could.cents(), numbers);
 }
 
 fn put_withdrawal(facts: &WithdrawFacts, numbers: &mut Numbers)
@@ -257,7 +257,7 @@ fn withdrawal_of(numbers: &[i64], could: [u64; 6]) -> WithdrawFacts
         last: day_of(*last),
         determined: day_of(*determined),
         charges: cents_of(*charges),
-        could,
+        could: ByProgram::new(could),
     }
 }
 
