@@ -2,7 +2,7 @@
 #![tactic(auto)]
 
 ghost use Rattle.std.specs.Prelude.{◌≡◌, ◌≤◌, ◌≤ℤ◌, ℤ, unsigned_abs, pos, neg_ℤ};
-ghost use Rattle.aid_types.specs.Ranges.{IsPercent, IsWithin};
+ghost use Rattle.aid_types.specs.Ranges.{IsWithin};
 ghost use Rattle.aid_types.specs.declared.application.Application.{Application as AnyApplication};
 ghost use Rattle.sai_parent.specs.Household.{IsRisingSchedule};
 ghost use Rattle.sai_index.specs.Formulas.{formula as formula_at};
@@ -126,8 +126,7 @@ fn awarded(way: Way, scheduled: i64, sai: i32) -> Decision
 
 // The income that decides.
 fn income(formula: Formula, a: &Application) -> i64
-    ensures value { result ≡ income_of formula a.now }
-    ensures in_range { unsigned_abs result ≤ 99999999 }
+    ensures { result ≡ income_of formula a.now }
 {
     match formula {
         Formula::A => a.parents.agi,
@@ -160,8 +159,7 @@ fn is_single_parent(formula: Formula, a: &Application) -> bool
 
 // The percent of the guideline up to which an award is a Maximum.
 fn maximum_percent(percents: &Percents, formula: Formula, a: &Application) -> i64
-    ensures value { result ≡ maximum_percent_of percents.now formula a.now }
-    ensures in_range { IsPercent result }
+    ensures { result ≡ maximum_percent_of percents.now formula a.now }
 {
     if is_single_parent(formula, a) {
         percents.maximum_single
@@ -172,8 +170,7 @@ fn maximum_percent(percents: &Percents, formula: Formula, a: &Application) -> i6
 
 // The percent of the guideline up to which an award is a Minimum.
 fn minimum_percent(percents: &Percents, formula: Formula, a: &Application) -> i64
-    ensures value { result ≡ minimum_percent_of percents.now formula a.now }
-    ensures in_range { IsPercent result }
+    ensures { result ≡ minimum_percent_of percents.now formula a.now }
 {
     match formula {
         Formula::A => {
@@ -196,12 +193,9 @@ fn minimum_percent(percents: &Percents, formula: Formula, a: &Application) -> i6
 
 // Whether an income is at most so many percent of the guideline.
 fn is_within(agi: i64, percent: i64, guideline: i64) -> bool
-    requires agi_in_range { unsigned_abs agi ≤ 99999999 }
-    requires percent_in_range { IsPercent percent }
-    requires guideline_in_range { unsigned_abs guideline ≤ 30000000000 }
     ensures { result ≡ is_within_of agi percent guideline }
 {
-    100 * agi <= percent * guideline
+    100 * i128::from(agi) <= i128::from(percent) * i128::from(guideline)
 }
 
 // The award that the index leaves of the greatest.
@@ -216,8 +210,7 @@ fn calculated(book: &Book, index: i32) -> i64
 
 // The poverty guideline of a household.
 fn guideline(book: &Book, a: &Application) -> i64
-    ensures value { result ≡ guideline_at book.now a.now }
-    ensures in_range { unsigned_abs result ≤ 30000000000 }
+    ensures { result ≡ guideline_at book.now a.now }
 {
     let guideline = match a.region {
         Region::Contiguous => &book.poverty.contiguous,

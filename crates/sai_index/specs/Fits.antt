@@ -1,5 +1,5 @@
 -- Whether an application is in range for the book: rule 92 (own, on the members of a family that HEA 480(k) counts).
-use Rattle.std.specs.Prelude.{ℕ, nat_le, nat_lt, ◌==◌, Bool, if◌then◌else◌, Option, Some, None}
+use Rattle.std.specs.Prelude.{◌≡◌, ℕ, ◌≤◌, nat_le, nat_lt, ◌==◌, Bool, if◌then◌else◌, Option, Some, None}
 use Rattle.aid_types.specs.declared.application.Application.{Application}
 use Rattle.aid_books.specs.declared.book.Book.{Book}
 use Rattle.aid_types.specs.declared.award.Formula.{Formula}
@@ -25,3 +25,15 @@ unfit book a =
     let size = size_for (formula book a) a.married in
     if nat_lt book.year a.birth_year then Some (record { rule = 92; kept = a.birth_year; bound = book.year })
     else (if is_size (formula book a) size a.family then None else Some (record { rule = 92; kept = a.family; bound = size }))
+
+-- the same in plain numbers: at least two in the family of a dependent student; one in that of a student without
+-- dependents, or two if married; at least two in that of a student with dependents, or three if married
+abbrev pub HasSize : Formula → Bool → ℕ → Type 0
+HasSize A married family = 2 ≤ family
+HasSize B married family = family ≡ (if married then 2 else 1)
+HasSize C married family = (if married then 3 else 2) ≤ family
+
+-- an application in range: its student is born in the book's year at the latest, and its family has such a size
+pub record IsInRange (book : Book) (a : Application) : Type 0 where
+  pub born : a.birth_year ≤ book.year
+  pub size : HasSize (formula book a) a.married a.family

@@ -1,12 +1,12 @@
 //! The formula of an application, whether it fits the book, and the index (HEA 475 to 477, 480(d)).
 #![tactic(auto)]
 
-ghost use Rattle.std.specs.Prelude.{◌≡◌, ◌≤ℤ◌, neg_ℤ, pos};
+ghost use Rattle.std.specs.Prelude.{◌≡◌, ◌≤ℤ◌, ◌↔◌, IsNone, neg_ℤ, pos};
 ghost use Rattle.aid_types.specs.Ranges.{IsWithin};
 ghost use Rattle.aid_types.specs.declared.application.Application.{Application as AnyApplication};
 ghost use Rattle.sai_parent.specs.Household.{IsRisingSchedule};
 ghost use Rattle.sai_index.specs.Income.{IsRicher};
-ghost use Rattle.sai_index.specs.Fits.{is_size as is_size_of, size_for as size_for_of, unfit};
+ghost use Rattle.sai_index.specs.Fits.{IsInRange, is_size as is_size_of, size_for as size_for_of, unfit};
 ghost use Rattle.sai_index.specs.Formulas.{formula, is_independent as is_independent_of};
 ghost use Rattle.sai_index.specs.Index.{AreIndexLines, bounded as bounded_of, index_lines, indexed as indexed_of, lines_of};
 ghost use Rattle.sai_index.specs.declared.IndexLines.{IndexLines as Lines};
@@ -62,7 +62,8 @@ pub fn formula_of(book: &Book, a: &Application) -> Formula
 
 /// The refusal of an application that is out of range for the book.
 pub fn fits(book: &Book, a: &Application) -> Option<Refusal>
-    ensures { result ≡ unfit book.now a.now }
+    ensures value { result ≡ unfit book.now a.now }
+    ensures none { IsNone result ↔ IsInRange book.now a.now }
 {
     if a.birth_year > book.year.0 {
         return Some(refusal(a.birth_year as u64, book.year.0 as u64));

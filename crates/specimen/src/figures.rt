@@ -1,19 +1,24 @@
 //! The figures that stand in no table.
 ghost use Rattle.std.specs.Prelude.{◌≡◌, pos};
+ghost use Rattle.specimen.specs.Specimen.{AreAssetRates, ArePercents, IsEmployment, IsPayroll, IsPell, IsPoverty, IsProtection, IsSchedule};
 
 use aid_books::{
     Allowance, AssetRates, Employment, Guideline, Payroll, PellFigures, Percents, Poverty,
     Protection, Schedule,
 };
 
-pub(crate) fn pell_figures() -> PellFigures {
+pub(crate) fn pell_figures() -> PellFigures
+    ensures { IsPell result }
+{
     PellFigures {
         maximum: 7395,
         minimum: 740,
     }
 }
 
-pub(crate) fn percents() -> Percents {
+pub(crate) fn percents() -> Percents
+    ensures { ArePercents result }
+{
     Percents {
         maximum_single: 225,
         maximum_other: 175,
@@ -25,7 +30,9 @@ pub(crate) fn percents() -> Percents {
     }
 }
 
-pub(crate) fn poverty() -> Poverty {
+pub(crate) fn poverty() -> Poverty
+    ensures { IsPoverty result }
+{
     Poverty {
         contiguous: Guideline {
             sizes: [14580, 19720, 24860, 30000, 35140, 40280, 45420, 50560],
@@ -42,7 +49,9 @@ pub(crate) fn poverty() -> Poverty {
     }
 }
 
-pub(crate) fn payroll() -> Payroll {
+pub(crate) fn payroll() -> Payroll
+    ensures { IsPayroll result }
+{
     Payroll {
         oasdi_cap: 168600,
         oasdi_rate: 620,
@@ -53,7 +62,9 @@ pub(crate) fn payroll() -> Payroll {
     }
 }
 
-pub(crate) fn protection() -> Protection {
+pub(crate) fn protection() -> Protection
+    ensures { IsProtection result }
+{
     Protection {
         parents: Allowance {
             sizes: [28530, 35510, 43870, 51750, 60540],
@@ -73,14 +84,18 @@ pub(crate) fn protection() -> Protection {
     }
 }
 
-pub(crate) fn employment() -> Employment {
+pub(crate) fn employment() -> Employment
+    ensures { IsEmployment result }
+{
     Employment {
         cap: 4730,
         rate: 3500,
     }
 }
 
-pub(crate) fn asset_rates() -> AssetRates {
+pub(crate) fn asset_rates() -> AssetRates
+    ensures { AreAssetRates result }
+{
     AssetRates {
         parents_rate: 1200,
         dependent_rate: 2000,
@@ -90,7 +105,8 @@ pub(crate) fn asset_rates() -> AssetRates {
 }
 
 pub(crate) fn schedule() -> Schedule
-    ensures { result.first_rate ≡ pos 2200 }
+    ensures figures { IsSchedule result }
+    ensures first_rate { result.first_rate ≡ pos 2200 }
 {
     Schedule {
         low_at: -6820,

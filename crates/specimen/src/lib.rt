@@ -3,10 +3,9 @@
 
 mod figures;
 mod tables;
-#[cfg(test)]
-mod tests;
 
 ghost use Rattle.std.specs.Prelude.{◌≡◌};
+ghost use Rattle.specimen.specs.Specimen.{IsSpecimenBook};
 
 use crate::figures::{
     asset_rates, employment, payroll, pell_figures, percents, poverty, protection, schedule,
@@ -16,8 +15,10 @@ use aid_books::Book;
 use aid_types::Year;
 
 /// The specimen book of award year 2025-26. Its figures are own, even where one looks published.
+#[tactic(auto, unfolding(crate::specs::Specimen::IsSpecimenBook))]
 pub fn specimen_book() -> Book
-    ensures { result.year ≡ 2025 }
+    ensures year { result.year ≡ 2025 }
+    ensures figures { IsSpecimenBook result }
 {
     Book {
         year: Year(2025),

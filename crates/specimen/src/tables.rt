@@ -1,13 +1,12 @@
 //! The tables that go by an amount or by age.
-ghost use Rattle.std.specs.Prelude.{◌≡◌, Some, pos, option_map, slice_get};
-ghost use Rattle.aid_num.specs.Nearest.{share};
+ghost use Rattle.std.specs.Prelude.{◌≡◌};
+ghost use Rattle.specimen.specs.Specimen.{age_rows, bracket_rows, business_rows};
 
 use aid_books::{AgeRow, Ages, Bracket, Brackets};
 
 #[tactic(auto, unfolding(aid_num::specs::Nearest::half_up))]
 pub(crate) fn business() -> Brackets
-    ensures over { option_map (λ row. row.over) (slice_get result 0) ≡ Some (pos 0) }
-    ensures base { option_map (λ row. row.base) (slice_get result 0) ≡ Some (pos 0) }
+    ensures { result ≡ business_rows }
 {
     Brackets::from_rows(&[
         Bracket {
@@ -34,7 +33,7 @@ pub(crate) fn business() -> Brackets
 }
 
 pub(crate) fn ages() -> Ages
-    ensures { option_map (λ row. row.start) (slice_get result 0) ≡ Some (pos 0) }
+    ensures { result ≡ age_rows }
 {
     Ages::from_rows(&[
         AgeRow {
@@ -62,7 +61,7 @@ pub(crate) fn ages() -> Ages
 
 #[tactic(auto, unfolding(aid_num::specs::Nearest::half_up))]
 pub(crate) fn brackets() -> Brackets
-    ensures { option_map (λ row. row.base) (slice_get result 0) ≡ option_map (λ row. share row.over (pos 2200)) (slice_get result 0) }
+    ensures { result ≡ bracket_rows }
 {
     Brackets::from_rows(&[
         Bracket {

@@ -1,16 +1,29 @@
-use Rattle.std.proofs.Common.{pos, ◌*ℤ◌, ◌*◌, ◌≤◌, unsigned_abs, arith, lit<, refl}
-use Rattle.std.proofs.lemmas.Int.{ints, unsigned_abs-mul}
+use Rattle.std.proofs.Common.{◌≡◌, ℤ, pos, ◌*ℤ◌, ◌^◌, FitsSigned, to_z, of_z, w64, unsigned_abs, arith, ◌∙◌, refl}
+use Rattle.std.specs.Int.{w128}
+use Rattle.std.proofs.lemmas.Int.{ints, to_z-of_z, unsigned_abs-mul}
 use Rattle.std.proofs.lemmas.Nat.{mul-le}
-use Rattle.aid_num.proofs.Machine.{machine}
 use Rattle.pell_schedule.proofs.is_within.Goals as goal
+
+-- a number of 64 bits as one of 128
+widened : (a r : ℤ) → FitsSigned w64 a → r ≡ to_z w64 (of_z w64 a) → to_z w128 (of_z w128 r) ≡ a
+widened a r f e = let r_is : r ≡ a = e ∙ to_z-of_z w64 a f in rw r_is (omega (arith, ints))
+
+-- the product of two of them
+product_fits : (a b : ℤ) → FitsSigned w64 a → FitsSigned w64 b → FitsSigned w128 (a *ℤ b)
+product_fits a b f g =
+    let most = mul-le (unsigned_abs a) (unsigned_abs b) (2 ^ 63) (2 ^ 63) (omega (arith, ints)) (omega (arith, ints)) in
+    let size = unsigned_abs-mul a b in
+    omega (arith, ints)
+
+pub overflow_mul-result : goal.overflow_mul-result
+overflow_mul-result c = rw (widened c.args.agi c.from.result c.ranges.agi c.from.ensures) (omega (arith, ints, c.ranges.agi))
+
+pub overflow_mul-result-2 : goal.overflow_mul-result-2
+overflow_mul-result-2 c =
+    rw (widened c.args.percent c.from-2.result c.ranges.percent c.from-2.ensures, widened c.args.guideline c.from-3.result c.ranges.guideline c.from-3.ensures) (product_fits c.args.percent c.args.guideline c.ranges.percent c.ranges.guideline)
 
 pub returns : goal.returns
 returns c =
-    let agi = machine c.args.agi 99999999 c.requires.agi_in_range (lit< tt) in
-    let percent_small : unsigned_abs c.args.percent ≤ 9999 = omega (arith, ints, c.requires.percent_in_range) in
-    let percent = machine c.args.percent 9999 percent_small (lit< tt) in
-    let guideline = machine c.args.guideline 30000000000 c.requires.guideline_in_range (lit< tt) in
-    let left = machine (pos 100 *ℤ c.args.agi) 9999999900 (omega (arith, ints, c.requires.agi_in_range)) (lit< tt) in
-    let right = machine (c.args.percent *ℤ c.args.guideline) (9999 * 30000000000)
-    (omega (arith, unsigned_abs-mul c.args.percent c.args.guideline, mul-le (unsigned_abs c.args.percent) (unsigned_abs c.args.guideline) 9999 30000000000 percent_small c.requires.guideline_in_range)) (lit< tt) in
-    rw (agi, percent, guideline, left, right) refl
+    let product = to_z-of_z w128 (c.args.percent *ℤ c.args.guideline) (product_fits c.args.percent c.args.guideline c.ranges.percent c.ranges.guideline) in
+    let hundred : to_z w128 (of_z w128 (pos 100 *ℤ c.args.agi)) ≡ pos 100 *ℤ c.args.agi = omega (arith, ints, c.ranges.agi) in
+    rw (widened c.args.agi c.from.result c.ranges.agi c.from.ensures, widened c.args.percent c.from-2.result c.ranges.percent c.from-2.ensures, widened c.args.guideline c.from-3.result c.ranges.guideline c.from-3.ensures, product, hundred) refl

@@ -2,6 +2,7 @@
 ghost use Rattle.aid_types.specs.Ranges.{IsAmount, IsBetween, IsSignedAmount};
 
 use aid_types::{Application, Region, Side, Student, Year};
+use sai_parent::ParentLines;
 
 /// A household without income and assets.
 pub(crate) fn nothing() -> Side {
@@ -82,4 +83,24 @@ pub(crate) fn family_of_four(agi: i64) -> Application
     parents.cash = 12_000;
     parents.investments = 20_000;
     applicant(2006, 4, own, parents)
+}
+
+/// The lines that a formula doesn't have.
+pub(crate) fn no_lines() -> ParentLines {
+    ParentLines {
+        total: 0,
+        tax: 0,
+        payroll: 0,
+        protection: 0,
+        employment: 0,
+        allowances: 0,
+        available: 0,
+        business: 0,
+        worth: 0,
+        asset_protection: 0,
+        discretionary: 0,
+        from_assets: 0,
+        adjusted: 0,
+        contribution: 0,
+    }
 }

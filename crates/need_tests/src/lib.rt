@@ -1,8 +1,10 @@
 //! Worked applications on the specimen book, from the lines of need analysis to the award, and the edges of its tables.
-//! This library has tests alone.
+//! This library has tests alone. Expected figures are worked by hand from the specimen book.
 #![tactic(auto)]
 
 #[cfg(test)]
-mod households;
+mod applications;
 #[cfg(test)]
-mod tests;
+mod edges;
+#[cfg(test)]
+mod households;
