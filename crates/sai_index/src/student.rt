@@ -1,5 +1,5 @@
 //! The student's lines in each formula.
-ghost use Rattle.std.specs.Prelude.{◌≡◌, ◌≤◌, ◌+ℤ◌, pos, unsigned_abs};
+ghost use Rattle.std.specs.Prelude.{◌≡◌, ◌≤◌, ◌+◌, ◌+ℤ◌, pos, unsigned_abs};
 ghost use Rattle.sai_index.specs.Index.{
   AreDependentLines,
   age as age_of,
@@ -25,9 +25,8 @@ use sai_parent::{
 /// The contribution from a student's available income (HEA 475(g), 476(b)).
 #[tactic(auto, unfolding(crate::specs::Index::income_contribution))]
 pub(crate) fn income_contribution(book: &Book, available: i64) -> i64
-    requires { unsigned_abs available ≤ 100000000000 }
     ensures value { result ≡ income_contribution_of book.now available }
-    ensures in_range { unsigned_abs result ≤ 100000000000 }
+    ensures in_range { unsigned_abs result ≤ 100000000 + unsigned_abs available }
 {
     share(available, book.schedule.student_rate).max(book.schedule.lowest_student)
 }

@@ -102,7 +102,7 @@ fn oasdi(payroll: &Payroll, earned: i64) -> i64
 fn medicare(payroll: &Payroll, married: bool, earned: i64) -> i64
     requires { IsWithin (pos 0) (pos 199999998) earned }
     ensures value { result ≡ medicare_of payroll.now married earned }
-    ensures in_range { unsigned_abs result ≤ 400000000 }
+    ensures in_range { unsigned_abs result ≤ 399999996 }
 {
     let threshold = medicare_threshold(payroll, married);
     share(earned.min(threshold), payroll.medicare_rate)
@@ -146,10 +146,9 @@ pub fn asset_protection(rows: &Ages, married: bool, age: i64) -> i64
 /// The contribution from assets.
 #[tactic(auto, unfolding(crate::specs::Household::asset_contribution))]
 pub fn asset_contribution(discretionary: i64, rate: i64) -> i64
-    requires discretionary_in_range { unsigned_abs discretionary ≤ 1000000000 }
-    requires rate_in_range { IsRate rate }
+    requires { IsRate rate }
     ensures value { result ≡ asset_contribution_of discretionary rate }
-    ensures in_range { unsigned_abs result ≤ 1000000000 }
+    ensures no_greater { unsigned_abs result ≤ unsigned_abs discretionary }
 {
     share(discretionary, rate).max(0)
 }

@@ -1,6 +1,6 @@
-use Rattle.std.proofs.Common.{ℤ, ◌+ℤ◌, ◌-ℤ◌, to_z, of_z, w64, unsigned_abs, ◌≤◌, refl, arith, lit<, ap, ◌∙◌}
+use Rattle.std.proofs.Common.{◌+ℤ◌, to_z, of_z, w64, unsigned_abs, ◌≤◌, refl, arith, lit<, ap, ◌∙◌}
 use Rattle.std.proofs.lemmas.Int.{ints}
-use Rattle.aid_num.proofs.Machine.{difference_is, machine}
+use Rattle.aid_num.proofs.Machine.{difference_is, difference_most, machine}
 use Rattle.aid_num.specs.Nearest.{share}
 use Rattle.sai_index.proofs.IndexLaws.{dependent_lines-only}
 use Rattle.sai_index.proofs.student.dependent.Goals as goal
@@ -38,7 +38,4 @@ returns-clause-value c = dependent_lines-only c.args.book.now c.args.a.now c.arg
 
 pub returns-clause-available_in_range : goal.returns-clause-available_in_range
 returns-clause-available_in_range c =
-    within c.total_income-total.result c.dependent_allowances-allowances.result c.total_income-total.ensures.in_range c.dependent_allowances-allowances.ensures.in_range
-  where
-    within : (a b : ℤ) → unsigned_abs a ≤ 1000000000 → unsigned_abs b ≤ 43000000000 → unsigned_abs (to_z w64 (of_z w64 (to_z w64 (of_z w64 a) -ℤ to_z w64 (of_z w64 b)))) ≤ 44000000000
-    within a b h k = omega (arith, ints)
+    difference_most c.total_income-total.result c.dependent_allowances-allowances.result 1000000000 43000000000 c.total_income-total.ensures.in_range c.dependent_allowances-allowances.ensures.in_range (lit< tt)
