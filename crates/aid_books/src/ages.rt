@@ -4,7 +4,7 @@ ghost use Rattle.aid_books.specs.Ages.{IsAgeRow, IsByAge};
 
 use std::marker::Model;
 
-/// A row: the age where it begins, and the asset protection allowance from there on.
+/// A row: the age in years where it begins, and the asset protection allowance from there on in dollars (HEA 478(d)).
 #[derive(Clone, Copy, PartialEq, Eq, Debug)]
 pub struct AgeRow {
     pub start: i64,
@@ -57,6 +57,7 @@ impl Ages {
         }
     }
 
+    /// The rows, the least age first.
     pub fn as_slice(&self) -> &[AgeRow]
         ensures rows { result.now ≡ self.now }
         ensures few { length self.now ≤ 64 }

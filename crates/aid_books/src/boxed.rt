@@ -19,12 +19,14 @@ impl Model for BoxedBook {
 }
 
 impl BoxedBook {
+    /// The book of this box.
     pub fn new(book: Box<Book>) -> Self
         ensures { result ≡ book.value }
     {
         BoxedBook { book }
     }
 
+    /// The book, where it stands.
     pub fn as_book(&self) -> &Book
         ensures { result.now ≡ self.now }
     {

@@ -4,7 +4,8 @@ ghost use Rattle.aid_books.specs.Marginal.{IsBracket, IsMarginal};
 
 use std::marker::Model;
 
-/// A row of such a table: where it begins, its base there, and the rate of what is over it in ten-thousandths.
+/// A row of such a table: where it begins and its base there in dollars, and the rate of what is over it in
+/// ten-thousandths (HEA 475(e), 478(c)).
 #[derive(Clone, Copy, PartialEq, Eq, Debug)]
 pub struct Bracket {
     pub over: i64,
@@ -63,6 +64,7 @@ impl Brackets {
         }
     }
 
+    /// The rows, the least beginning first.
     pub fn as_slice(&self) -> &[Bracket]
         ensures rows { result.now ≡ self.now }
         ensures few { length self.now ≤ 16 }
