@@ -121,7 +121,15 @@ pub fn index(book: &Book, a: &Application) -> IndexLines
     ensures rises { (richer : AnyApplication) → IsRisingSchedule book.now → IsRicher a.now richer
         → result.index ≤ℤ (index_lines book.now richer).index }
 {
-    match formula_of(book, a) {
+    index_under(formula_of(book, a), book, a)
+}
+
+// The lines of an application under a formula, and its index.
+fn index_under(formula: Formula, book: &Book, a: &Application) -> IndexLines
+    ensures value { result ≡ lines_of formula book.now a.now }
+    ensures in_range { IsWithin (neg_ℤ (pos 1500)) (pos 999999) result.index }
+{
+    match formula {
         Formula::A => dependent_index(book, a),
         Formula::B => single_index(book, a),
         Formula::C => family_index(book, a),
