@@ -13,8 +13,6 @@ mod limits;
 mod payment;
 mod refusal;
 mod school;
-#[cfg(test)]
-mod tests;
 mod withdrawal;
 
 use aid_filings::What;

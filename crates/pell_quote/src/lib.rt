@@ -2,8 +2,6 @@
 #![tactic(auto)]
 
 mod limits;
-#[cfg(test)]
-mod tests;
 
 ghost use Rattle.std.specs.Prelude.{◌≡◌, ◌≤◌, ◌<◌, ◌*◌, ℕ, None};
 ghost use Rattle.filing_rules.specs.InRange.{IsInRange};

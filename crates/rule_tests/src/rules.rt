@@ -6,9 +6,9 @@ mod payments;
 mod terms;
 mod withdrawals;
 
-use crate::Facts;
 use aid_filings::Amount;
 use aid_types::{Breaks, Day, Key, Program, Refusal, School, Student, Term, Year};
+use filing_rules::Facts;
 
 const STUDENT: Student = Student(5001);
 
@@ -29,41 +29,31 @@ const ENROLLED: Facts = Facts {
     school_at: 2,
     terms: 2,
     full: 12,
-    code_at: 0,
     book_at: 1,
     term_at: 3,
-    term: None,
-    overlap_at: 0,
     main_terms: 1,
-    prior_at: 0,
-    pell_at: 0,
     transaction: 4,
     scheduled: 7395,
     cost_at: 6,
     cost: 20_000,
     credits: 12,
-    withdrawn_at: 0,
     net: 90_000,
-    pell_term: 0,
-    pell_year: 0,
-    pell_main: 0,
-    fseog_year: 0,
-    net_all: 0,
-    used_else: 0,
-    other_school: 0,
-    after: 0,
-    after_all: 0,
-    post: 0,
-    could: [0; 6],
-    owed: 0,
-    repaid: 0,
-    unfit: None,
-    next_scheduled: 0,
-    term_over: None,
+    ..Facts::EMPTY
 };
 
-fn refusal(rule: u16, kept: u64, bound: u64) -> Option<Refusal> {
-    Some(Refusal { rule, kept, bound })
+/// The broken rule that a row wants: its number, what is kept, and what bounds it.
+type Wanted = Option<(u16, u64, u64)>;
+
+fn refusal(wanted: Wanted) -> Option<Refusal> {
+    match wanted {
+        Some((rule, kept, bound)) => Some(Refusal { rule, kept, bound }),
+        None => None,
+    }
+}
+
+/// The key of a filing of the desk, or of the school.
+fn key(of_desk: bool) -> Key {
+    if of_desk { DESK } else { SCHOOL }
 }
 
 fn amount(program: Program, cents: u16) -> Amount {
