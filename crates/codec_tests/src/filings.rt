@@ -1,7 +1,9 @@
 //! The filings of the tests, and where a fault of bytes is.
 use aid_books::{Book, BoxedBook};
 use aid_filings::{Amount, CalendarFacts, Filing, PriorFacts, SchoolFacts, What, WithdrawFacts};
-use aid_types::{Application, Breaks, Day, Key, Program, Region, School, Side, Student, Year};
+use aid_types::{
+    Application, Breaks, ByProgram, Day, Key, Program, Region, School, Side, Student, Year,
+};
 use filing_codec::{TakeError, take};
 use std::alloc::{AllocError, Global};
 
@@ -85,7 +87,7 @@ pub(crate) fn withdrawal() -> Filing {
             last: Day(-1),
             determined: Day(20_381),
             charges: 250_000,
-            could: [1, 0, 0, 369_750, 0, 99_999_999],
+            could: ByProgram::new([1, 0, 0, 369_750, 0, 99_999_999]),
         }),
     }
 }
@@ -109,28 +111,6 @@ fn side() -> Side {
         cash: 14,
         investments: 15,
         business: 99_999_999,
-    }
-}
-
-/// A household without income and assets.
-fn nothing() -> Side {
-    Side {
-        agi: 0,
-        ira: 0,
-        interest: 0,
-        ira_untaxed: 0,
-        pension: 0,
-        foreign: 0,
-        grants: 0,
-        credits: 0,
-        work_study: 0,
-        tax: 0,
-        earned_first: 0,
-        earned_second: 0,
-        support: 0,
-        cash: 0,
-        investments: 0,
-        business: 0,
     }
 }
 
@@ -163,7 +143,7 @@ pub(crate) fn application() -> Filing {
             parents_married: false,
             parents_file: true,
             parent_age: 48,
-            parents: nothing(),
+            parents: Side::EMPTY,
         }),
     }
 }
