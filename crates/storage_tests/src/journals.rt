@@ -1,4 +1,4 @@
-// What no clause says: the bytes of worked files, the answers at named files, and what faults and stops leave.
+//! What no clause says of journals: the bytes of worked files, the answers at named files, and what faults and stops leave.
 ghost use Rattle.std.specs.Prelude.{◌≡◌, ◌<◌, [], IfOk};
 ghost use Rattle.disk_model.specs.Telling.{IsHonest};
 ghost use Rattle.filing_journal.specs.Stands.{Payloads};
@@ -9,6 +9,7 @@ use disk_model::{Disk, Fill, MemoryDisk, Stop};
 use filing_journal::{Journal, OpenError, Opening, PutError, found, recover};
 use payload::Room;
 use std::alloc::Global;
+use std::process::Abort;
 use std::test::Fail;
 
 // A founded file without payloads.
@@ -132,96 +133,126 @@ fn disk(
 
 #[test]
 fn writes_the_worked_files(rt: HostRuntime) -> Result<(), Fail> {
-    let alloc = rt.alloc();
-    let empty = founded(disk(alloc, &[], &[], None)?);
+    let empty = founded(disk(rt.alloc(), &[], &[], None)?);
     assert_eq!(rt; empty.image(), EMPTY.as_slice());
-    let (went, both) = session(disk(alloc, b"junk", &[], None)?);
+    let (went, both) = session(disk(rt.alloc(), b"junk", &[], None)?);
     assert_eq!(rt; went, Went::Well);
     assert_eq!(rt; both.image(), BOTH.as_slice());
     Ok(())
 }
 
+// How many payloads are read of these bytes.
+fn read_of(alloc: Global, bytes: &[u8], room: &mut Room) -> Result<Result<u64, OpenError>, Fail> {
+    Ok(read(disk(alloc, bytes, &[], None)?, room))
+}
+
 #[test]
 fn answers_by_the_bytes(rt: HostRuntime) -> Result<(), Fail> {
-    let alloc = rt.alloc();
-    let mut room = Room::new(alloc)?;
+    let mut room = Room::new(rt.alloc())?;
     for len in 0..72 {
-        let want = match len {
-            0..=16 => Err(OpenError::NoOffice),
-            17..=39 => Err(OpenError::Damaged(16)),
-            40..=69 => Err(OpenError::Damaged(40)),
-            70 => Err(OpenError::Damaged(70)),
-            _ => Ok(2),
-        };
-        let disk = disk(alloc, &BOTH[..len], &[], None)?;
-        assert_eq!(rt; read(disk, &mut room), want, "cut to {len} bytes");
+        let answer = read_of(rt.alloc(), &BOTH[..len], &mut room)?;
+        assert_eq!(rt; answer, of_cut(len), "cut to {len} bytes");
     }
     for place in 0..71 {
         let mut bytes = BOTH;
         bytes[place] = !bytes[place];
-        let want = match place {
-            0..=15 => Err(OpenError::NotJournal),
-            16 => Ok(0),
-            17..=20 => Err(OpenError::Damaged(16)),
-            40 => Ok(1),
-            41..=44 => Err(OpenError::Damaged(40)),
-            _ => Ok(2),
-        };
-        let disk = disk(alloc, &bytes, &[], None)?;
-        assert_eq!(rt; read(disk, &mut room), want, "byte {place} turned");
+        let answer = read_of(rt.alloc(), &bytes, &mut room)?;
+        assert_eq!(rt; answer, of_turned(place), "byte {place} turned");
     }
-    for (place, want) in [
-        (0, Err(OpenError::NoOffice)),
-        (1, Err(OpenError::NotJournal)),
-        (15, Err(OpenError::NotJournal)),
-        (16, Ok(0)),
-    ] {
+    for (place, want) in SEVENS {
+        assert!(rt; place < 17);
         let mut bytes = EMPTY;
         bytes[place] = 7;
-        let disk = disk(alloc, &bytes, &[], None)?;
-        assert_eq!(rt; read(disk, &mut room), want, "byte {place} is 7");
+        let answer = read_of(rt.alloc(), &bytes, &mut room)?;
+        assert_eq!(rt; answer, want, "byte {place} is 7");
     }
     Ok(())
 }
 
+// The answer where the file of both is cut to so many bytes.
+fn of_cut(len: usize) -> Result<u64, OpenError> {
+    match len {
+        0..=16 => Err(OpenError::NoOffice),
+        17..=39 => Err(OpenError::Damaged(16)),
+        40..=69 => Err(OpenError::Damaged(40)),
+        70 => Err(OpenError::Damaged(70)),
+        _ => Ok(2),
+    }
+}
+
+// The answer where all bits of one of its bytes are turned.
+fn of_turned(place: usize) -> Result<u64, OpenError> {
+    match place {
+        0..=15 => Err(OpenError::NotJournal),
+        16 => Ok(0),
+        17..=20 => Err(OpenError::Damaged(16)),
+        40 => Ok(1),
+        41..=44 => Err(OpenError::Damaged(40)),
+        _ => Ok(2),
+    }
+}
+
+// The answer where a byte of an empty journal is 7.
+const SEVENS: [(usize, Result<u64, OpenError>); 4] = [
+    (0, Err(OpenError::NoOffice)),
+    (1, Err(OpenError::NotJournal)),
+    (15, Err(OpenError::NotJournal)),
+    (16, Ok(0)),
+];
+
 #[test]
 fn says_what_a_fault_left(rt: HostRuntime) -> Result<(), Fail> {
-    let alloc = rt.alloc();
-    let before = PutError::DiskFault { undecided: false };
-    let either = PutError::DiskFault { undecided: true };
     for call in 1..18 {
-        let want = match call {
-            1..=8 => Went::NotFounded,
-            9 | 10 => Went::First(before),
-            11 | 12 => Went::First(either),
-            13 | 14 => Went::Second(before),
-            15 | 16 => Went::Second(either),
-            _ => Went::Well,
-        };
-        let (went, _) = session(disk(alloc, b"junk", &[call], None)?);
-        assert_eq!(rt; went, want, "call {call} fails");
+        let (went, _) = session(disk(rt.alloc(), b"junk", &[call], None)?);
+        assert_eq!(rt; went, of_fault(call), "call {call} fails");
     }
     Ok(())
+}
+
+// How far a session comes where that call fails.
+fn of_fault(call: u64) -> Went {
+    let before = PutError::DiskFault { undecided: false };
+    let either = PutError::DiskFault { undecided: true };
+    match call {
+        1..=8 => Went::NotFounded,
+        9 | 10 => Went::First(before),
+        11 | 12 => Went::First(either),
+        13 | 14 => Went::Second(before),
+        15 | 16 => Went::Second(either),
+        _ => Went::Well,
+    }
 }
 
 #[test]
 fn stops_in_the_gate_write(rt: HostRuntime) -> Result<(), Fail> {
-    let alloc = rt.alloc();
-    let mut room = Room::new(alloc)?;
-    let undecided = Err(PutError::DiskFault { undecided: true });
+    let mut room = Room::new(rt.alloc())?;
     for (left, kept) in [(0, 2), (1, 3), (7, 2)] {
-        let stop = Some(Stop {
-            call: 11,
-            fill: Fill::With(left),
-        });
-        let (answer, stopped) = third(disk(alloc, &BOTH, &[], stop)?, &mut room)?;
-        assert_eq!(rt; answer, undecided);
-        let after = disk(alloc, stopped.image(), &[], None)?;
-        assert_eq!(rt; read(after, &mut room), Ok(kept), "{left} is left");
+        let fill = Fill::With(left);
+        let stopping = disk(rt.alloc(), &BOTH, &[], Some(Stop { call: 11, fill }))?;
+        let stopped = assert_third(
+            &rt,
+            stopping,
+            &mut room,
+            Err(PutError::DiskFault { undecided: true }),
+        )?;
+        let answer = read_of(rt.alloc(), stopped.image(), &mut room)?;
+        assert_eq!(rt; answer, Ok(kept), "{left} is left");
     }
-    let (answer, settled) = third(disk(alloc, &BOTH, &[12], None)?, &mut room)?;
-    assert_eq!(rt; answer, Ok(()));
+    let failing = disk(rt.alloc(), &BOTH, &[12], None)?;
+    let settled = assert_third(&rt, failing, &mut room, Ok(()))?;
     assert_eq!(rt; read(settled, &mut room), Ok(3));
     assert_eq!(rt; room.bytes(), SCHOOL.as_slice());
     Ok(())
+}
+
+// Puts a third payload with that answer.
+fn assert_third(
+    rt: &impl Abort,
+    disk: MemoryDisk,
+    room: &mut Room,
+    want: Result<(), PutError>,
+) -> Result<MemoryDisk, OpenError> {
+    let (answer, after) = third(disk, room)?;
+    assert_eq!(rt; answer, want);
+    Ok(after)
 }
