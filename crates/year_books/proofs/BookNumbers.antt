@@ -7,9 +7,9 @@ use Rattle.std.proofs.lemmas.Int.{ints}
 use Rattle.toml.specs.Data.{Members}
 use Rattle.aid_types.specs.Ranges.{IsWithin}
 use Rattle.year_books.specs.Fields.{amount, between, line, number_at, rate, table_fields, up_to}
-use Rattle.year_books.specs.Numbers.{AreNumbers, HasRows}
+use Rattle.year_books.specs.Numbers.{AreLists, HasRows}
 use Rattle.year_books.specs.Reading.{is_between, numbers_in}
-use Rattle.year_books.specs.declared.table.Kind.TheVariants.{Integer}
+use Rattle.year_books.specs.declared.table.Holds.TheVariants.{Integer}
 use Rattle.year_books.proofs.NumbersLemmas.{AreRead, are_read, field_fits, integer_read, ranged, rows_read}
 
 between_parts : (low high z : ℤ) → list_all (is_between low high) (z ∷ []) ≡ true → IsWithin low high z
@@ -49,7 +49,7 @@ bracket_rows t lists h =
     let rows = rows_read t lists 51 (codes "bracket") (codes "over") (codes "base") (codes "rate") (between (pos 1) (up_to (pos 16))) amount amount rate h refl refl refl refl in
     record { count = rows.count; second = rows.second; third = rows.third }
 
-pub are_numbers : (t : Members) (lists : List (List ℤ)) → numbers_in t ≡ Ok lists → AreNumbers lists
+pub are_numbers : (t : Members) (lists : List (List ℤ)) → numbers_in t ≡ Ok lists → AreLists lists
 are_numbers t lists h =
     let read = are_read table_fields t lists h in
     record {

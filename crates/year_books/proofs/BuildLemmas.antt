@@ -9,9 +9,8 @@ use Rattle.aid_num.specs.Nearest.{share}
 use Rattle.aid_books.specs.Ages.{IsAgeRow, is_by_age}
 use Rattle.aid_books.specs.Marginal.{IsBracket, is_marginal}
 use Rattle.aid_types.specs.Ranges.{IsWithin}
-use Rattle.year_books.specs.Book.{age_numbers, bracket_numbers}
 use Rattle.year_books.specs.Fields.{amount, between, rate, up_to}
-use Rattle.year_books.specs.Numbers.{AreNumbers, IsInRange}
+use Rattle.year_books.specs.Numbers.{AreLists, IsInRange}
 use Rattle.year_books.specs.Tables.{ages_at, begins_ages, begins_business, begins_schedule, book_break, brackets_at, break_in, continues, is_older, number_in, numbers_at}
 use Rattle.year_books.proofs.FieldLemmas.{in_range_of, is_in_range, next, one_number}
 use Rattle.year_books.proofs.TableLemmas.{ages_in_range, brackets_in_range, first_base, first_over, first_share, first_start, is_by_age_rows, is_marginal_rows, no_breaks, length-age_rows, length-bracket_rows, marrieds-age_rows, overs-bracket_rows, bases-bracket_rows, rates-bracket_rows, singles-age_rows, starts-age_rows}
@@ -24,65 +23,44 @@ pub record HasSize (top n : ℕ) : Type 0 where
 size_of : (top n : ℕ) → IsWithin (pos 1) (pos top) (pos n) → HasSize top n
 size_of top n h = record { some = omega (arith, ints, h.0); few = omega (arith, ints, h.1) }
 
-pub length-business : (lists : List (List ℤ)) → AreNumbers lists → length (brackets_at 39 lists) ≡ length (numbers_at 40 lists)
+pub length-business : (lists : List (List ℤ)) → AreLists lists → length (brackets_at 39 lists) ≡ length (numbers_at 40 lists)
 length-business lists whole = length-bracket_rows (numbers_at 40 lists) (numbers_at 41 lists) (numbers_at 42 lists) whole.business.second whole.business.third
 
-pub size-business : (lists : List (List ℤ)) → AreNumbers lists → HasSize 16 (length (brackets_at 39 lists))
+pub size-business : (lists : List (List ℤ)) → AreLists lists → HasSize 16 (length (brackets_at 39 lists))
 size-business lists whole =
     rw (length-business lists whole) (size_of 16 (length (numbers_at 40 lists)) (is_in_range lists 39 (pos (length (numbers_at 40 lists))) whole whole.business.count))
 
-pub range-business : (lists : List (List ℤ)) → AreNumbers lists → All IsBracket (brackets_at 39 lists)
+pub range-business : (lists : List (List ℤ)) → AreLists lists → All IsBracket (brackets_at 39 lists)
 range-business lists whole =
     brackets_in_range (numbers_at 40 lists) (numbers_at 41 lists) (numbers_at 42 lists)
     (in_range_of lists 40 amount whole refl) (in_range_of lists 41 amount whole refl) (in_range_of lists 42 rate whole refl)
 
-pub numbers-business : (lists : List (List ℤ)) → AreNumbers lists → take 4 (drop 38 lists) ≡ bracket_numbers (brackets_at 39 lists)
-numbers-business lists whole =
-    next 3 38 lists _ _ whole (lit< tt) (whole.business.count ∙ ap (λ n. pos n ∷ []) (sym (length-business lists whole))) (
-    next 2 39 lists _ _ whole (lit< tt) (sym (overs-bracket_rows (numbers_at 40 lists) (numbers_at 41 lists) (numbers_at 42 lists) whole.business.second whole.business.third)) (
-    next 1 40 lists _ _ whole (lit< tt) (sym (bases-bracket_rows (numbers_at 40 lists) (numbers_at 41 lists) (numbers_at 42 lists) whole.business.second whole.business.third)) (
-    next 0 41 lists _ _ whole (lit< tt) (sym (rates-bracket_rows (numbers_at 40 lists) (numbers_at 41 lists) (numbers_at 42 lists) whole.business.second whole.business.third)) refl)))
-
-pub length-age : (lists : List (List ℤ)) → AreNumbers lists → length (ages_at 43 lists) ≡ length (numbers_at 44 lists)
+pub length-age : (lists : List (List ℤ)) → AreLists lists → length (ages_at 43 lists) ≡ length (numbers_at 44 lists)
 length-age lists whole = length-age_rows (numbers_at 44 lists) (numbers_at 45 lists) (numbers_at 46 lists) whole.age.second whole.age.third
 
-pub size-age : (lists : List (List ℤ)) → AreNumbers lists → HasSize 64 (length (ages_at 43 lists))
+pub size-age : (lists : List (List ℤ)) → AreLists lists → HasSize 64 (length (ages_at 43 lists))
 size-age lists whole =
     rw (length-age lists whole) (size_of 64 (length (numbers_at 44 lists)) (is_in_range lists 43 (pos (length (numbers_at 44 lists))) whole whole.age.count))
 
-pub range-age : (lists : List (List ℤ)) → AreNumbers lists → All IsAgeRow (ages_at 43 lists)
+pub range-age : (lists : List (List ℤ)) → AreLists lists → All IsAgeRow (ages_at 43 lists)
 range-age lists whole =
     ages_in_range (numbers_at 44 lists) (numbers_at 45 lists) (numbers_at 46 lists)
     (in_range_of lists 44 (between (pos 0) (up_to (pos 120))) whole refl) (in_range_of lists 45 amount whole refl) (in_range_of lists 46 amount whole refl)
 
-pub numbers-age : (lists : List (List ℤ)) → AreNumbers lists → take 4 (drop 42 lists) ≡ age_numbers (ages_at 43 lists)
-numbers-age lists whole =
-    next 3 42 lists _ _ whole (lit< tt) (whole.age.count ∙ ap (λ n. pos n ∷ []) (sym (length-age lists whole))) (
-    next 2 43 lists _ _ whole (lit< tt) (sym (starts-age_rows (numbers_at 44 lists) (numbers_at 45 lists) (numbers_at 46 lists) whole.age.second whole.age.third)) (
-    next 1 44 lists _ _ whole (lit< tt) (sym (singles-age_rows (numbers_at 44 lists) (numbers_at 45 lists) (numbers_at 46 lists) whole.age.second whole.age.third)) (
-    next 0 45 lists _ _ whole (lit< tt) (sym (marrieds-age_rows (numbers_at 44 lists) (numbers_at 45 lists) (numbers_at 46 lists) whole.age.second whole.age.third)) refl)))
-
-pub length-bracket : (lists : List (List ℤ)) → AreNumbers lists → length (brackets_at 52 lists) ≡ length (numbers_at 53 lists)
+pub length-bracket : (lists : List (List ℤ)) → AreLists lists → length (brackets_at 52 lists) ≡ length (numbers_at 53 lists)
 length-bracket lists whole = length-bracket_rows (numbers_at 53 lists) (numbers_at 54 lists) (numbers_at 55 lists) whole.bracket.second whole.bracket.third
 
-pub size-bracket : (lists : List (List ℤ)) → AreNumbers lists → HasSize 16 (length (brackets_at 52 lists))
+pub size-bracket : (lists : List (List ℤ)) → AreLists lists → HasSize 16 (length (brackets_at 52 lists))
 size-bracket lists whole =
     rw (length-bracket lists whole) (size_of 16 (length (numbers_at 53 lists)) (is_in_range lists 52 (pos (length (numbers_at 53 lists))) whole whole.bracket.count))
 
-pub range-bracket : (lists : List (List ℤ)) → AreNumbers lists → All IsBracket (brackets_at 52 lists)
+pub range-bracket : (lists : List (List ℤ)) → AreLists lists → All IsBracket (brackets_at 52 lists)
 range-bracket lists whole =
     brackets_in_range (numbers_at 53 lists) (numbers_at 54 lists) (numbers_at 55 lists)
     (in_range_of lists 53 amount whole refl) (in_range_of lists 54 amount whole refl) (in_range_of lists 55 rate whole refl)
 
-pub numbers-bracket : (lists : List (List ℤ)) → AreNumbers lists → take 4 (drop 51 lists) ≡ bracket_numbers (brackets_at 52 lists)
-numbers-bracket lists whole =
-    next 3 51 lists _ _ whole (lit< tt) (whole.bracket.count ∙ ap (λ n. pos n ∷ []) (sym (length-bracket lists whole))) (
-    next 2 52 lists _ _ whole (lit< tt) (sym (overs-bracket_rows (numbers_at 53 lists) (numbers_at 54 lists) (numbers_at 55 lists) whole.bracket.second whole.bracket.third)) (
-    next 1 53 lists _ _ whole (lit< tt) (sym (bases-bracket_rows (numbers_at 53 lists) (numbers_at 54 lists) (numbers_at 55 lists) whole.bracket.second whole.bracket.third)) (
-    next 0 54 lists _ _ whole (lit< tt) (sym (rates-bracket_rows (numbers_at 53 lists) (numbers_at 54 lists) (numbers_at 55 lists) whole.bracket.second whole.bracket.third)) refl)))
-
 -- the form of a book is 1
-pub form-one : (lists : List (List ℤ)) → AreNumbers lists → numbers_at 1 lists ≡ pos 1 ∷ []
+pub form-one : (lists : List (List ℤ)) → AreLists lists → numbers_at 1 lists ≡ pos 1 ∷ []
 form-one lists whole = by (numbers_at 1 lists) refl (one_number lists 1 whole refl)
   where
     by : (zs : List ℤ) → numbers_at 1 lists ≡ zs → length zs ≡ 1 → numbers_at 1 lists ≡ pos 1 ∷ []
@@ -92,11 +70,6 @@ form-one lists whole = by (numbers_at 1 lists) refl (one_number lists 1 whole re
         let within : IsInRange 1 z = is_in_range lists 1 z whole e in
         let same : z ≡ pos 1 = omega (arith, ints, within.0, within.1) in
         e ∙ ap (λ x. x ∷ []) same
-
--- parts one after the other
-pub join : (n k m : ℕ) (lists part rest : List (List ℤ)) → k + n ≡ m → take n (drop k lists) ≡ part → drop m lists ≡ rest → drop k lists ≡ part ++ rest
-join n k m lists part rest e front back =
-    sym (take-append-drop n (drop k lists)) ∙ rw (front, drop-drop n k lists, e, back) refl
 
 -- what a book's numbers say where no row fails
 pub record Rises (lists : List (List ℤ)) : Type 0 where
@@ -119,7 +92,7 @@ pub record Tables (lists : List (List ℤ)) : Type 0 where
   pub bracket_marginal : is_marginal (brackets_at 52 lists) ≡ true
   pub bracket_base : option_map (λ row. row.base) (slice_get (brackets_at 52 lists) 0) ≡ option_map (λ row. share row.over (number_in 49 lists)) (slice_get (brackets_at 52 lists) 0)
 
-pub tables : (lists : List (List ℤ)) → AreNumbers lists → book_break lists ≡ None → Tables lists
+pub tables : (lists : List (List ℤ)) → AreLists lists → book_break lists ≡ None → Tables lists
 tables lists whole h =
     let all = rises lists h in
     record {
@@ -131,28 +104,3 @@ tables lists whole h =
       bracket_marginal = is_marginal_rows (begins_schedule (number_in 49 lists)) (brackets_at 52 lists) (size-bracket lists whole).some all.bracket;
       bracket_base = first_share (number_in 49 lists) (brackets_at 52 lists) (size-bracket lists whole).some all.bracket;
     }
-
--- the lists of a book are its parts one after the other
-pub parts_join : (lists two pell percent poverty payroll protection employment assets business age schedule bracket : List (List ℤ)) → AreNumbers lists
-    → take 2 lists ≡ two → take 2 (drop 2 lists) ≡ pell → take 7 (drop 4 lists) ≡ percent → take 6 (drop 11 lists) ≡ poverty
-    → take 6 (drop 17 lists) ≡ payroll → take 9 (drop 23 lists) ≡ protection → take 2 (drop 32 lists) ≡ employment → take 4 (drop 34 lists) ≡ assets
-    → take 4 (drop 38 lists) ≡ business → take 4 (drop 42 lists) ≡ age → take 5 (drop 46 lists) ≡ schedule → take 4 (drop 51 lists) ≡ bracket
-    → lists ≡ two ++ (pell ++ (percent ++ (poverty ++ (payroll ++ (protection ++ (employment ++ (assets ++ (business ++ (age ++ (schedule ++ bracket))))))))))
-parts_join lists two pell percent poverty payroll protection employment assets business age schedule bracket whole a b c d e f g h i j k l =
-    let last : drop 55 lists ≡ [] = (let past : length lists ≤ 55 = omega (arith, whole.count) in drop_of_length-le lists past) in
-    let end : drop 51 lists ≡ bracket = join 4 51 55 lists bracket [] refl l last ∙ append-nil bracket in
-    join 2 0 2 lists two _ refl a (
-    join 2 2 4 lists pell _ refl b (
-    join 7 4 11 lists percent _ refl c (
-    join 6 11 17 lists poverty _ refl d (
-    join 6 17 23 lists payroll _ refl e (
-    join 9 23 32 lists protection _ refl f (
-    join 2 32 34 lists employment _ refl g (
-    join 4 34 38 lists assets _ refl h (
-    join 4 38 42 lists business _ refl i (
-    join 4 42 46 lists age _ refl j (
-    join 5 46 51 lists schedule bracket refl k end))))))))))
-
--- form and year
-pub two_join : (lists : List (List ℤ)) (year : ℕ) → AreNumbers lists → numbers_at 2 lists ≡ pos year ∷ [] → take 2 lists ≡ (pos 1 ∷ []) ∷ (pos year ∷ []) ∷ []
-two_join lists year whole e = next 1 0 lists _ _ whole (lit< tt) (form-one lists whole) (next 0 1 lists _ _ whole (lit< tt) e refl)

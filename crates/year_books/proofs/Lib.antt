@@ -5,3 +5,5 @@ pub mod BookNumbers
 pub mod FieldLemmas
 pub mod TableLemmas
 pub mod BuildLemmas
+pub mod ByRows
+pub mod FlatLemmas

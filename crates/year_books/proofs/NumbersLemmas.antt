@@ -10,8 +10,8 @@ use Rattle.year_books.specs.Reading.{after, all_numbers, count_of_tables, data_o
 use Rattle.year_books.specs.Numbers.{are_at_most, fits, has_count}
 use Rattle.year_books.specs.declared.error.BookError.{BookError}
 use Rattle.year_books.specs.declared.error.BookError.TheVariants.{Missing, OutOfRange}
-use Rattle.year_books.specs.declared.table.Kind.{Kind}
-use Rattle.year_books.specs.declared.table.Kind.TheVariants.{Integer, Integers, Tables, Column}
+use Rattle.year_books.specs.declared.table.Holds.{Holds}
+use Rattle.year_books.specs.declared.table.Holds.TheVariants.{Integer, Integers, Tables, Column}
 
 -- what follows a value gives a value only after one
 pub record Follows {A B : Type 0} (r : Result A BookError) (more : A → Result B BookError) (y : B) : Type 0 where
@@ -28,7 +28,7 @@ ok_kind : (number : ℕ) (o : Option (List ℤ)) (ys : List ℤ) → or_wrong_ki
 ok_kind number None ys h = cc
 ok_kind number (Some zs) ys h = cc
 
-pub ok_places : (kind : Kind) (number : ℕ) (places : List (Option Data)) (ys : List ℤ)
+pub ok_places : (kind : Holds) (number : ℕ) (places : List (Option Data)) (ys : List ℤ)
     → read_places kind number places ≡ Ok ys → all_numbers kind places ≡ Some ys
 ok_places kind number places ys = by (list_all is_some places)
   where
@@ -37,12 +37,12 @@ ok_places kind number places ys = by (list_all is_some places)
     by false h = cc
 
 -- what stood at a field of one place
-pub record StandsAt (kind : Kind) (o : Option Data) (ys : List ℤ) : Type 0 where
+pub record StandsAt (kind : Holds) (o : Option Data) (ys : List ℤ) : Type 0 where
   pub data_at : Data
   pub there : o ≡ Some data_at
   pub numbers : numbers_at kind data_at ≡ Some ys
 
-pub one_place : (kind : Kind) (o : Option Data) (ys : List ℤ) → all_numbers kind (o ∷ []) ≡ Some ys → StandsAt kind o ys
+pub one_place : (kind : Holds) (o : Option Data) (ys : List ℤ) → all_numbers kind (o ∷ []) ≡ Some ys → StandsAt kind o ys
 one_place kind None ys h = cc
 one_place kind (Some d) ys h = record { data_at = d; there = refl; numbers = by (numbers_at kind d) h }
   where
@@ -102,7 +102,7 @@ column-length (Some d ∷ os) ys h = by (column-length os) (as_integer d) (all_n
     by rest (Some z) (Some zs) e k = let same : ys ≡ z ∷ zs = cc in ap length same ∙ ap suc (rest zs e)
 
 -- the count of a field's numbers
-places_count : (kind : Kind) (section key : List ℕ) (t : Members) (ys : List ℤ) → all_numbers kind (places_of kind section key t) ≡ Some ys → has_count kind ys ≡ true
+places_count : (kind : Holds) (section key : List ℕ) (t : Members) (ys : List ℤ) → all_numbers kind (places_of kind section key t) ≡ Some ys → has_count kind ys ≡ true
 places_count Integer section key t ys h =
     let at = one_place Integer (place section key t) ys h in let one = one_integer at.data_at ys at.numbers in
     subst (λ (xs : List ℤ). (length xs == 1) ≡ true) (sym one.only) refl

@@ -7,21 +7,21 @@ use Rattle.toml.specs.View.{members_view}
 use Rattle.toml.specs.declared.value.Value.{Value}
 use Rattle.year_books.specs.Fields.{field_line, table_fields}
 use Rattle.year_books.specs.Unknown.{dotted, is_key, is_section, keep_lesser, names_of, unknown_keys}
-use Rattle.year_books.specs.declared.table.Field.{Field}
+use Rattle.year_books.specs.declared.table.BookField.{BookField}
 
 pub list_any_map : {X Y : Type 0} (p : X → Bool) (f : Y → X) (ys : List Y) → list_any p (map f ys) ≡ list_any (λ y. p (f y)) ys
 list_any_map p f [] = refl
 list_any_map p f (y ∷ ys) = ap (λ b. p (f y) || b) (list_any_map p f ys)
 
 -- the fields of the program know the keys of the table
-pub is_key_by : (fields : List Field) (section key : List ℕ) → map field_line fields ≡ table_fields
+pub is_key_by : (fields : List BookField) (section key : List ℕ) → map field_line fields ≡ table_fields
     → list_any (λ f. bytes_eq f.section.now section && bytes_eq f.key.now key) fields ≡ is_key section key
 unfolding is_key
 is_key_by fields section key e =
     sym (list_any_map (λ f. bytes_eq f.section section && bytes_eq f.key key) field_line fields)
     ∙ ap (list_any (λ f. bytes_eq f.section section && bytes_eq f.key key)) e
 
-pub is_section_by : (fields : List Field) (name : List ℕ) → map field_line fields ≡ table_fields → (length name == 0) ≡ false
+pub is_section_by : (fields : List BookField) (name : List ℕ) → map field_line fields ≡ table_fields → (length name == 0) ≡ false
     → list_any (λ f. bytes_eq f.section.now name) fields ≡ is_section name
 unfolding is_section
 is_section_by fields name e some =

@@ -1,10 +1,10 @@
 -- The fields of a year book, in order: where each stands, what stands there, and the range of its numbers.
 use Rattle.std.specs.Prelude.{ℕ, ℤ, pos, neg_ℤ, List, [], ◌∷◌, codes}
-use Rattle.year_books.specs.declared.table.Field.{Field}
-use Rattle.year_books.specs.declared.table.Kind.{Kind}
-use Rattle.year_books.specs.declared.table.Kind.TheVariants.{Integer, Integers, Tables, Column}
-use Rattle.year_books.specs.declared.table.Limit.{Limit}
-use Rattle.year_books.specs.declared.table.Limit.TheVariants.{Number, Key}
+use Rattle.year_books.specs.declared.table.BookField.{BookField}
+use Rattle.year_books.specs.declared.table.Holds.{Holds}
+use Rattle.year_books.specs.declared.table.Holds.TheVariants.{Integer, Integers, Tables, Column}
+use Rattle.year_books.specs.declared.table.Highest.{Highest}
+use Rattle.year_books.specs.declared.table.Highest.TheVariants.{Number, Key}
 
 -- the greatest number of a field: this one, or the number at a key of the same section
 pub data Greatest : Type 0 where
@@ -36,18 +36,18 @@ pub record Line : Type 0 where
   pub number : ℕ
   pub section : List ℕ
   pub key : List ℕ
-  pub kind : Kind
+  pub kind : Holds
   pub range : Range
 
-abbrev pub line : ℕ → List ℕ → List ℕ → Kind → Range → Line
+abbrev pub line : ℕ → List ℕ → List ℕ → Holds → Range → Line
 line number section key kind range = record { number = number; section = section; key = key; kind = kind; range = range }
 
 -- a field of the program as such a line
-abbrev pub greatest : Limit → Greatest
+abbrev pub greatest : Highest → Greatest
 greatest (Number z) = up_to z
 greatest (Key key) = number_at key.now
 
-abbrev pub field_line : Field → Line
+abbrev pub field_line : BookField → Line
 field_line f = line f.number f.section.now f.key.now f.kind (between f.low (greatest f.high))
 
 -- the fields 1 to 55

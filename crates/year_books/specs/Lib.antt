@@ -4,5 +4,5 @@ pub mod Reading
 pub mod Tables
 pub mod Unknown
 pub mod Numbers
-pub mod Book
+pub mod Flat
 pub mod Text

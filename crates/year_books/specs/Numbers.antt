@@ -6,15 +6,15 @@ use Rattle.aid_types.specs.Ranges.{IsWithin}
 use Rattle.year_books.specs.Fields.{Greatest, Line, Range, number_at, table_fields, up_to}
 use Rattle.year_books.specs.Reading.{is_between}
 use Rattle.year_books.specs.Tables.{number_in, numbers_at}
-use Rattle.year_books.specs.declared.table.Kind.{Kind}
-use Rattle.year_books.specs.declared.table.Kind.TheVariants.{Integer, Integers, Tables, Column}
+use Rattle.year_books.specs.declared.table.Holds.{Holds}
+use Rattle.year_books.specs.declared.table.Holds.TheVariants.{Integer, Integers, Tables, Column}
 
 -- the program's numbers
 abbrev pub lists_of : List (Vec ℤ Global) → List (List ℤ)
 lists_of numbers = map (λ v. v.items) numbers
 
 -- so many numbers as the field holds
-abbrev pub has_count : Kind → List ℤ → Bool
+abbrev pub has_count : Holds → List ℤ → Bool
 has_count Integer zs = length zs == 1
 has_count (Integers n) zs = length zs == n
 has_count Tables zs = length zs == 1
@@ -34,7 +34,7 @@ pub record HasRows (field : ℕ) (lists : List (List ℤ)) : Type 0 where
   pub third : length (numbers_at (field + 3) lists) ≡ length (numbers_at (field + 1) lists)
 
 -- a list for each field, in its range
-pub record AreNumbers (lists : List (List ℤ)) : Type 0 where
+pub record AreLists (lists : List (List ℤ)) : Type 0 where
   pub count : length lists ≡ 55
   pub fit : (k : ℕ) (f : Line) → slice_get table_fields k ≡ Some f → fits f (slice_index_or lists k []) ≡ true
   pub minimum : IsWithin (pos 1) (number_in 3 lists) (number_in 4 lists)
@@ -43,7 +43,7 @@ pub record AreNumbers (lists : List (List ℤ)) : Type 0 where
   pub bracket : HasRows 52 lists
 
 -- what a field holds, and the range of its numbers
-abbrev pub kind_at : ℕ → Option Kind
+abbrev pub kind_at : ℕ → Option Holds
 kind_at field = option_map (λ f. f.kind) (slice_get table_fields (field - 1))
 
 abbrev pub IsUpTo : ℤ → Greatest → ℤ → Type 0

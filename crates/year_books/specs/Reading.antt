@@ -5,8 +5,8 @@ use Rattle.std.specs.Str.{is_utf8}
 use Rattle.toml.specs.Data.{Data, Items, no_items, item, Members, get, get_member, as_array, as_integer, as_table}
 use Rattle.toml.specs.Parse.{parse_document}
 use Rattle.year_books.specs.Fields.{Line, Greatest, up_to, number_at, table_fields}
-use Rattle.year_books.specs.declared.table.Kind.{Kind}
-use Rattle.year_books.specs.declared.table.Kind.TheVariants.{Integer, Integers, Tables, Column}
+use Rattle.year_books.specs.declared.table.Holds.{Holds}
+use Rattle.year_books.specs.declared.table.Holds.TheVariants.{Integer, Integers, Tables, Column}
 use Rattle.year_books.specs.declared.error.BookError.{BookError}
 use Rattle.year_books.specs.declared.error.BookError.TheVariants.{Missing, WrongKind, OutOfRange}
 
@@ -33,7 +33,7 @@ place [] key t = get_member key t
 place (s ∷ section) key t = option_and_then (get key) (get_member (s ∷ section) t)
 
 -- the places of a field: one, or for a column one in each row
-abbrev pub places_of : Kind → List ℕ → List ℕ → Members → List (Option Data)
+abbrev pub places_of : Holds → List ℕ → List ℕ → Members → List (Option Data)
 places_of Column section key t = map (get key) (rows_of section t)
 places_of _ section key t = place section key t ∷ []
 
@@ -50,14 +50,14 @@ abbrev pub count_of_tables : List Data → Option (List ℤ)
 count_of_tables ds = if list_all (λ d. is_some (as_table d)) ds then Some (pos (length ds) ∷ []) else None
 
 -- the numbers that stand at a place, if it is of the kind
-abbrev pub numbers_at : Kind → Data → Option (List ℤ)
+abbrev pub numbers_at : Holds → Data → Option (List ℤ)
 numbers_at Integer d = option_map (λ z. z ∷ []) (as_integer d)
 numbers_at (Integers n) d = option_and_then (λ ds. exactly n (integers (data_of ds))) (as_array d)
 numbers_at Tables d = option_and_then (λ ds. count_of_tables (data_of ds)) (as_array d)
 numbers_at Column d = option_map (λ z. z ∷ []) (as_integer d)
 
 -- the numbers of all places
-abbrev pub all_numbers : Kind → List (Option Data) → Option (List ℤ)
+abbrev pub all_numbers : Holds → List (Option Data) → Option (List ℤ)
 all_numbers kind [] = Some []
 all_numbers kind (o ∷ os) = option_and_then (λ zs. option_map (λ rest. zs ++ rest) (all_numbers kind os)) (option_and_then (numbers_at kind) o)
 
@@ -66,7 +66,7 @@ or_wrong_kind number None = Err (WrongKind number)
 or_wrong_kind number (Some zs) = Ok zs
 
 -- the numbers of a field, in range or not: what is missing comes before what is of the wrong kind
-abbrev pub read_places : Kind → ℕ → List (Option Data) → Result (List ℤ) BookError
+abbrev pub read_places : Holds → ℕ → List (Option Data) → Result (List ℤ) BookError
 read_places kind number places = if list_all is_some places then or_wrong_kind number (all_numbers kind places) else Err (Missing number)
 
 abbrev pub unranged : Line → Members → Result (List ℤ) BookError

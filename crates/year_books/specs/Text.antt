@@ -1,6 +1,7 @@
 -- The book of a text: its numbers, or its first error.
 use Rattle.std.specs.Prelude.{ℕ, ℤ, List, Option, Some, None, Result, Ok, Err, option_map}
 use Rattle.toml.specs.Data.{Members}
+use Rattle.year_books.specs.Flat.{flat}
 use Rattle.year_books.specs.Reading.{after, numbers_in, table_of}
 use Rattle.year_books.specs.Tables.{book_break}
 use Rattle.year_books.specs.Unknown.{unknown_key}
@@ -13,17 +14,17 @@ unless None r = r
 unless (Some e) r = Err e
 
 -- of a table: first its fields in order, then its rows that fail, then its unknown keys
-abbrev pub numbers_of_table : Members → Result (List (List ℤ)) BookError
+abbrev pub numbers_of_table : Members → Result (List ℤ) BookError
 numbers_of_table t =
     after (numbers_in t) (λ lists.
     unless (book_break lists) (
     unless (option_map Unknown (unknown_key t)) (
-    Ok lists)))
+    Ok (flat lists))))
 
-abbrev pub numbers_if : Option Members → Result (List (List ℤ)) BookError
+abbrev pub numbers_if : Option Members → Result (List ℤ) BookError
 numbers_if None = Err NotToml
 numbers_if (Some t) = numbers_of_table t
 
 -- the numbers of the book of a text, or the text's first error
-abbrev pub numbers_of_text : List ℕ → Result (List (List ℤ)) BookError
+abbrev pub numbers_of_text : List ℕ → Result (List ℤ) BookError
 numbers_of_text text = numbers_if (table_of text)

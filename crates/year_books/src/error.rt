@@ -3,7 +3,7 @@ ghost use Rattle.std.specs.Prelude.{◌≡◌};
 ghost use Rattle.year_books.specs.declared.error.BookError.TheVariants.{NoMemory};
 ghost use Rattle.year_books.specs.Errors.{error_number};
 
-use crate::table::{Field, Kind, Limit, fields};
+use crate::table::{BookField, Highest, Holds, fields};
 use aid_types::Name;
 use std::alloc::{AllocError, AllocFailed};
 use std::fmt;
@@ -71,7 +71,7 @@ impl<T: Drop> From<AllocFailed<T>> for BookError {
 }
 
 // The field of a number.
-fn field_of(number: u16) -> Option<&'static Field> {
+fn field_of(number: u16) -> Option<&'static BookField> {
     fields().iter().find(|field| field.number == number)
 }
 
@@ -102,10 +102,10 @@ impl fmt::Display for Wanted {
     fn fmt<W: fmt::Write>(&self, f: &mut fmt::Formatter<W>) -> fmt::Result {
         match field_of(self.0) {
             Some(field) => match field.kind {
-                Kind::Integer => write!(f, "a whole number"),
-                Kind::Integers(count) => write!(f, "a list of {count} whole numbers"),
-                Kind::Tables => write!(f, "an array of tables"),
-                Kind::Column => write!(f, "a whole number in each row"),
+                Holds::Integer => write!(f, "a whole number"),
+                Holds::Integers(count) => write!(f, "a list of {count} whole numbers"),
+                Holds::Tables => write!(f, "an array of tables"),
+                Holds::Column => write!(f, "a whole number in each row"),
             },
             None => Ok(()),
         }
@@ -120,8 +120,8 @@ impl fmt::Display for Range {
     fn fmt<W: fmt::Write>(&self, f: &mut fmt::Formatter<W>) -> fmt::Result {
         match field_of(self.0) {
             Some(field) => match field.high {
-                Limit::Number(high) => write!(f, "from {} to {high}", field.low),
-                Limit::Key(key) => write!(f, "from {} to {}.{key}", field.low, field.section),
+                Highest::Number(high) => write!(f, "from {} to {high}", field.low),
+                Highest::Key(key) => write!(f, "from {} to {}.{key}", field.low, field.section),
             },
             None => Ok(()),
         }

@@ -1,28 +1,29 @@
 //! The book of an award year, read from a TOML text.
 #![tactic(auto)]
 
-mod build;
 mod error;
-mod numbers;
-mod parts;
+mod flat;
 mod reading;
+mod rows;
 mod table;
 mod tables;
 mod unknown;
 
 ghost use Rattle.std.specs.Prelude.{◌≡◌, ◌≢◌, Ok, Err, IfOk, IfErr};
 ghost use Rattle.toml.specs.View.{table_view};
-ghost use Rattle.year_books.specs.Book.{numbers_of};
+ghost use Rattle.book_numbers.specs.Book.{numbers_of};
 ghost use Rattle.year_books.specs.Text.{numbers_of_table, numbers_of_text};
 
-use crate::build::{break_of, build, rows_of};
+use crate::flat::flat;
 use crate::reading::{numbers_in_table, table_in};
+use crate::rows::{break_of, rows_of};
 use crate::unknown::least_unknown;
 use aid_books::Book;
 use aid_types::Name;
+use book_numbers::book_of_numbers;
 pub use error::BookError;
 use std::alloc::Global;
-pub use table::{Field, Kind, Limit, fields};
+pub use table::{BookField, Highest, Holds, fields};
 use toml::Table;
 
 // The book of a text's table.
@@ -30,15 +31,16 @@ fn book_of_table(alloc: Global, table: &Table) -> Result<Book, BookError>
     ensures ok { IfOk result (λ b. numbers_of_table (table_view table.now) ≡ Ok (numbers_of b)) }
     ensures err { IfErr result (λ e. e ≢ BookError.NoMemory → numbers_of_table (table_view table.now) ≡ Err e) }
 {
-    let numbers = numbers_in_table(alloc, table)?;
-    let rows = rows_of(alloc, &numbers)?;
-    if let Some(error) = break_of(&numbers, &rows) {
+    let lists = numbers_in_table(alloc, table)?;
+    let rows = rows_of(alloc, &lists)?;
+    if let Some(error) = break_of(&lists, &rows) {
         return Err(error);
     }
     if let Some(key) = least_unknown(alloc, table)? {
         return Err(BookError::Unknown(Name::new(key)));
     }
-    Ok(build(&numbers, &rows))
+    let numbers = flat(alloc, &lists)?;
+    Ok(book_of_numbers(&numbers))
 }
 
 /// The book that a text gives, or the first thing that is wrong with the text: that it is no TOML, then the fields 1 to 55

@@ -7,7 +7,7 @@ ghost use Rattle.year_books.specs.Fields.{field_line, greatest};
 ghost use Rattle.year_books.specs.Reading.{all_numbers, count_of_tables, data_of, exactly, field_numbers, integers, is_between, limit, numbers_at, numbers_in, place, read_places, rows_of, table_of, unranged};
 
 use crate::error::BookError;
-use crate::table::{Field, Kind, Limit, fields};
+use crate::table::{BookField, Highest, Holds, fields};
 use std::alloc::{AllocError, Global};
 use toml::value::Array;
 use toml::{Table, Value};
@@ -95,7 +95,7 @@ fn in_each(rows: &[Value], key: &str) -> bool
 
 // The integers at a key of some rows, if they all are.
 fn column(alloc: Global, rows: &[Value], key: &str) -> Result<Option<Vec<i64>>, AllocError>
-    ensures { IfOk result (λ o. option_map (λ v. v.items) o ≡ all_numbers Kind.Column (map (get key.now) (map view rows.now))) }
+    ensures { IfOk result (λ o. option_map (λ v. v.items) o ≡ all_numbers Holds.Column (map (get key.now) (map view rows.now))) }
 {
     let mut numbers = Vec::new(alloc);
     for row in rows {
@@ -151,19 +151,19 @@ fn count_of(alloc: Global, items: &[Value]) -> Result<Option<Vec<i64>>, AllocErr
 }
 
 // The numbers that stand at a place, if it is of the kind.
-fn numbers_of(alloc: Global, kind: Kind, value: &Value) -> Result<Option<Vec<i64>>, AllocError>
+fn numbers_of(alloc: Global, kind: Holds, value: &Value) -> Result<Option<Vec<i64>>, AllocError>
     ensures { IfOk result (λ o. option_map (λ v. v.items) o ≡ numbers_at kind (view value.now)) }
 {
     match kind {
-        Kind::Integer | Kind::Column => match value.as_integer() {
+        Holds::Integer | Holds::Column => match value.as_integer() {
             Some(number) => Ok(Some(one(alloc, number)?)),
             None => Ok(None),
         },
-        Kind::Integers(count) => match items_of(value) {
+        Holds::Integers(count) => match items_of(value) {
             Some(items) => so_many(alloc, items, count),
             None => Ok(None),
         },
-        Kind::Tables => match items_of(value) {
+        Holds::Tables => match items_of(value) {
             Some(items) => count_of(alloc, items),
             None => Ok(None),
         },
@@ -171,9 +171,9 @@ fn numbers_of(alloc: Global, kind: Kind, value: &Value) -> Result<Option<Vec<i64
 }
 
 // The numbers of a column, in range or not.
-fn read_column(alloc: Global, rows: &[Value], field: &Field) -> Result<Vec<i64>, BookError>
-    ensures ok { IfOk result (λ v. read_places Kind.Column field.now.number (map (get field.now.key.now) (map view rows.now)) ≡ Ok v.items) }
-    ensures err { IfErr result (λ e. e ≢ BookError.NoMemory → read_places Kind.Column field.now.number (map (get field.now.key.now) (map view rows.now)) ≡ Err e) }
+fn read_column(alloc: Global, rows: &[Value], field: &BookField) -> Result<Vec<i64>, BookError>
+    ensures ok { IfOk result (λ v. read_places Holds.Column field.now.number (map (get field.now.key.now) (map view rows.now)) ≡ Ok v.items) }
+    ensures err { IfErr result (λ e. e ≢ BookError.NoMemory → read_places Holds.Column field.now.number (map (get field.now.key.now) (map view rows.now)) ≡ Err e) }
 {
     if !in_each(rows, field.key) {
         return Err(BookError::Missing(field.number));
@@ -185,7 +185,11 @@ fn read_column(alloc: Global, rows: &[Value], field: &Field) -> Result<Vec<i64>,
 }
 
 // The numbers of what stands at one place, in range or not.
-fn read_value(alloc: Global, value: Option<&Value>, field: &Field) -> Result<Vec<i64>, BookError>
+fn read_value(
+    alloc: Global,
+    value: Option<&Value>,
+    field: &BookField,
+) -> Result<Vec<i64>, BookError>
     ensures ok { IfOk result (λ v. read_places field.now.kind field.now.number (option_map (λ v. view v.now) value.entry ∷ []) ≡ Ok v.items) }
     ensures err { IfErr result (λ e. e ≢ BookError.NoMemory → read_places field.now.kind field.now.number (option_map (λ v. view v.now) value.entry ∷ []) ≡ Err e) }
 {
@@ -199,23 +203,23 @@ fn read_value(alloc: Global, value: Option<&Value>, field: &Field) -> Result<Vec
 }
 
 // The numbers of a field, in range or not.
-fn unranged_numbers(alloc: Global, table: &Table, field: &Field) -> Result<Vec<i64>, BookError>
+fn unranged_numbers(alloc: Global, table: &Table, field: &BookField) -> Result<Vec<i64>, BookError>
     ensures ok { IfOk result (λ v. unranged (field_line field.now) (table_view table.now) ≡ Ok v.items) }
     ensures err { IfErr result (λ e. e ≢ BookError.NoMemory → unranged (field_line field.now) (table_view table.now) ≡ Err e) }
 {
     match field.kind {
-        Kind::Column => read_column(alloc, rows(table, field.section), field),
+        Holds::Column => read_column(alloc, rows(table, field.section), field),
         _ => read_value(alloc, value_at(table, field.section, field.key), field),
     }
 }
 
 // The greatest number of a field.
-fn greatest_of(table: &Table, field: &Field) -> i64
+fn greatest_of(table: &Table, field: &BookField) -> i64
     ensures { result ≡ limit (greatest field.now.high) field.now.section.now (table_view table.now) }
 {
     match field.high {
-        Limit::Number(number) => number,
-        Limit::Key(key) => match value_at(table, field.section, key) {
+        Highest::Number(number) => number,
+        Highest::Key(key) => match value_at(table, field.section, key) {
             Some(value) => value.as_integer().unwrap_or(0),
             None => 0,
         },
@@ -232,7 +236,7 @@ fn all_between(numbers: &[i64], low: i64, high: i64) -> bool
 }
 
 // The numbers of a field.
-fn numbers_of_field(alloc: Global, table: &Table, field: &Field) -> Result<Vec<i64>, BookError>
+fn numbers_of_field(alloc: Global, table: &Table, field: &BookField) -> Result<Vec<i64>, BookError>
     ensures ok { IfOk result (λ v. field_numbers (field_line field.now) (table_view table.now) ≡ Ok v.items) }
     ensures err { IfErr result (λ e. e ≢ BookError.NoMemory → field_numbers (field_line field.now) (table_view table.now) ≡ Err e) }
 {

@@ -4,7 +4,7 @@ ghost use Rattle.year_books.specs.Fields.{field_line, table_fields};
 
 /// What stands at a field.
 #[derive(Clone, Copy, Debug)]
-pub enum Kind {
+pub enum Holds {
     /// An integer.
     Integer,
     /// A list of so many integers.
@@ -17,7 +17,7 @@ pub enum Kind {
 
 /// The greatest number of a field.
 #[derive(Clone, Copy, Debug)]
-pub enum Limit {
+pub enum Highest {
     /// This one.
     Number(i64),
     /// The number at this key of the same section.
@@ -26,7 +26,7 @@ pub enum Limit {
 
 /// A field: its number, where it stands, what stands there, and the range of its numbers.
 #[derive(Clone, Copy, Debug)]
-pub struct Field {
+pub struct BookField {
     /// 1 to 55.
     pub number: u16,
     /// The section, or the array of tables, that it stands in; empty at the top.
@@ -34,16 +34,16 @@ pub struct Field {
     /// The key in it.
     pub key: &'static str,
     /// What stands there.
-    pub kind: Kind,
+    pub kind: Holds,
     /// The least of its numbers.
     pub low: i64,
     /// The greatest of its numbers.
-    pub high: Limit,
+    pub high: Highest,
 }
 
 macro_rules! field {
     ($number:literal, $section:literal, $key:literal: $kind:expr, $low:literal to $high:expr) => {
-        Field {
+        BookField {
             number: $number,
             section: $section,
             key: $key,
@@ -54,10 +54,10 @@ macro_rules! field {
     };
 }
 
-use Kind::{Column, Integer, Integers, Tables};
-use Limit::{Key, Number};
+use Highest::{Key, Number};
+use Holds::{Column, Integer, Integers, Tables};
 
-static FIELDS: [Field; 55] = [
+static FIELDS: [BookField; 55] = [
     field!(1, "", "form": Integer, 1 to Number(1)),
     field!(2, "", "year": Integer, 2_000 to Number(2_099)),
     field!(3, "pell", "maximum": Integer, 1 to Number(99_999)),
@@ -116,7 +116,7 @@ static FIELDS: [Field; 55] = [
 ];
 
 /// The fields 1 to 55, in order.
-pub fn fields() -> &'static [Field]
+pub fn fields() -> &'static [BookField]
     ensures { map field_line result.now ≡ table_fields }
 {
     &FIELDS

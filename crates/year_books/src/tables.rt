@@ -6,8 +6,8 @@ ghost use Rattle.aid_types.specs.Ranges.{IsRate};
 ghost use Rattle.year_books.specs.Tables.{age_rows, begins_ages, begins_business, begins_schedule, bracket_rows, break_from, break_in, continues, is_older, rising_error};
 
 use crate::error::BookError;
-use aid_num::share;
 use aid_books::{AgeRow, Bracket};
+use aid_num::share;
 use std::alloc::{AllocError, Global};
 
 /// The rows of three columns of a table that goes by an amount.

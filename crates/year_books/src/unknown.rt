@@ -5,13 +5,13 @@ ghost use Rattle.toml.specs.View.{table_view, view};
 ghost use Rattle.year_books.specs.Unknown.{dotted, is_key, is_section, keep_lesser, lesser, names_of, unknown_at, unknown_in, unknown_inside, unknown_key, unknown_keys, unknown_names};
 
 use crate::reading::items_of;
-use crate::table::{Field, fields};
+use crate::table::{BookField, fields};
 use std::alloc::{AllocError, Global};
 use std::cmp::Ordering;
 use toml::{Table, Value};
 
 // Whether one of some fields stands in a section of this name.
-fn is_section_of(fields: &[Field], name: &str) -> bool
+fn is_section_of(fields: &[BookField], name: &str) -> bool
     ensures { result ≡ list_any (λ f. bytes_eq f.section.now name.now) fields.now }
 {
     fields.iter().any(|field| field.section == name)
@@ -28,7 +28,7 @@ fn has_section(name: &str) -> bool
 }
 
 // Whether one of some fields stands at this key of the section, or of the top.
-fn is_key_of(fields: &[Field], section: &str, key: &str) -> bool
+fn is_key_of(fields: &[BookField], section: &str, key: &str) -> bool
     ensures { result ≡ list_any (λ f. bytes_eq f.section.now section.now && bytes_eq f.key.now key.now) fields.now }
 {
     fields

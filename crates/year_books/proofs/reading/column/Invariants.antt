@@ -1,7 +1,7 @@
 use Rattle.std.proofs.Common.{◌≡◌, ◌++◌, drop, map, option_map}
 use Rattle.toml.specs.Data.{get}
 use Rattle.toml.specs.View.{view}
-use Rattle.year_books.specs.declared.table.Kind.TheVariants.{Column}
+use Rattle.year_books.specs.declared.table.Holds.TheVariants.{Column}
 use Rattle.year_books.specs.Reading.{all_numbers}
 use Rattle.year_books.proofs.reading.column.Given as goal
 
