@@ -6,4 +6,5 @@ pub mod FieldLemmas
 pub mod TableLemmas
 pub mod BuildLemmas
 pub mod ByRows
+pub mod CauseLemmas
 pub mod FlatLemmas

@@ -6,3 +6,4 @@ pub mod Unknown
 pub mod Numbers
 pub mod Flat
 pub mod Text
+pub mod Causes

@@ -9,9 +9,11 @@ mod table;
 mod tables;
 mod unknown;
 
-ghost use Rattle.std.specs.Prelude.{◌≡◌, ◌≢◌, Ok, Err, IfOk, IfErr};
+ghost use Rattle.std.specs.Prelude.{◌≡◌, ◌≢◌, ℕ, List, Ok, Err, IfOk, IfErr};
+ghost use Rattle.aid_books.specs.declared.book.Book.{Book as BookRecord};
 ghost use Rattle.toml.specs.View.{table_view};
 ghost use Rattle.book_numbers.specs.Book.{numbers_of};
+ghost use Rattle.year_books.specs.Causes.{IsLeastUnknownIn, IsMissingIn};
 ghost use Rattle.year_books.specs.Text.{numbers_of_table, numbers_of_text};
 
 use crate::flat::flat;
@@ -47,7 +49,10 @@ fn book_of_table(alloc: Global, table: &Table) -> Result<Book, BookError>
 /// in order, then the rows of the tables, then the keys that a book doesn't have, the least by its bytes.
 pub fn book_of(alloc: Global, text: &[u8]) -> Result<Book, BookError>
     ensures book { IfOk result (λ b. numbers_of_text text.now ≡ Ok (numbers_of b)) }
+    ensures only { IfOk result (λ b. (other : BookRecord) → numbers_of_text text.now ≡ Ok (numbers_of other) → other ≡ b) }
     ensures first_error { IfErr result (λ e. e ≢ BookError.NoMemory → numbers_of_text text.now ≡ Err e) }
+    ensures missing { (field : ℕ) → result ≡ Err (BookError.Missing field) → IsMissingIn text.now field }
+    ensures unknown { (name : List ℕ) → result ≡ Err (BookError.Unknown name) → IsLeastUnknownIn text.now name }
 {
     let table = table_in(alloc, text)?;
     book_of_table(alloc, &table)
