@@ -1,10 +1,8 @@
 -- The tables of a book's numbers.
-use Rattle.std.proofs.Common.{◌≡◌, ℕ, ◌+◌, ◌≤◌, ℤ, pos, true, None, option_map, append-nil, List, [], ◌∷◌, ◌++◌, length, take, drop, Some, lit<, refl, ap, sym, ◌∙◌, arith}
+use Rattle.std.proofs.Common.{◌≡◌, ℕ, ◌≤◌, ℤ, pos, true, None, option_map, List, [], ◌∷◌, length, Some, refl, ap, ◌∙◌, arith}
 use Rattle.std.specs.Prelude.{slice_get}
 use Rattle.std.specs.List.{All}
 use Rattle.std.proofs.lemmas.Int.{ints}
-use Rattle.std.proofs.Math.ListN.{drop_of_length-le}
-use Rattle.std.proofs.lemmas.List.{drop-drop, take-append-drop}
 use Rattle.aid_num.specs.Nearest.{share}
 use Rattle.aid_books.specs.Ages.{IsAgeRow, is_by_age}
 use Rattle.aid_books.specs.Marginal.{IsBracket, is_marginal}
@@ -12,8 +10,8 @@ use Rattle.aid_types.specs.Ranges.{IsWithin}
 use Rattle.year_books.specs.Fields.{amount, between, rate, up_to}
 use Rattle.year_books.specs.Numbers.{AreLists, IsInRange}
 use Rattle.year_books.specs.Tables.{ages_at, begins_ages, begins_business, begins_schedule, book_break, brackets_at, break_in, continues, is_older, number_in, numbers_at}
-use Rattle.year_books.proofs.FieldLemmas.{in_range_of, is_in_range, next, one_number}
-use Rattle.year_books.proofs.TableLemmas.{ages_in_range, brackets_in_range, first_base, first_over, first_share, first_start, is_by_age_rows, is_marginal_rows, no_breaks, length-age_rows, length-bracket_rows, marrieds-age_rows, overs-bracket_rows, bases-bracket_rows, rates-bracket_rows, singles-age_rows, starts-age_rows}
+use Rattle.year_books.proofs.FieldLemmas.{in_range_of, is_in_range, one_number}
+use Rattle.year_books.proofs.TableLemmas.{ages_in_range, brackets_in_range, first_base, first_over, first_share, first_start, is_by_age_rows, is_marginal_rows, no_breaks, length-age_rows, length-bracket_rows}
 
 -- how many rows a table has
 pub record HasSize (top n : ℕ) : Type 0 where

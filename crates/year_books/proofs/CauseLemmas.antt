@@ -1,7 +1,6 @@
 -- What the errors say of a text.
-use Rattle.std.proofs.Common.{◌≡◌, ℕ, zero, suc, ◌<◌, ℤ, Bool, true, false, ◌&&◌, ◌⊎◌, inl, inr, List, [], ◌∷◌, length, Option, Some, None, option_map, Result, Ok, Err, refl, sym, ap, ◌∙◌, subst, arith}
+use Rattle.std.proofs.Common.{◌≡◌, ℕ, zero, suc, ◌<◌, ℤ, Bool, true, false, ◌⊎◌, inl, inr, List, [], ◌∷◌, Option, Some, None, option_map, Result, Ok, Err, refl, sym, ap, ◌∙◌, subst, arith}
 use Rattle.std.specs.Prelude.{◌≢◌, IfErr, IfOk, is_some, slice_get, if◌then◌else◌}
-use Rattle.std.specs.Cmp.{IsTotalOrder}
 use Rattle.std.specs.Cmp.Lexicographic.{slice_cmp}
 use Rattle.std.specs.List.{All, Contains, fold, list_all}
 use Rattle.std.specs.Ordering.{match_ordering, nat_cmp, ordering_reverse}
@@ -16,12 +15,12 @@ use Rattle.book_numbers.specs.Book.{numbers_of}
 use Rattle.year_books.specs.Causes.{IsLeastUnknown, IsLeastUnknownIn, IsMissing, IsMissingIn}
 use Rattle.year_books.specs.Fields.{Line, table_fields}
 use Rattle.year_books.specs.Flat.{flat}
-use Rattle.year_books.specs.Reading.{after, all_numbers, field_numbers, in_range, is_between, limit, numbers_from, numbers_in, or_wrong_kind, places_of, read_places, table_of, unranged}
+use Rattle.year_books.specs.Reading.{after, all_numbers, field_numbers, in_range, is_between, limit, numbers_from, numbers_in, or_wrong_kind, places_of, table_of, unranged}
 use Rattle.year_books.specs.Tables.{book_break, first_break}
 use Rattle.year_books.specs.Text.{numbers_if, numbers_of_table, numbers_of_text, unless}
-use Rattle.year_books.specs.Unknown.{keep_lesser, lesser, least_of, unknown_key, unknown_names}
+use Rattle.year_books.specs.Unknown.{keep_lesser, lesser, unknown_key, unknown_names}
 use Rattle.year_books.specs.declared.error.BookError.{BookError}
-use Rattle.year_books.specs.declared.error.BookError.TheVariants.{NotToml, Missing, WrongKind, OutOfRange, NoMemory, NotRising, Unknown}
+use Rattle.year_books.specs.declared.error.BookError.TheVariants.{Missing, OutOfRange, NoMemory, NotRising, Unknown}
 
 cmp : List ℕ → List ℕ → Ordering
 cmp a b = slice_cmp nat_cmp a b

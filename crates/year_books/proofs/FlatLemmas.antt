@@ -1,13 +1,11 @@
 -- The lists of a book's fields as one list are numbers of a book.
-use Rattle.std.proofs.Common.{◌≡◌, ℕ, zero, suc, ◌+◌, ◌-◌, ◌<◌, ◌≤◌, ℤ, pos, true, Bool, ◌&&◌, List, [], ◌∷◌, ◌++◌, length, replicate, drop, Some, None, option_map, drop-cons, lit<, refl, sym, ap, ◌∙◌, subst, codes, neg_ℤ, arith}
-use Rattle.std.specs.Prelude.{flat_map, min, slice_get, slice_index_or}
+use Rattle.std.proofs.Common.{◌≡◌, ℕ, zero, suc, ℤ, pos, true, List, [], ◌∷◌, ◌++◌, length, replicate, Some, None, option_map, refl, sym, ap, ◌∙◌, subst, neg_ℤ, arith}
+use Rattle.std.specs.Prelude.{flat_map, slice_get, slice_index_or}
 use Rattle.std.specs.List.{list_all}
 use Rattle.std.proofs.lemmas.Bool.{and_from, and_parts}
 use Rattle.std.proofs.lemmas.List.{length-replicate}
-use Rattle.aid_types.specs.Ranges.{EachIsAmount, IsRate, IsWithin}
+use Rattle.aid_types.specs.Ranges.{IsRate}
 use Rattle.aid_num.specs.Nearest.{share}
-use Rattle.aid_books.specs.declared.ages.AgeRow.{AgeRow}
-use Rattle.aid_books.specs.declared.marginal.Bracket.{Bracket}
 use Rattle.book_numbers.proofs.Amounts.{is_amount_slot}
 use Rattle.book_numbers.proofs.Behind.{onto}
 use Rattle.book_numbers.proofs.Plain.{is_within}
@@ -18,9 +16,9 @@ use Rattle.filing_kinds.specs.Layout.{AreNumbers}
 use Rattle.filing_kinds.specs.Limits.{is_between}
 use Rattle.filing_kinds.specs.Parts.{Slot}
 use Rattle.filing_kinds.specs.declared.field.Form.TheVariants.{I64}
-use Rattle.year_books.specs.Fields.{amount, between, floor, rate, up_to}
+use Rattle.year_books.specs.Fields.{amount, between, up_to}
 use Rattle.year_books.specs.Flat.{by_rows, flat}
-use Rattle.year_books.specs.Numbers.{AreLists, IsInRange, kind_at, range_at}
+use Rattle.year_books.specs.Numbers.{AreLists, kind_at, range_at}
 use Rattle.year_books.specs.Tables.{age_rows, ages_at, book_break, bracket_rows, brackets_at, number_in, numbers_at}
 use Rattle.year_books.specs.declared.table.Holds.TheVariants.{Integer, Integers}
 use Rattle.year_books.proofs.BuildLemmas.{length-age, length-bracket, length-business, range-age, range-bracket, range-business, size-age, size-bracket, size-business, tables}

@@ -4,6 +4,7 @@ pub mod Reading
 pub mod Tables
 pub mod Unknown
 pub mod Numbers
+pub mod Filed
 pub mod Flat
 pub mod Text
 pub mod Causes

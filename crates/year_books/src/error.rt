@@ -23,7 +23,7 @@ pub enum BookError {
     #[error("field {0}, {key}, is of the wrong kind: write {kind}", key = Key(*.0), kind = Wanted(*.0))]
     WrongKind(u16),
     /// 4: a number of a field is out of its range, or an array has no table or too many.
-    #[error("field {0}, {key}, is out of range: it goes {range}", key = Key(*.0), range = Range(*.0))]
+    #[error("field {0}, {key}, is out of range: {range}", key = Key(*.0), range = Range(*.0))]
     OutOfRange(u16),
     /// 5: a row, counted from 1, of a table, 1 `business`, 2 `age` or 3 `bracket`, does not begin the table as it must, or does
     /// not go on from the row before it.
@@ -112,7 +112,7 @@ impl fmt::Display for Wanted {
     }
 }
 
-// The range of a field.
+// The range of a field, which for a table is of its rows.
 #[derive(Drop)]
 struct Range(u16);
 
@@ -120,8 +120,13 @@ impl fmt::Display for Range {
     fn fmt<W: fmt::Write>(&self, f: &mut fmt::Formatter<W>) -> fmt::Result {
         match field_of(self.0) {
             Some(field) => match field.high {
-                Highest::Number(high) => write!(f, "from {} to {high}", field.low),
-                Highest::Key(key) => write!(f, "from {} to {}.{key}", field.low, field.section),
+                Highest::Number(high) => match field.kind {
+                    Holds::Tables => write!(f, "it has {} to {high} rows", field.low),
+                    _ => write!(f, "it goes from {} to {high}", field.low),
+                },
+                Highest::Key(key) => {
+                    write!(f, "it goes from {} to {}.{key}", field.low, field.section)
+                }
             },
             None => Ok(()),
         }
@@ -142,14 +147,14 @@ impl fmt::Display for Table {
     }
 }
 
-// A name as text.
+// A name as text, with its control characters and quotes escaped.
 #[derive(Drop)]
 struct Shown<'a>(&'a Name);
 
 impl<'a> fmt::Display for Shown<'a> {
     fn fmt<W: fmt::Write>(&self, f: &mut fmt::Formatter<W>) -> fmt::Result {
         match std::str::from_utf8(self.0.as_bytes()) {
-            Ok(name) => write!(f, "{name}"),
+            Ok(name) => write!(f, "{}", name.escape_debug()),
             Err(_) => Ok(()),
         }
     }

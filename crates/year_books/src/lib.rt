@@ -25,7 +25,7 @@ use aid_types::Name;
 use book_numbers::book_of_numbers;
 pub use error::BookError;
 use std::alloc::Global;
-pub use table::{BookField, Highest, Holds, fields};
+pub use table::{BookField, Highest, Holds, fields, fields_are_filed};
 use toml::Table;
 
 // The book of a text's table.

@@ -1,6 +1,7 @@
 //! The fields of a year book, once for all that goes over them.
 ghost use Rattle.std.specs.Prelude.{◌≡◌, map};
 ghost use Rattle.year_books.specs.Fields.{field_line, table_fields};
+ghost use Rattle.year_books.specs.Filed.{AreFiled};
 
 /// What stands at a field.
 #[derive(Clone, Copy, Debug)]
@@ -121,3 +122,8 @@ pub fn fields() -> &'static [BookField]
 {
     &FIELDS
 }
+
+/// Says that the fields have the names and the ranges of the table of kinds, in its order. It computes nothing.
+pub fn fields_are_filed()
+    ensures { AreFiled table_fields }
+{}

@@ -368,9 +368,41 @@ fn texts(rt: HostRuntime) -> Result<(), Fail> {
         kind.as_str()
             == "field 12, poverty.contiguous, is of the wrong kind: write a list of 8 whole numbers"
     );
+    let rows = text_of(alloc, BookError::OutOfRange(39))?;
+    assert!(rt; rows.as_str() == "field 39, business, is out of range: it has 1 to 16 rows");
+    let column = text_of(alloc, BookError::OutOfRange(40))?;
+    assert!(rt;
+        column.as_str() == "field 40, business.over, is out of range: it goes from 0 to 99999999"
+    );
     let range = text_of(alloc, BookError::OutOfRange(4))?;
     assert!(rt;
         range.as_str() == "field 4, pell.minimum, is out of range: it goes from 1 to pell.maximum"
+    );
+    Ok(())
+}
+
+// What is printed where the specimen has one more key at its top.
+fn unknown_text(alloc: Global, key: &str) -> Result<String, AllocError> {
+    let specimen = specimen_text();
+    let text = format!(in alloc; "{key} = 1\n{specimen}")?;
+    match book_of(alloc, text.as_str().as_bytes()) {
+        Ok(_) => format!(in alloc; "book"),
+        Err(error) => text_of(alloc, error),
+    }
+}
+
+#[test]
+fn unknown_texts(rt: HostRuntime) -> Result<(), Fail> {
+    let alloc = rt.alloc();
+    let plain = unknown_text(alloc, "bonus")?;
+    assert!(rt;
+        plain.as_str() == "bonus is no key of a book: take it out",
+        "{plain}"
+    );
+    let escaped = unknown_text(alloc, "\"a\\tb\\\"\"")?;
+    assert!(rt;
+        escaped.as_str() == "a\\tb\\\" is no key of a book: take it out",
+        "{escaped}"
     );
     Ok(())
 }
