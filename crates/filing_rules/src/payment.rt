@@ -8,7 +8,7 @@ ghost use Rattle.filing_rules.specs.Rules.{first_broken, lines_of, rule_52};
 
 use crate::facts::Facts;
 use crate::limits::{PellRules, broken_by_cost, broken_by_fseog, broken_by_pell};
-use crate::refusal::{broken_by_school, refused};
+use crate::refusal::{broken_by_standing, refused};
 use aid_filings::Amount;
 use aid_types::{Program, Refusal, School};
 
@@ -25,7 +25,7 @@ pub(crate) fn broken_payment(f: &Facts, school: School, payment: &Amount) -> Opt
     requires { IsInRange f.now }
     ensures { result ≡ first_broken (lines_of f.now school (Pay payment.now)) }
 {
-    if let Some(refusal) = broken_by_standing(f, school, payment) {
+    if let Some(refusal) = broken_by_student(f, school, payment) {
         return Some(refusal);
     }
     match payment.program {
@@ -36,22 +36,19 @@ pub(crate) fn broken_payment(f: &Facts, school: School, payment: &Amount) -> Opt
 }
 
 /// The first broken rule of a payment on where the student stands, and on its amount alone.
-fn broken_by_standing(f: &Facts, school: School, payment: &Amount) -> Option<Refusal>
+fn broken_by_student(f: &Facts, school: School, payment: &Amount) -> Option<Refusal>
     ensures value { result ≡ first_broken (payment_standing f.now school payment.now) }
     ensures on_file { IsNone result → f.now.school_at ≡ 0 → ⊥ }
     ensures enrolled { IsNone result → 1 ≤ f.now.credits }
 {
-    if let Some(refusal) = broken_by_school(f, school) {
+    if let Some(refusal) = broken_by_standing(
+        f,
+        school,
+        payment.student,
+        payment.year,
+        payment.term,
+    ) {
         return Some(refusal);
-    }
-    if f.term_at == 0 {
-        return refused(30, u64::from(payment.term), 0);
-    }
-    if f.transaction == 0 {
-        return refused(31, payment.student.0, u64::from(payment.year.0));
-    }
-    if f.cost_at == 0 {
-        return refused(50, payment.student.0, u64::from(school.0));
     }
     if f.credits == 0 {
         return refused(51, payment.student.0, u64::from(payment.term));

@@ -6,7 +6,10 @@ ghost use Rattle.aid_filings.specs.declared.filing.What.TheVariants.{Enrol, Orig
 
 use crate::facts::Facts;
 use crate::limits::payment_at;
-use crate::refusal::{broken_by_school, refused};
+use crate::refusal::{
+    broken_by_application, broken_by_cents, broken_by_school, broken_by_term, broken_by_withdrawn,
+    refused,
+};
 use aid_filings::{Amount, EnrolFacts, OriginateFacts};
 use aid_types::{Refusal, School};
 
@@ -21,14 +24,14 @@ pub(crate) fn broken_enrolment(f: &Facts, school: School, enrolment: &EnrolFacts
     if let Some(refusal) = broken_by_school(f, school) {
         return Some(refusal);
     }
-    if f.term_at == 0 {
-        return refused(30, u64::from(enrolment.term), 0);
+    if let Some(refusal) = broken_by_term(f, enrolment.term) {
+        return Some(refusal);
     }
     if enrolment.credits == 0 || enrolment.credits > MOST_CREDITS {
         return refused(32, u64::from(enrolment.credits), u64::from(MOST_CREDITS));
     }
-    if f.withdrawn_at > 0 {
-        return refused(34, u64::from(f.withdrawn_at), u64::from(enrolment.term));
+    if let Some(refusal) = broken_by_withdrawn(f, enrolment.term) {
+        return Some(refusal);
     }
     let payment = payment_at(f.scheduled, enrolment.credits, f.full, f.terms);
     if f.pell_term > payment {
@@ -48,8 +51,8 @@ pub(crate) fn broken_origination(
     if let Some(refusal) = broken_by_school(f, school) {
         return Some(refusal);
     }
-    if f.transaction == 0 {
-        return refused(31, origination.student.0, u64::from(origination.year.0));
+    if let Some(refusal) = broken_by_application(f, origination.student, origination.year) {
+        return Some(refusal);
     }
     if f.cost_at > 0 {
         return refused(41, u64::from(f.cost_at), u64::from(origination.year.0));
@@ -68,8 +71,8 @@ pub(crate) fn broken_repayment(f: &Facts, school: School, repayment: &Amount) ->
     if let Some(refusal) = broken_by_school(f, school) {
         return Some(refusal);
     }
-    if repayment.cents == 0 {
-        return refused(71, 0, 1);
+    if let Some(refusal) = broken_by_cents(repayment.cents) {
+        return Some(refusal);
     }
     if f.repaid + repayment.cents > f.owed {
         return refused(70, f.repaid + repayment.cents, f.owed);
@@ -84,14 +87,14 @@ pub(crate) fn broken_adjustment(f: &Facts, school: School, adjustment: &Amount) 
     if let Some(refusal) = broken_by_school(f, school) {
         return Some(refusal);
     }
-    if f.term_at == 0 {
-        return refused(30, u64::from(adjustment.term), 0);
+    if let Some(refusal) = broken_by_term(f, adjustment.term) {
+        return Some(refusal);
     }
-    if adjustment.cents == 0 {
-        return refused(71, 0, 1);
+    if let Some(refusal) = broken_by_cents(adjustment.cents) {
+        return Some(refusal);
     }
-    if f.withdrawn_at > 0 {
-        return refused(34, u64::from(f.withdrawn_at), u64::from(adjustment.term));
+    if let Some(refusal) = broken_by_withdrawn(f, adjustment.term) {
+        return Some(refusal);
     }
     if adjustment.cents > f.net {
         return refused(72, adjustment.cents, f.net);

@@ -8,7 +8,7 @@ ghost use Rattle.filing_rules.specs.Rules.{first_broken, lines_of, rule_63};
 
 use crate::facts::Facts;
 use crate::limits::{PellRules, broken_by_cost, broken_by_fseog, broken_by_pell};
-use crate::refusal::{broken_by_school, refused};
+use crate::refusal::{broken_by_standing, refused};
 use aid_filings::WithdrawFacts;
 use aid_types::{ByProgram, Program, Refusal, School};
 
@@ -29,7 +29,7 @@ pub(crate) fn broken_withdrawal(
     requires { IsInRange f.now }
     ensures { result ≡ first_broken (lines_of f.now school (Withdraw withdrawal.now)) }
 {
-    if let Some(refusal) = broken_by_standing(f, school, withdrawal) {
+    if let Some(refusal) = broken_by_student(f, school, withdrawal) {
         return Some(refusal);
     }
     if let Some(refusal) = broken_by_days(f, withdrawal) {
@@ -39,22 +39,19 @@ pub(crate) fn broken_withdrawal(
 }
 
 /// The first broken rule of a withdrawal on where the student stands.
-fn broken_by_standing(f: &Facts, school: School, withdrawal: &WithdrawFacts) -> Option<Refusal>
+fn broken_by_student(f: &Facts, school: School, withdrawal: &WithdrawFacts) -> Option<Refusal>
     ensures value { result ≡ first_broken (withdrawal_standing f.now school withdrawal.now) }
     ensures on_file { IsNone result → f.now.school_at ≡ 0 → ⊥ }
     ensures enrolled { IsNone result → 1 ≤ f.now.credits }
 {
-    if let Some(refusal) = broken_by_school(f, school) {
+    if let Some(refusal) = broken_by_standing(
+        f,
+        school,
+        withdrawal.student,
+        withdrawal.year,
+        withdrawal.term,
+    ) {
         return Some(refusal);
-    }
-    if f.term_at == 0 {
-        return refused(30, u64::from(withdrawal.term), 0);
-    }
-    if f.transaction == 0 {
-        return refused(31, withdrawal.student.0, u64::from(withdrawal.year.0));
-    }
-    if f.cost_at == 0 {
-        return refused(50, withdrawal.student.0, u64::from(school.0));
     }
     if f.credits == 0 {
         return refused(60, withdrawal.student.0, u64::from(withdrawal.term));
