@@ -2,16 +2,9 @@
 use Rattle.std.proofs.Common.{◌≡◌, ℕ, suc, ◌+◌, ◌<◌, ◌∷◌, ◌++◌, sym, ap, subst, ◌∙◌, arith, List, length, reverse, take, drop, get_or}
 use Rattle.std.proofs.lemmas.List.{length-reverse, length-take-le}
 use Rattle.aid_filings.specs.declared.filing.Filing.{Filing}
-use Rattle.office_history.specs.Answer.{IsLegal, outcome_at, outcome_of}
+use Rattle.office_history.specs.Answer.{outcome_at, outcome_of}
 use Rattle.office_history.proofs.Oldest.{reverse-at}
 use Rattle.office_history.proofs.Recorded.{outcome_at-stays}
-use Rattle.office_history.proofs.Slices.{legal_at, legal_take}
-
--- it stands legally after them
-pub legal_with : (h : List Filing) (i : ℕ) (f : Filing) → i < length h → f ≡ get_or h i f → IsLegal (reverse h) → IsLegal (f ∷ reverse (take i h))
-legal_with h i f lt is legal =
-    let k = legal_at h i f lt legal in
-    subst (λ (g : Filing). IsLegal (g ∷ reverse (take i h))) (sym is) (legal_take h i legal, k.0, k.1)
 
 -- what the list tells of its admission is what was told then
 pub outcome_at-index : (h : List Filing) (i : ℕ) (f : Filing) → i < length h → f ≡ get_or h i f → outcome_at (reverse h) (i + 1) ≡ outcome_of (reverse (take i h)) f

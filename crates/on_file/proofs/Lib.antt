@@ -8,7 +8,6 @@ pub mod Moves
 pub mod Newer
 pub mod NoPell
 pub mod Oldest
-pub mod Prefixes
 pub mod Ranges
 pub mod Reduced
 pub mod Sixes

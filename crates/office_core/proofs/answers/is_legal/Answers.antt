@@ -1,5 +1,4 @@
 use Rattle.std.proofs.Common.{◌≡◌, ◌∷◌, true, reverse, take, sym, ap, subst, ◌∙◌}
-use Rattle.aid_filings.specs.declared.filing.Filing.{Filing}
 use Rattle.office_history.specs.Answer.{IsLegal, answer_of}
 use Rattle.office_history.proofs.Admitted.{admitted_legal}
 use Rattle.office_history.proofs.Slices.{one_more}
@@ -19,4 +18,4 @@ loop-index-preserved c =
     let past = reverse (take c.loop-index.index h) in
     let admitted : is_admit (answer_of past f) ≡ true = sym (ap is_admit c.answer.ensures) ∙ sym c.is_admitted.ensures ∙ c.if-not-is_admitted.false in
     let whole : IsLegal (f ∷ past) = admitted_legal past f c.loop-index.invariant admitted in
-    subst IsLegal (sym (one_more h c.loop-index.index f c.loop-index-test.true ∙ ap (λ (g : Filing). g ∷ past) (sym c.index-history-index.is))) whole
+    subst IsLegal (sym (one_more h c.loop-index.index f c.loop-index-test.true c.index-history-index.is)) whole

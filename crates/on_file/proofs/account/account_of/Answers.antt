@@ -2,7 +2,7 @@ use Rattle.std.proofs.Common.{◌≡◌, ℕ, ◌∷◌, List, reverse, take, sy
 use Rattle.aid_filings.specs.declared.filing.Filing.{Filing}
 use Rattle.on_file.specs.declared.account.Account.{Account}
 use Rattle.on_file.specs.Accounts.{IsAccount, IsEntry, or_nothing}
-use Rattle.on_file.proofs.Prefixes.{one_more, legal_at}
+use Rattle.office_history.proofs.Slices.{legal_at, one_more}
 use Rattle.on_file.proofs.AccountSteps.{account-joined, account-kept, account-sums, entry-sums}
 use Rattle.on_file.proofs.Strangers.{account_none}
 use Rattle.on_file.proofs.account.account_of.Goals.{in-Some, in_default}

@@ -3,9 +3,8 @@ use Rattle.aid_filings.specs.declared.filing.Filing.{Filing}
 use Rattle.office_history.specs.Net.{paid, taken, net_at, payments_in, takings_in}
 use Rattle.office_history.proofs.Cells.{onto_is}
 use Rattle.office_history.proofs.AnyNets.{any_net_stands}
-use Rattle.office_history.proofs.Slices.{legal_take}
 use Rattle.on_file.specs.CellTests.{student_of, test_of}
-use Rattle.on_file.proofs.Prefixes.{one_more, legal_at}
+use Rattle.office_history.proofs.Slices.{legal_at, legal_take, one_more}
 use Rattle.on_file.proofs.Bounds.{paid-most, taken-most}
 use Rattle.on_file.proofs.Strangers.{cells_of, paid_none, taken_none}
 use Rattle.on_file.proofs.cells.net_of.Goals as goal
