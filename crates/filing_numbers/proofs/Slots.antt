@@ -1,13 +1,17 @@
 -- Numbers of fields that come in parts.
-use Rattle.std.proofs.Common.{◌≡◌, ℕ, zero, suc, ◌≤◌, ℤ, List, [], ◌∷◌, ◌++◌, Bool, true, false, length, take, drop, refl, sym, ap, subst, ◌∙◌, append_assoc, length-append, arith}
-use Rattle.std.specs.Prelude.{IsTrue, map, unsigned_abs}
+use Rattle.std.proofs.Common.{◌≡◌, ℕ, pos, zero, suc, ◌≤◌, ℤ, List, [], ◌∷◌, ◌++◌, Bool, true, false, length, take, drop, refl, sym, ap, subst, ◌∙◌, append_assoc, length-append, arith}
+use Rattle.std.specs.Prelude.{Option, Some, None, slice_index_or, IsTrue, map, unsigned_abs}
 use Rattle.std.specs.List.{list_all}
 use Rattle.std.proofs.lemmas.Bool.{and_parts, true≢false}
 use Rattle.std.proofs.Common.{◌-◌, length-drop}
 use Rattle.std.proofs.Math.Seq.{take-length}
 use Rattle.std.proofs.lemmas.List.{append-nil}
 use Rattle.filing_kinds.specs.Layout.{AreNumbers, after, plain, rows, rows_again}
-use Rattle.filing_kinds.specs.Limits.{fits}
+use Rattle.std.proofs.lemmas.Int.{ints}
+use Rattle.aid_types.specs.Ranges.{IsBetween}
+use Rattle.filing_kinds.specs.declared.field.Limit.TheVariants.{Between}
+use Rattle.filing_kinds.specs.Limits.{fits, is_between}
+use Rattle.filing_numbers.proofs.Ranges.{within}
 use Rattle.filing_kinds.specs.Parts.{Line, Slot}
 use Rattle.filing_kinds.specs.declared.field.Limit.{Limit}
 use Rattle.filing_numbers.specs.Parts.{FitAnywhere, FitSomewhere}
@@ -106,3 +110,26 @@ rows_again-more (suc n) lines = append_assoc (map plain lines) (rows_again n lin
 -- what is behind the first numbers, as a slice of it is handed on
 pub all_of_rest : (n : ℕ) (zs : List ℤ) → take (length zs - n) (drop n zs) ≡ drop n zs
 all_of_rest n zs = rw (← length-drop n zs) (take-length (drop n zs))
+
+-- ---- a number by its place
+abbrev pub limit_at : List Slot → ℕ → Option Limit
+limit_at [] k = None
+limit_at (slot ∷ slots) zero = Some slot.line.limit
+limit_at (slot ∷ slots) (suc k) = limit_at slots k
+
+natural_within : (low high : ℕ) (z : ℤ) → IsTrue (is_between (pos low) (pos high) z) → IsBetween low high (unsigned_abs z)
+natural_within low high z h = let r = within (pos low) (pos high) z h in (grind (arith, ints), grind (arith, ints))
+
+-- its range, where the fields up to it count nothing
+pub natural_at : (k low high : ℕ) (slots : List Slot) (earlier zs : List ℤ) → are_plain (take k slots) ≡ true → limit_at slots k ≡ Some (Between (pos low) (pos high))
+    → AreNumbers slots earlier zs → IsBetween low high (unsigned_abs (slice_index_or zs k (pos 0)))
+natural_at k low high [] earlier zs p e h = absurd cc
+natural_at k low high (slot ∷ slots) earlier [] p e h = absurd h
+natural_at zero low high (slot ∷ slots) earlier (z ∷ zs) p e h =
+    let limit : slot.line.limit ≡ Between (pos low) (pos high) = cc in
+    natural_within low high z (subst (λ (l : Limit). IsTrue (fits l earlier z)) limit h.0)
+natural_at (suc k) low high (slot ∷ slots) earlier (z ∷ zs) p e h =
+    let both = and_parts (has_none slot.first) (are_plain (take k slots)) p in
+    let none : rows (unsigned_abs z) slot.first slot.later ≡ [] = no_rows (unsigned_abs z) slot.first slot.later both.0 in
+    let more : AreNumbers slots (z ∷ earlier) zs = subst (λ (lines : List Slot). AreNumbers (lines ++ slots) (z ∷ earlier) zs) none h.1 in
+    natural_at k low high slots (z ∷ earlier) zs both.1 e more
