@@ -1,4 +1,3 @@
-pub mod FilingsLemmas
 pub mod LinesLemmas
 pub mod NumbersLemmas
 pub mod ReadingLemmas

@@ -11,6 +11,7 @@ use Rattle.aid_replies.specs.declared.reply.Outcome.TheVariants.{Noted, Indexed,
 use Rattle.aid_types.specs.declared.award.Refusal.{Refusal}
 use Rattle.aid_replies.specs.declared.reply.Reply.{Reply}
 use Rattle.aid_replies.specs.declared.reply.Reply.TheVariants.{Accepted, Again, Refused, Quoted, Standing, DiskFault, NoMemory}
+use Rattle.desk_forms.specs.Causes.{number_of}
 use Rattle.desk_forms.specs.declared.error.RowError.{RowError}
 
 -- how a formula and a way to an award are written
@@ -70,4 +71,4 @@ line_of row NoMemory = []
 
 -- ROW error FIELD CAUSE
 abbrev pub error_line : RowError → List ℕ
-error_line error = decimal error.row ++ codes " error " ++ decimal error.field ++ codes " " ++ decimal error.cause ++ codes "\n"
+error_line error = decimal error.row ++ codes " error " ++ decimal error.field ++ codes " " ++ decimal (number_of error.cause) ++ codes "\n"

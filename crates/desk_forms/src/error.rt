@@ -1,11 +1,40 @@
 //! Why a row is no filing.
+ghost use Rattle.std.specs.Prelude.{◌≡◌};
+
+/// What is wrong with a row.
+#[derive(Clone, Copy, PartialEq, Eq, Debug)]
+pub enum Cause {
+    /// The first field names no kind that has rows.
+    UnknownKind,
+    /// There are more or fewer fields than the kind has.
+    WrongCount,
+    /// A field spells no number.
+    Spelling,
+    /// A field's number is past its limit.
+    Range,
+}
+
+impl Cause {
+    ghost use Rattle.desk_forms.specs.Causes.{number_of};
+
+    /// The number that a line gives for it, from 1.
+    pub fn number(self) -> u8
+        ensures { result ≡ number_of self }
+    {
+        match self {
+            Cause::UnknownKind => 1,
+            Cause::WrongCount => 2,
+            Cause::Spelling => 3,
+            Cause::Range => 4,
+        }
+    }
+}
 
 /// Why a row is no filing. `row` and `field` count from 1, the kind being field 1, and `field` is 0 for a wrong number
-/// of fields. `cause` is 1 for an unknown kind, 2 for a wrong number of fields, 3 for a number that is spelled wrongly
-/// and 4 for one that is out of its range.
+/// of fields.
 #[derive(Clone, Copy, PartialEq, Eq, Debug)]
 pub struct RowError {
     pub row: u32,
     pub field: u16,
-    pub cause: u8,
+    pub cause: Cause,
 }

@@ -5,9 +5,7 @@ mod error;
 mod lines;
 mod row;
 mod rows;
-#[cfg(test)]
-mod tests;
 
-pub use error::RowError;
+pub use error::{Cause, RowError};
 pub use lines::{put_error, put_line};
 pub use rows::{Rows, rows_of};

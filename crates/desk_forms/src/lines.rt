@@ -35,7 +35,7 @@ pub fn put_error(error: &RowError, out: &mut Vec<u8>) -> Result<(), AllocError>
     line.push_str(" error ");
     push_count(&mut line, u32::from(error.field));
     line.push_str(" ");
-    push_count(&mut line, u32::from(error.cause));
+    push_count(&mut line, u32::from(error.cause.number()));
     line.push_str("\n");
     out.extend_from_slice(line.as_str().as_bytes())
 }

@@ -1,107 +1,101 @@
 //! The filing of a row.
-ghost use Rattle.std.specs.Prelude.{◌≡◌, ◌+◌, ◌≤◌, Some, length, option_and_then};
+ghost use Rattle.std.specs.Prelude.{◌≡◌, ◌+◌, ◌≤◌, [], true, drop, option_and_then};
 ghost use Rattle.csv.specs.Records.{field_at, fields_of as texts_of};
-ghost use Rattle.aid_num.specs.Whole.{whole_of};
-ghost use Rattle.desk_forms.specs.Numbers.{judged, number_of, numbers_from, refused as refusal};
-ghost use Rattle.desk_forms.specs.Rows.{kind_named, row_meaning, row_of_kind};
+ghost use Rattle.filing_kinds.specs.Kinds.{kind_named as kind_of_name, slots_of_kind};
+ghost use Rattle.desk_forms.specs.Numbers.{number_spelled, numbers_from, numbers_so_far, refused as refusal};
+ghost use Rattle.desk_forms.specs.Rows.{has_rows, row_meaning, row_said};
 
-use crate::error::RowError;
-use aid_num::{Malformed, read_whole};
+use crate::error::{Cause, RowError};
 use aid_filings::Filing;
-use filing_numbers::{Field, Kind, Numbers, from_numbers};
+use aid_num::{Malformed, read_whole};
 use csv::ByteRecord;
+use filing_kinds::{Draft, Kind, kind_named, row as row_of_kind};
+use filing_numbers::filing_of;
+use std::alloc::Global;
 
-// The cause of an unknown kind, of a wrong number of fields, of a wrong spelling and of a number out of its range.
-const UNKNOWN_KIND: u8 = 1;
-
-const WRONG_COUNT: u8 = 2;
-
-const WRONG_SPELLING: u8 = 3;
-
-const OUT_OF_RANGE: u8 = 4;
+/// The kinds that have rows so far.
+const ROW_KINDS: [Kind; 2] = [Kind::School, Kind::Prior];
 
 /// The filing of a row, or why it is none.
-pub fn filing_of_row(row: u32, texts: &ByteRecord) -> Result<Filing, RowError>
+pub fn filing_of_row(alloc: Global, row: u32, texts: &ByteRecord) -> Result<Filing, RowError>
     ensures { result ≡ row_meaning row (texts_of texts.now) }
 {
     match kind_at_start(texts) {
-        Some(kind) => filing_of_kind(row, texts, kind),
-        None => Err(refused(row, 1, UNKNOWN_KIND)),
+        Some(kind) if is_row_kind(kind) => filing_of_kind(alloc, row, texts, kind),
+        _ => Err(refused(row, 1, Cause::UnknownKind)),
     }
 }
 
 // The kind that the first field names.
 fn kind_at_start(texts: &ByteRecord) -> Option<Kind>
-    ensures { result ≡ option_and_then kind_named (field_at (texts_of texts.now) 0) }
+    ensures { result ≡ option_and_then kind_of_name (field_at (texts_of texts.now) 0) }
 {
     match texts.get(0) {
-        Some(text) => kind_of_name(text),
+        Some(text) => kind_named(text),
         None => None,
     }
 }
 
-// The kind of a name.
-fn kind_of_name(text: &[u8]) -> Option<Kind>
-    ensures { result ≡ kind_named text.now }
+fn is_row_kind(kind: Kind) -> bool
+    ensures { result ≡ has_rows kind }
 {
-    if text == b"school".as_slice() {
-        Some(Kind::School)
-    } else if text == b"prior".as_slice() {
-        Some(Kind::Prior)
-    } else {
-        None
-    }
+    ROW_KINDS.contains(&kind)
 }
 
 // The filing of a row of a kind.
-fn filing_of_kind(row: u32, texts: &ByteRecord, kind: Kind) -> Result<Filing, RowError>
-    ensures { result ≡ row_of_kind row (texts_of texts.now) kind }
+fn filing_of_kind(
+    alloc: Global,
+    row: u32,
+    texts: &ByteRecord,
+    kind: Kind,
+) -> Result<Filing, RowError>
+    requires { has_rows kind ≡ true }
+    ensures { result ≡ row_said row (texts_of texts.now) kind }
 {
-    let fields = kind.fields();
-    if texts.len() != fields.len() + 1 {
-        return Err(refused(row, 0, WRONG_COUNT));
+    // The kind's name, the school and the number come before the kind's own fields.
+    if texts.len() != row_of_kind(kind).parts.len() + 3 {
+        return Err(refused(row, 0, Cause::WrongCount));
     }
-    let numbers = numbers_of(row, texts, fields)?;
-    Ok(from_numbers(kind, numbers.as_slice()))
-}
-
-// The numbers of the fields after the kind.
-fn numbers_of(row: u32, texts: &ByteRecord, fields: &[Field]) -> Result<Numbers, RowError>
-    requires { length fields.now ≤ 64 }
-    ensures { result ≡ numbers_from row (texts_of texts.now) 1 fields.now }
-{
-    let mut numbers = Numbers::new();
-    for (i, field) in fields.iter().enumerate() {
-        let number = number_at(row, texts, i + 1, field)?;
-        numbers.push(number);
-    }
-    Ok(numbers)
-}
-
-// The number of the field that comes after so many others.
-fn number_at(row: u32, texts: &ByteRecord, after: usize, field: &Field) -> Result<i64, RowError>
-    requires { after ≤ 64 }
-    ensures { result ≡ number_of row (after + 1) field.now (field_at (texts_of texts.now) after) }
-{
-    match texts.get(after) {
-        Some(text) => number_in(row, after as u16 + 1, text, field),
-        None => Err(refused(row, 0, WRONG_COUNT)),
+    let draft = numbers_of(row, texts, kind)?;
+    match filing_of(alloc, kind, draft.numbers()) {
+        Ok(filing) => Ok(filing),
+        Err(_) => unreachable!(),
     }
 }
 
-// The number that the text of a field at a place spells.
-fn number_in(row: u32, place: u16, text: &[u8], field: &Field) -> Result<i64, RowError>
-    ensures { result ≡ judged row place field.now (whole_of text.now) }
+// The numbers of all fields after the kind's name.
+fn numbers_of(row: u32, texts: &ByteRecord, kind: Kind) -> Result<Draft, RowError>
+    ensures { numbers_so_far result ≡ numbers_from row (slots_of_kind kind) [] (drop 1 (texts_of texts.now)) }
 {
-    match read_whole(text, field.low, field.high) {
+    let mut draft = Draft::new(kind);
+    while let Some(_) = draft.next() {
+        let before = draft.numbers().len();
+        let number = number_at(row, texts, before)?;
+        if !draft.push(number) {
+            return Err(refused(row, before as u16 + 2, Cause::Range));
+        }
+    }
+    Ok(draft)
+}
+
+// The number that the field behind so many others spells.
+fn number_at(row: u32, texts: &ByteRecord, before: usize) -> Result<i64, RowError>
+    requires { before ≤ 369 }
+    ensures { result ≡ number_spelled row (before + 2) (field_at (texts_of texts.now) (before + 1)) }
+{
+    let Some(text) = texts.get(before + 1) else {
+        return Err(refused(row, 0, Cause::WrongCount));
+    };
+    let place = before as u16 + 2;
+    match read_whole(text, i64::MIN, i64::MAX) {
         Ok(number) => Ok(number),
-        Err(Malformed::Spelling) => Err(refused(row, place, WRONG_SPELLING)),
-        Err(Malformed::Range) => Err(refused(row, place, OUT_OF_RANGE)),
+        Err(Malformed::Spelling) => Err(refused(row, place, Cause::Spelling)),
+        Err(Malformed::Range) => Err(refused(row, place, Cause::Range)),
     }
 }
 
 // Why a row is no filing.
-fn refused(row: u32, field: u16, cause: u8) -> RowError
+fn refused(row: u32, field: u16, cause: Cause) -> RowError
     ensures { result ≡ refusal row field cause }
 {
     RowError { row, field, cause }

@@ -1,7 +1,7 @@
 //! The filings of a text of rows.
-ghost use Rattle.std.specs.Prelude.{◌≡◌, ◌≢◌, ◌≤◌, [], ◌∷◌, ◌++◌, true, All, IfOk, IsTrue, length};
+ghost use Rattle.std.specs.Prelude.{◌≡◌, ◌≢◌, ◌≤◌, [], ◌∷◌, ◌++◌, true, IfOk, IsTrue, length};
 ghost use Rattle.csv.specs.Reading.{stops_reader};
-ghost use Rattle.desk_forms.specs.Rows.{HasFields, rows_of_text};
+ghost use Rattle.desk_forms.specs.Rows.{rows_of_text};
 
 use crate::error::RowError;
 use crate::row::filing_of_row;
@@ -45,11 +45,9 @@ enum Fault {
 }
 
 /// The rows of a text of comma-separated values. They are read one at a time, and only what each of them says is kept.
-#[tactic(auto, using(crate::proofs::RowsLemmas::rows_have_fields))]
 pub fn rows_of(alloc: Global, text: &[u8]) -> Result<Rows, AllocError>
     requires { length text.now ≤ 16777216 }
     ensures rows { IfOk result (λ rows. rows ≡ rows_of_text text.now) }
-    ensures has_fields { IfOk result (λ rows. All HasFields rows) }
 {
     match read_rows(alloc, text) {
         Ok(rows) => Ok(Rows { rows }),
@@ -72,7 +70,7 @@ fn read_rows(alloc: Global, text: &[u8]) -> Result<Vec<Result<Filing, RowError>>
     for row in reader.into_byte_records() {
         match row {
             Ok(texts) => {
-                if !keep(&mut rows, filing_of_row(number, &texts)) {
+                if !keep(&mut rows, filing_of_row(alloc, number, &texts)) {
                     return Err(Fault::Stopped);
                 }
             }

@@ -1,5 +1,5 @@
 //! What rows say and how lines are written.
-use super::*;
+use desk_forms::{Cause, RowError, put_error, put_line, rows_of};
 use aid_replies::{Outcome, Reply};
 use filing_numbers::numbers_in;
 use aid_types::{Formula, Refusal, Way};
@@ -129,7 +129,7 @@ fn lines_are_written(rt: HostRuntime) -> Result<(), Fail> {
         &RowError {
             row: 3,
             field: 0,
-            cause: 2,
+            cause: Cause::WrongCount,
         },
         &mut out,
     )?;

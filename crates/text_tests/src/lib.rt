@@ -1,0 +1,5 @@
+//! Tests of the texts of the desks. This library has tests alone.
+#![tactic(auto)]
+
+#[cfg(test)]
+mod texts;
