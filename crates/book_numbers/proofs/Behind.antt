@@ -1,5 +1,5 @@
 -- What is left behind a part of a book's numbers.
-use Rattle.std.proofs.Common.{◌≡◌, ℕ, zero, suc, ◌*◌, ◌≤◌, ℤ, pos, negsuc, true, List, [], ◌∷◌, ◌++◌, length, map, take, unsigned_abs, IsTrue, refl, sym, ap, ◌∙◌, subst, append-nil, arith}
+use Rattle.std.proofs.Common.{◌≡◌, ℕ, zero, suc, ◌*◌, ◌≤◌, ℤ, pos, true, List, [], ◌∷◌, ◌++◌, length, map, take, unsigned_abs, IsTrue, refl, sym, ap, ◌∙◌, subst, append-nil, arith}
 use Rattle.std.specs.Prelude.{flat_map}
 use Rattle.std.specs.List.{list_all}
 use Rattle.std.proofs.lemmas.Bool.{and_parts, and_from}
@@ -106,15 +106,6 @@ pub record Counts (n high : ℕ) (rest : List ℤ) : Type 0 where
   pub few : n ≤ high
   pub left : 3 * n ≤ length rest
 
--- a count of rows stands first
-counted : (high : ℕ) (slot : Slot) (slots : List Slot) (earlier zs : List ℤ) → slot.line.limit ≡ Between (pos 1) (pos high) → AreNumbers (slot ∷ slots) earlier zs
-    → (n : ℕ) × (rest : List ℤ) × (zs ≡ pos n ∷ rest)
-counted high slot slots earlier [] e h = absurd h
-counted high slot slots earlier (pos n ∷ rest) e h = (n, rest, refl)
-counted high slot slots earlier (negsuc n ∷ rest) e h =
-    let within = is_within (pos 1) (pos high) (negsuc n) (subst (λ (l : Limit). IsTrue (fits l earlier (negsuc n))) e h.0) in
-    absurd (omega (arith, ints, within.0))
-
 counts : (high : ℕ) (slot : Slot) (slots : List Slot) (earlier rest : List ℤ) (n : ℕ) → slot.line.limit ≡ Between (pos 1) (pos high) → IsThree slot
     → AreNumbers (slot ∷ slots) earlier (pos n ∷ rest) → Counts n high rest
 counts high slot slots earlier rest n e is h =
@@ -128,16 +119,6 @@ counts high slot slots earlier rest n e is h =
 abbrev first_slot : List Slot → Slot
 first_slot [] = one [] Count (pos 0) (pos 0)
 first_slot (slot ∷ slots) = slot
-
--- the tables of a book, by the numbers that they begin
-pub business_count : (zs : List ℤ) → IsNext business_slots zs → (n : ℕ) × (rest : List ℤ) × (zs ≡ pos n ∷ rest)
-business_count zs next = counted 16 (first_slot business_slots) next.later next.earlier zs refl next.numbers
-
-pub age_count : (zs : List ℤ) → IsNext age_slots zs → (n : ℕ) × (rest : List ℤ) × (zs ≡ pos n ∷ rest)
-age_count zs next = counted 64 (first_slot age_slots) next.later next.earlier zs refl next.numbers
-
-pub bracket_count : (first_rate : ℤ) (zs : List ℤ) → AreLast first_rate zs → (n : ℕ) × (rest : List ℤ) × (zs ≡ pos n ∷ rest)
-bracket_count first_rate zs last = counted 16 (first_slot bracket_slots) [] last.earlier zs refl last.numbers
 
 pub business_counts : (zs rest : List ℤ) (n : ℕ) → IsNext business_slots zs → zs ≡ pos n ∷ rest → Counts n 16 rest
 business_counts zs rest n next e =

@@ -1,5 +1,5 @@
 -- The tables of a book's numbers.
-use Rattle.std.proofs.Common.{◌≡◌, ℕ, ◌≤◌, ℤ, pos, true, None, option_map, List, [], ◌∷◌, length, Some, refl, ap, ◌∙◌, arith}
+use Rattle.std.proofs.Common.{◌≡◌, ℕ, ◌≤◌, ℤ, pos, true, None, option_map, List, length, Some, refl, arith}
 use Rattle.std.specs.Prelude.{slice_get}
 use Rattle.std.specs.List.{All}
 use Rattle.std.proofs.lemmas.Int.{ints}
@@ -8,9 +8,9 @@ use Rattle.aid_books.specs.Ages.{IsAgeRow, is_by_age}
 use Rattle.aid_books.specs.Marginal.{IsBracket, is_marginal}
 use Rattle.aid_types.specs.Ranges.{IsWithin}
 use Rattle.year_books.specs.Fields.{amount, between, rate, up_to}
-use Rattle.year_books.specs.Numbers.{AreLists, IsInRange}
+use Rattle.year_books.specs.Numbers.{AreLists}
 use Rattle.year_books.specs.Tables.{ages_at, begins_ages, begins_business, begins_schedule, book_break, brackets_at, break_in, continues, is_older, number_in, numbers_at}
-use Rattle.year_books.proofs.FieldLemmas.{in_range_of, is_in_range, one_number}
+use Rattle.year_books.proofs.FieldLemmas.{in_range_of, is_in_range}
 use Rattle.year_books.proofs.TableLemmas.{ages_in_range, brackets_in_range, first_base, first_over, first_share, first_start, is_by_age_rows, is_marginal_rows, no_breaks, length-age_rows, length-bracket_rows}
 
 -- how many rows a table has
@@ -56,18 +56,6 @@ pub range-bracket : (lists : List (List ℤ)) → AreLists lists → All IsBrack
 range-bracket lists whole =
     brackets_in_range (numbers_at 53 lists) (numbers_at 54 lists) (numbers_at 55 lists)
     (in_range_of lists 53 amount whole refl) (in_range_of lists 54 amount whole refl) (in_range_of lists 55 rate whole refl)
-
--- the form of a book is 1
-pub form-one : (lists : List (List ℤ)) → AreLists lists → numbers_at 1 lists ≡ pos 1 ∷ []
-form-one lists whole = by (numbers_at 1 lists) refl (one_number lists 1 whole refl)
-  where
-    by : (zs : List ℤ) → numbers_at 1 lists ≡ zs → length zs ≡ 1 → numbers_at 1 lists ≡ pos 1 ∷ []
-    by [] e n = absurd (omega (arith, n))
-    by (z ∷ y ∷ ys) e n = absurd (omega (arith, n))
-    by (z ∷ []) e n =
-        let within : IsInRange 1 z = is_in_range lists 1 z whole e in
-        let same : z ≡ pos 1 = omega (arith, ints, within.0, within.1) in
-        e ∙ ap (λ x. x ∷ []) same
 
 -- what a book's numbers say where no row fails
 pub record Rises (lists : List (List ℤ)) : Type 0 where

@@ -1,6 +1,6 @@
 -- What the numbers of a book's fields say of one field.
-use Rattle.std.proofs.Common.{◌≡◌, ℕ, suc, ◌-◌, ◌<◌, take, drop, drop-cons, ℤ, true, List, [], ◌∷◌, length, Option, Some, None, option_map, int_le, refl, subst, arith}
-use Rattle.std.specs.Prelude.{slice_get, slice_index_or}
+use Rattle.std.proofs.Common.{◌≡◌, ℕ, ◌-◌, ℤ, true, List, [], ◌∷◌, length, Option, Some, None, option_map, int_le, refl, subst, arith}
+use Rattle.std.specs.Prelude.{slice_get}
 use Rattle.std.specs.List.{list_all}
 use Rattle.std.proofs.lemmas.Bool.{and_parts, eqb-true}
 use Rattle.std.proofs.lemmas.Int.{ints}
@@ -63,10 +63,3 @@ in_range_of lists field range h e = by (slice_get table_fields (field - 1)) refl
 
 pub all_amounts : (lists : List (List ℤ)) (field : ℕ) → AreLists lists → range_at field ≡ Some amount → EachIsAmount (numbers_at field lists)
 all_amounts lists field h e = in_range_of lists field amount h e
-
--- the lists of the fields, one after the other
-pub next : (n k : ℕ) (lists : List (List ℤ)) (x : List ℤ) (rest : List (List ℤ)) → AreLists lists → k < 55 → slice_index_or lists k [] ≡ x
-    → take n (drop (suc k) lists) ≡ rest → take (suc n) (drop k lists) ≡ x ∷ rest
-next n k lists x rest whole within at others =
-    let inside : k < length lists = omega (arith, whole.count) in
-    rw (drop-cons lists k []) (rw (at, others) refl)

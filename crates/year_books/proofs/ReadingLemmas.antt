@@ -1,8 +1,7 @@
 -- How values of the TOML crate stand for the data that the definitions go over.
-use Rattle.std.proofs.Common.{◌≡◌, ℕ, ℤ, List, [], ◌∷◌, ◌++◌, map, Option, None, Result, Ok, Err, Bool, true, false, ◌&&◌, refl, ap, sym, append_assoc}
+use Rattle.std.proofs.Common.{◌≡◌, ℕ, ℤ, List, [], ◌∷◌, ◌++◌, map, Option, None, Result, Ok, Bool, true, false, ◌&&◌, refl, ap}
 use Rattle.std.specs.List.{list_all}
-use Rattle.toml.specs.Data.{Data, Members, get}
-use Rattle.year_books.specs.Fields.{Line}
+use Rattle.toml.specs.Data.{Data, get}
 use Rattle.year_books.specs.declared.error.BookError.{BookError}
 use Rattle.toml.specs.View.{items_view, view}
 use Rattle.toml.specs.declared.value.Value.{Value}
@@ -10,7 +9,7 @@ use Rattle.std.specs.Prelude.{IsUtf8, is_some, if◌then◌else◌}
 use Rattle.std.specs.Str.{is_utf8}
 use Rattle.std.proofs.lemmas.Str.{IsUtf8-from_is_utf8}
 use Rattle.toml.specs.Parse.{parse_document}
-use Rattle.year_books.specs.Reading.{after, data_of, field_numbers, numbers_from, table_of}
+use Rattle.year_books.specs.Reading.{after, data_of, table_of}
 
 -- a text has no table where the grammar refuses it, if it is UTF-8 at all
 pub no_table : (text : List ℕ) → (IsUtf8 text → parse_document text ≡ None) → table_of text ≡ None
@@ -33,16 +32,3 @@ in_each_view key (v ∷ vs) = ap (λ b. is_some (get key (view v)) && b) (in_eac
 -- the numbers of the fields that were gone over, and of those to come
 abbrev pub prefixed : List (List ℤ) → Result (List (List ℤ)) BookError → Result (List (List ℤ)) BookError
 prefixed done r = after r (λ zss. Ok (done ++ zss))
-
--- the numbers of fields one by one
-pub numbers_step : (f : Line) (fs : List Line) (t : Members) (done : List (List ℤ)) (zs : List ℤ)
-    → field_numbers f t ≡ Ok zs → prefixed done (numbers_from (f ∷ fs) t) ≡ prefixed (done ++ zs ∷ []) (numbers_from fs t)
-numbers_step f fs t done zs read = rw read (by (numbers_from fs t))
-  where
-    by : (r : Result (List (List ℤ)) BookError) → prefixed done (after r (λ zss. Ok (zs ∷ zss))) ≡ prefixed (done ++ zs ∷ []) r
-    by (Ok zss) = ap Ok (sym (append_assoc done (zs ∷ []) zss))
-    by (Err e) = refl
-
-pub numbers_stop : (f : Line) (fs : List Line) (t : Members) (done : List (List ℤ)) (e : BookError)
-    → field_numbers f t ≡ Err e → prefixed done (numbers_from (f ∷ fs) t) ≡ Err e
-numbers_stop f fs t done e read = rw read refl
