@@ -13,7 +13,7 @@ ghost use Rattle.office_history.specs.Answer.{breaks, outcome_of, outcome_at, an
 ghost use Rattle.office_history.specs.FactsOf.{cell_at};
 ghost use Rattle.office_history.specs.Net.{net_at as net_of_cell};
 ghost use Rattle.office_history.specs.Past.{key_at};
-ghost use Rattle.office_history.specs.Within.{IsWithinLimits};
+ghost use Rattle.office_history.specs.Within.{IsWithinEveryLimit};
 ghost use Rattle.office_core.specs.Register.{filing_in};
 
 use crate::{answer, outcome, past_outcome, quote, standing};
@@ -79,7 +79,7 @@ impl Office {
         ensures few { result ≤ 200000 }
 
         // No student stands above a limit.
-        ensures within { IsWithinLimits self.now.history }
+        ensures within { IsWithinEveryLimit self.now.history }
         ensures keys { AllPairs (λ f g. f.key ≢ g.key) self.now.history }
     {
         self.filings.as_slice().len() as u32

@@ -2,7 +2,7 @@
 use Rattle.std.proofs.Common.{List}
 use Rattle.aid_filings.specs.declared.filing.Filing.{Filing}
 use Rattle.office_history.specs.Answer.{IsLegal}
-use Rattle.office_history.specs.Within.{IsWithinLimits}
+use Rattle.office_history.specs.Within.{IsWithinEveryLimit}
 use Rattle.office_history.proofs.Cost.{cost_holds, fseog_holds}
 use Rattle.office_history.proofs.Awards.{year_holds}
 use Rattle.office_history.proofs.Lifetime.{lifetime_holds}
@@ -11,7 +11,7 @@ use Rattle.office_history.proofs.Apart.{apart_holds}
 use Rattle.office_history.proofs.Main.{main_holds}
 use Rattle.office_history.proofs.AnyNets.{any_net_stands}
 
-pub legal_within : (past : List Filing) → IsLegal past → IsWithinLimits past
+pub legal_within : (past : List Filing) → IsLegal past → IsWithinEveryLimit past
 legal_within past legal = record {
   term = term_holds past legal;
   year = year_holds past legal;

@@ -8,7 +8,7 @@ use Rattle.office_history.specs.Award.{scheduled}
 use Rattle.office_history.specs.Net.{Cell, net, paid, taken, pell_term, pell_year, pell_main, in_year, at_school_in_year, used}
 use Rattle.office_history.specs.FactsOf.{payment_at}
 
-pub record IsWithinLimits (past : List Filing) : Type 0 where
+pub record IsWithinEveryLimit (past : List Filing) : Type 0 where
   pub term : (school student year number : ℕ) →
       pell_term past school student year number ≤ payment_at past (scheduled past student year) school student year number
   pub year : (student year : ℕ) → pell_year past student year ≤ 150 * scheduled past student year

@@ -4,7 +4,7 @@ ghost use Rattle.std.specs.Prelude.{◌≡◌, ◌≢◌, ◌↔◌, ◌+◌, �
 ghost use Rattle.aid_replies.specs.declared.reply.Verdict.TheVariants.{Again, Admit};
 ghost use Rattle.office_history.specs.Past.{key_at, same_filing};
 ghost use Rattle.office_history.specs.Answer.{breaks, outcome_of, answer_of, IsLegal};
-ghost use Rattle.office_history.specs.Within.{IsWithinLimits};
+ghost use Rattle.office_history.specs.Within.{IsWithinEveryLimit};
 
 use aid_filings::Filing;
 
@@ -49,7 +49,7 @@ pub fn legal_keys(history: &[Filing])
 /// attendance, and two schools at one time (HEA 401, 413B; 34 CFR 690.11, 690.63).
 pub fn legal_within(history: &[Filing])
     requires { IsLegal (reverse history.now) }
-    ensures { IsWithinLimits (reverse history.now) }
+    ensures { IsWithinEveryLimit (reverse history.now) }
 {
     let _ = history;
 }

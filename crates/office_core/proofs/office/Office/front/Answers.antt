@@ -1,7 +1,7 @@
 use Rattle.std.proofs.Common.{◌≢◌, List, reverse, subst, ap, arith}
 use Rattle.std.specs.List.{AllPairs}
 use Rattle.aid_filings.specs.declared.filing.Filing.{Filing}
-use Rattle.office_history.specs.Within.{IsWithinLimits}
+use Rattle.office_history.specs.Within.{IsWithinEveryLimit}
 use Rattle.office_history.proofs.Legal.{legal_keys_apart}
 use Rattle.office_history.proofs.LegalWithin.{legal_within}
 use Rattle.office_core.proofs.Short.{short}
@@ -15,7 +15,7 @@ pub returns-clause-few : goal.returns-clause-few
 returns-clause-few c = omega (arith, short c.self.inside.filings.items c.self.invariant.0)
 
 pub returns-clause-within : goal.returns-clause-within
-returns-clause-within c = subst IsWithinLimits (ap (λ (r : Register). r.history) c.self.view_is) (legal_within (reverse c.self.inside.filings.items) c.self.invariant.0)
+returns-clause-within c = subst IsWithinEveryLimit (ap (λ (r : Register). r.history) c.self.view_is) (legal_within (reverse c.self.inside.filings.items) c.self.invariant.0)
 
 pub returns-clause-keys : goal.returns-clause-keys
 returns-clause-keys c =
