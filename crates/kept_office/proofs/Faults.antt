@@ -1,7 +1,7 @@
 -- Where a file that is read has a fault.
 use Rattle.std.proofs.Common.{◌≡◌, ◌⊎◌, inl, inr, ℕ, List, [], ◌∷◌, ◌++◌, refl, sym, ◌∙◌, arith}
 use Rattle.aid_filings.specs.declared.filing.Filing.{Filing}
-use Rattle.filing_numbers.specs.Fields.{IsFiling}
+use Rattle.filing_numbers.specs.Numbers.{IsFiling}
 use Rattle.disk_model.specs.Telling.{Telling, IsRead}
 use Rattle.disk_model.specs.declared.disk.Disk.{Ghosts}
 use Rattle.filing_codec.specs.Spelling.{spelling}

@@ -1,7 +1,7 @@
 -- What images recover.
 use Rattle.std.proofs.Common.{inl, inr, ℕ, List, ◌∷◌}
 use Rattle.aid_filings.specs.declared.filing.Filing.{Filing}
-use Rattle.filing_numbers.specs.Fields.{IsFiling}
+use Rattle.filing_numbers.specs.Numbers.{IsFiling}
 use Rattle.filing_codec.specs.Spelling.{spelling}
 use Rattle.filing_journal.specs.Stands.{StandsFor, BeforeOrWith}
 use Rattle.office_history.specs.Answer.{IsLegal}

@@ -2,7 +2,7 @@
 use Rattle.std.proofs.Common.{◌≡◌, ◌⊎◌, inl, inr, ℕ, List, [], ◌∷◌, ◌++◌, length, refl, sym, ◌∙◌, ap, subst, append_assoc, arith, length-append}
 use Rattle.std.proofs.lemmas.List.{append-nil}
 use Rattle.aid_filings.specs.declared.filing.Filing.{Filing}
-use Rattle.filing_numbers.specs.Fields.{IsFiling}
+use Rattle.filing_numbers.specs.Numbers.{IsFiling}
 use Rattle.filing_codec.specs.Spelling.{spelling}
 use Rattle.filing_journal.specs.Stands.{Payloads, IsUnborn}
 use Rattle.filing_journal.specs.Head.{IsForeign}

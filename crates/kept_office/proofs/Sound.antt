@@ -1,23 +1,26 @@
 -- The two states of a kept office.
-use Rattle.std.proofs.Common.{◌≡◌, ◌≢◌, ℕ, false, List, ◌∷◌, Option, Some, None, Result, Ok, Err, refl, sym, ◌∙◌, subst, ◌++◌, []}
-use Rattle.std.specs.Prelude.{MatchOption, IfErr, IfSome, IsErrAnd, Contains}
+use Rattle.std.proofs.Common.{◌≡◌, ◌≢◌, ℕ, false, inl, inr, arith, List, ◌∷◌, Option, Some, None, Result, Ok, Err, refl, sym, ◌∙◌, subst, ◌++◌, []}
+use Rattle.std.specs.Prelude.{IsTrue, MatchOption, IfErr, IfSome, IsErrAnd, Contains}
 use Rattle.aid_filings.specs.declared.filing.Filing.{Filing}
 use Rattle.aid_replies.specs.declared.reply.Ask.{Ask}
 use Rattle.aid_replies.specs.declared.reply.Ask.TheVariants.{File, Quote, Standing}
 use Rattle.aid_replies.specs.declared.reply.Outcome.{Outcome}
 use Rattle.aid_replies.specs.declared.reply.Verdict.{Verdict}
 use Rattle.aid_replies.specs.declared.reply.Verdict.TheVariants.{Again, Refused, Admit, Quoted, Standing as StandingTold}
-use Rattle.filing_numbers.specs.Fields.{IsFiling}
+use Rattle.filing_numbers.specs.Numbers.{IsFiling}
 use Rattle.disk_model.specs.Telling.{Telling, EachMoment}
 use Rattle.disk_model.specs.declared.disk.Disk.{Ghosts}
-use Rattle.disk_model.proofs.Moments.{weaken}
+use Rattle.disk_model.proofs.Moments.{started, weaken}
 use Rattle.filing_codec.specs.Spelling.{spelling}
 use Rattle.filing_journal.specs.Stands.{Payloads, BeforeOrWith}
 use Rattle.filing_journal.specs.Journal.{Keeps, MayKeep}
 use Rattle.filing_journal.proofs.Exits.{at_none, at_some}
 use Rattle.office_history.specs.Answer.{IsLegal, answer_to, is_admit}
 use Rattle.kept_office.specs.Recovers.{payloads_of, RecoversEither}
-use Rattle.kept_office.specs.Turns.{settled, asked}
+use Rattle.kept_office.specs.Turns.{Answers, MayRecover, is_acknowledged, settled, asked}
+use Rattle.std.proofs.lemmas.Bool.{true≢false}
+use Rattle.aid_replies.specs.declared.reply.Reply.{Reply}
+use Rattle.aid_replies.specs.declared.reply.Reply.TheVariants as reply
 use Rattle.kept_office.specs.Kept.{kept_disk, kept_history, kept_pending, IsSettled, IsPending, IsSound}
 use Rattle.kept_office.specs.declared.kept.KeptOffice.{KeptOffice}
 use Rattle.kept_office.proofs.Legality.{again_stands}
@@ -73,6 +76,15 @@ filing_moments old new h f payload is ok range legal m =
     (λ c b. either_from h f c ok (keepable_more h f ok range legal) b)
     (subst (λ (p : List ℕ). EachMoment old new (BeforeOrWith (payloads_of h) p)) is m)
 
+-- where a filing is undecided, the journal may keep its payload
+pub undecided_stands : {D : Type 0} (disk : Ghosts D) (kept : KeptOffice D disk) → kept_pending kept ≢ None → IsSound disk kept
+    → (before : Payloads) × ((payload : List ℕ) × MayKeep disk kept.journal before payload)
+undecided_stands disk kept some sound = go (kept_pending kept) refl
+  where
+    go : (o : Option Filing) → kept_pending kept ≡ o → (before : Payloads) × ((payload : List ℕ) × MayKeep disk kept.journal before payload)
+    go None is = absurd (some is)
+    go (Some f) is = (payloads_of (kept_history kept), (spelling f, (pending_of disk kept f is sound).journal))
+
 -- settling: at each moment each image recovers the history with the undecided filing or without
 pub settling_moments : {D : Type 0} (disk : Ghosts D) (kept : KeptOffice D disk) (new : Telling) → kept_pending kept ≢ None
     → (disk.tells (kept_disk kept)).image (disk.tells (kept_disk kept)).reads
@@ -86,6 +98,14 @@ settling_moments disk kept new some here moments sound = go (kept_pending kept) 
         let p = pending_of disk kept f is sound in
         filing_moments (disk.tells (kept_disk kept)) new (kept_history kept) f (spelling f) refl (keepable_pending disk kept f here p) p.in_range p.legal
         (moments (payloads_of (kept_history kept)) (spelling f) p.journal)
+
+-- a filing that was kept
+pub kept_sound : {D : Type 0} (disk : Ghosts D) (old new : KeptOffice D disk) (f : Filing) (payload : List ℕ) → payload ≡ spelling f → kept_history new ≡ f ∷ kept_history old
+    → kept_pending new ≡ None → IsKeepable (kept_history old) → IsFiling f → IsLegal (f ∷ kept_history old) → Keeps disk new.journal (payloads_of (kept_history old) ++ payload ∷ [])
+    → IsSound disk new
+kept_sound disk old new f payload spelled list none ok is legal keeps =
+    let here = subst (λ (p : List ℕ). Keeps disk new.journal (payloads_of (kept_history old) ++ p ∷ [])) spelled keeps in
+    sound_settled disk new none (subst IsKeepable (sym list) (keepable_more (kept_history old) f ok is legal)) (subst (λ (h : List Filing). Keeps disk new.journal (payloads_of h)) (sym list) here)
 
 -- a settling that failed
 pub still_sound : {D : Type 0} (disk : Ghosts D) (old new : KeptOffice D disk) → kept_pending old ≢ None
@@ -121,6 +141,38 @@ pub again_asked : (past : List Filing) (ask : Ask) (p : ℕ) (o : Outcome) → a
 again_asked past (File f) p o is = again_stands past f p o is
 again_asked past (Quote school student year term) p o is = absurd cc
 again_asked past (Standing student year) p o is = absurd cc
+
+-- a filing that was kept, or stood already, stands
+pub kept_stands : (past : List Filing) (ask : Ask) (f : Filing) (said : Reply) (history : List Filing) (pending : Option Filing) → ask ≡ File f
+    → Answers past (File f) said history pending → IsTrue (is_acknowledged said) → IfSome (asked ask) (Contains history)
+kept_stands past ask f said history pending is answers told = subst (λ (a : Ask). IfSome (asked a) (Contains history)) (sym is) (go said answers told)
+  where
+    newest : Contains (f ∷ past) f
+    newest = (0, omega arith, refl)
+
+    go : (r : Reply) → Answers past (File f) r history pending → IsTrue (is_acknowledged r) → Contains history f
+    go (reply.Accepted position front outcome) h t = subst (λ (hs : List Filing). Contains hs f) (sym h.list) newest
+    go (reply.Again position front outcome) h t = subst (λ (hs : List Filing). Contains hs f) (sym h.list) (again_stands past f position outcome h.answer)
+    go (reply.Refused refusal front) h t = absurd (true≢false (sym t))
+    go (reply.Quoted cents front) h t = absurd (true≢false (sym t))
+    go (reply.Standing row front) h t = absurd (true≢false (sym t))
+    go (reply.DiskFault undecided) h t = absurd (true≢false (sym t))
+    go reply.NoMemory h t = absurd (true≢false (sym t))
+
+-- a turn that made no call on the disk
+pub unwritten_moments : {D : Type 0} (disk : Ghosts D) (kept : KeptOffice D disk) (ask : Ask)
+    → ((c : List ℕ) → (disk.tells (kept_disk kept)).image_since (disk.tells (kept_disk kept)).moment c → (disk.tells (kept_disk kept)).image c)
+    → IsSound disk kept → EachMoment (disk.tells (kept_disk kept)) (disk.tells (kept_disk kept)) (MayRecover (kept_history kept) (kept_pending kept) ask)
+unwritten_moments disk kept ask only sound =
+    started (disk.tells (kept_disk kept)) (MayRecover (kept_history kept) (kept_pending kept) ask) (λ c since. go (kept_pending kept) refl c (only c since))
+  where
+    either : (f : Filing) (c : List ℕ) → RecoversEither (kept_history kept) (f ∷ kept_history kept) c → MayRecover (kept_history kept) (Some f) ask c
+    either f c (inl before) = inl before
+    either f c (inr with_it) = inr (inl with_it)
+
+    go : (o : Option Filing) → kept_pending kept ≡ o → (c : List ℕ) → (disk.tells (kept_disk kept)).image c → MayRecover (kept_history kept) o ask c
+    go None is c image = inl ((settled_of disk kept is sound).images c image)
+    go (Some f) is c image = either f c ((pending_of disk kept f is sound).images c image)
 
 pub not_admitted : (v : Verdict) → ((o : Outcome) → v ≡ Admit o → ⊥) → is_admit v ≡ false
 not_admitted (Again p o) not = refl

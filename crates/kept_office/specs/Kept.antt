@@ -1,7 +1,7 @@
 -- What a kept office has on its disk.
 use Rattle.std.specs.Prelude.{◌-◌, ℕ, List, ◌∷◌, Option, Some, None, MatchOption}
 use Rattle.aid_filings.specs.declared.filing.Filing.{Filing}
-use Rattle.filing_numbers.specs.Fields.{IsFiling}
+use Rattle.filing_numbers.specs.Numbers.{IsFiling}
 use Rattle.disk_model.specs.Telling.{EachImage}
 use Rattle.disk_model.specs.declared.disk.Disk.{Ghosts}
 use Rattle.filing_codec.specs.Spelling.{spelling}

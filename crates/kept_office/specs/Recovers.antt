@@ -1,7 +1,7 @@
 -- The history that a journal file stands for.
 use Rattle.std.specs.Prelude.{◌⊎◌, ℕ, List, [], ◌∷◌, ◌++◌}
 use Rattle.aid_filings.specs.declared.filing.Filing.{Filing}
-use Rattle.filing_numbers.specs.Fields.{IsFiling}
+use Rattle.filing_numbers.specs.Numbers.{IsFiling}
 use Rattle.filing_codec.specs.Spelling.{spelling}
 use Rattle.filing_journal.specs.Stands.{Payloads, StandsFor}
 use Rattle.office_history.specs.Answer.{IsLegal}

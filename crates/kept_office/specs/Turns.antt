@@ -1,5 +1,5 @@
 -- What a turn of an office makes of an ask.
-use Rattle.std.specs.Prelude.{◌≡◌, ◌⊎◌, ◌+◌, ℕ, Bool, true, false, IsTrue, List, ◌∷◌, length, Option, Some, None, IfSome, IsSome}
+use Rattle.std.specs.Prelude.{◌≡◌, ◌⊎◌, ◌+◌, ℕ, Bool, true, false, IsTrue, List, ◌∷◌, length, Option, Some, None, IsSome}
 use Rattle.aid_filings.specs.declared.filing.Filing.{Filing}
 use Rattle.aid_replies.specs.declared.reply.Ask.{Ask}
 use Rattle.aid_replies.specs.declared.reply.Ask.TheVariants.{File}
@@ -8,7 +8,6 @@ use Rattle.aid_types.specs.declared.award.Refusal.{Refusal}
 use Rattle.aid_replies.specs.declared.reply.Reply.{Reply}
 use Rattle.aid_replies.specs.declared.reply.Reply.TheVariants.{Accepted, Again, Refused, Quoted, Standing, DiskFault, NoMemory}
 use Rattle.aid_replies.specs.declared.reply.StandingRow.{StandingRow}
-use Rattle.filing_numbers.specs.Fields.{kind_of}
 use Rattle.aid_replies.specs.declared.reply.Verdict.TheVariants as verdict
 use Rattle.office_history.specs.Answer.{answer_to, is_admit}
 use Rattle.kept_office.specs.Recovers.{Recovers}
@@ -22,10 +21,6 @@ settled (Some filing) history = filing ∷ history
 abbrev pub asked : Ask → Option Filing
 asked (File filing) = Some filing
 asked _ = None
-
--- it is of a kind whose filings have bytes
-abbrev pub HasBytes : Ask → Type 0
-HasBytes ask = IfSome (asked ask) (λ filing. IsSome (kind_of filing.what))
 
 -- the history with the filing of an ask
 abbrev pub with_asked : Ask → List Filing → List Filing

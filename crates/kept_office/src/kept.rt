@@ -15,9 +15,9 @@ use aid_filings::Filing;
 use aid_replies::{Ask, Outcome, Reply, Verdict};
 use disk_model::Disk;
 use filing_codec::put;
-use payload::Room;
 use filing_journal::{FoundError, Journal, OpenError, PutError};
 use office_core::Office;
+use payload::Room;
 use std::alloc::{AllocError, Global};
 
 /// Why no office was founded.
@@ -53,8 +53,7 @@ impl<D: Disk> KeptOffice<D> {
     ghost use Rattle.aid_filings.specs.declared.filing.Filing.{Filing};
     ghost use Rattle.kept_office.specs.Recovers.{Recovers, RecoversEither};
     ghost use Rattle.kept_office.specs.Faulty.{IsFaultyAt};
-    ghost use Rattle.filing_numbers.specs.Fields.{kind_of};
-    ghost use Rattle.kept_office.specs.Turns.{Answers, HasBytes, Turns, MayRecover, settled, asked, is_accepted, is_acknowledged, is_fault};
+    ghost use Rattle.kept_office.specs.Turns.{Answers, Turns, MayRecover, settled, asked, is_accepted, is_acknowledged, is_fault};
     ghost use Rattle.kept_office.specs.Kept.{IsSound, IsSettled, kept_disk, kept_history, kept_pending, kept_room};
 
     /// Founds an office without filings, in a file of fewer than 17 bytes, whatever they are, or of 17 bytes whose
@@ -184,11 +183,10 @@ impl<D: Disk> KeptOffice<D> {
     }
 
     /// Answers an ask. A filing that is undecided is settled first: it is admitted. Then the ask is judged, and a
-    /// filing that is admitted is put into the journal before it is acknowledged. A filing is of a kind that has bytes.
+    /// filing that is admitted is put into the journal before it is acknowledged.
     ///
     /// `DiskFault` names the position of the filing that is undecided then, if one is. `NoMemory` leaves all as it was.
     pub fn turn(&mut self, ask: Ask) -> Reply
-        requires has_bytes { HasBytes ask }
         requires sound { IsHonest (D.tells (kept_disk self.old)) → IsSound D.Disk self.old }
 
         // The reply is the answer on the history after settling, and this and what is undecided after are what it says.
@@ -253,7 +251,6 @@ impl<D: Disk> KeptOffice<D> {
 
     // Answers an ask where nothing is undecided.
     fn answer(&mut self, ask: Ask) -> Reply
-        requires has_bytes { HasBytes ask }
         requires sound { IsHonest (D.tells (kept_disk self.old)) → IsSound D.Disk self.old }
         requires decided { kept_pending self.old ≡ None }
         requires room { 1 ≤ kept_room self.old }
@@ -288,7 +285,6 @@ impl<D: Disk> KeptOffice<D> {
 
     // Keeps a filing that is to be admitted.
     fn keep(&mut self, filing: Filing) -> Reply
-        requires has_bytes { IsSome (kind_of filing.what) }
         requires sound { IsHonest (D.tells (kept_disk self.old)) → IsSound D.Disk self.old }
         requires decided { kept_pending self.old ≡ None }
         requires room { 1 ≤ kept_room self.old }

@@ -2,7 +2,7 @@
 ghost use Rattle.std.specs.Prelude.{◌≡◌, ◌⊎◌, ◌+◌, ◌≤◌, ◌<◌, ◌∷◌, [], ℕ, ⊤, List, length, None, IfOk, IfErr, IfNone, OnOk, OnErr, MatchBool, MatchOption};
 ghost use Rattle.aid_edges.specs.Faults.{Rose};
 ghost use Rattle.aid_filings.specs.declared.filing.Filing.{Filing};
-ghost use Rattle.filing_numbers.specs.Fields.{IsFiling};
+ghost use Rattle.filing_numbers.specs.Numbers.{IsFiling};
 ghost use Rattle.disk_model.specs.Telling.{IsHonest, IsRead};
 ghost use Rattle.filing_journal.specs.Opening.{HasGiven, HasAll, HasEnded, opening_disk, opening_count, opening_refusal};
 ghost use Rattle.filing_journal.specs.Stands.{gate_place};
@@ -15,13 +15,13 @@ use aid_filings::Filing;
 use aid_replies::{Ask, Verdict};
 use disk_model::Disk;
 use filing_codec::{TakeError, take};
-use payload::Room;
 use filing_journal::{OpenError, Opening};
 use office_core::Office;
-use steps::Steps;
+use payload::Room;
 use std::alloc::Global;
 use std::marker::Brand;
 use std::sync::ledger::{Blank, Ledger};
+use steps::Steps;
 
 // The verdict of an office, with the steps counted on a blank.
 fn verdict_on<L: Ledger>(office: &Office, ask: &Ask, blank: Blank) -> Verdict

@@ -1,5 +1,5 @@
 use Rattle.std.proofs.Common.{◌≡◌, ℕ, ◌∷◌}
-use Rattle.filing_numbers.specs.Fields.{IsFiling}
+use Rattle.filing_numbers.specs.Numbers.{IsFiling}
 use Rattle.filing_journal.specs.Stands.{gate_place}
 use Rattle.filing_journal.specs.Opening.{HasGiven, HasAll, opening_disk}
 use Rattle.filing_journal.specs.declared.opening.OpenError.TheVariants.{Damaged}
