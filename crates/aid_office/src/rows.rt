@@ -1,8 +1,6 @@
 //! The rows of one input, filed in order.
-ghost use Rattle.std.specs.Prelude.{◌≡◌, ◌≤◌, ◌+◌, ◌<◌, ◌^◌, ◌++◌, All, Err, IsTrue, IsSome, IfErr, None, OnOk, OnErr, length, vec_capacity, vec_len};
+ghost use Rattle.std.specs.Prelude.{◌≡◌, ◌≤◌, ◌+◌, ◌<◌, ◌^◌, ◌++◌, Err, IsTrue, IfErr, None, OnOk, OnErr, length, vec_capacity, vec_len};
 ghost use Rattle.aid_edges.specs.Faults.{Rose};
-ghost use Rattle.filing_numbers.specs.Fields.{kind_of};
-ghost use Rattle.desk_forms.specs.Rows.{HasFields};
 ghost use Rattle.disk_model.specs.Telling.{EachMoment, IsHonest};
 ghost use Rattle.kept_office.specs.Kept.{IsSound, kept_disk, kept_history, kept_pending};
 ghost use Rattle.kept_office.specs.Recovers.{RecoversEither};
@@ -29,7 +27,6 @@ fn file_one<D: Disk>(
     filing: Filing,
     line: &mut Vec<u8>,
 ) -> Result<(), Stop>
-    requires has_fields { IsSome (kind_of filing.what) }
     requires decided { kept_pending kept.old ≡ None }
     requires sound { IsHonest (D.tells (kept_disk kept.old)) → IsSound D.Disk kept.old }
     ensures line { OnOk result (line.new.items ≡ row_line (kept_history kept.old) number (Ok filing)) }
@@ -66,7 +63,6 @@ fn take_row<D: Disk>(
     row: Result<Filing, RowError>,
     line: &mut Vec<u8>,
 ) -> Result<(), Stop>
-    requires has_fields { HasFields row }
     requires decided { kept_pending kept.old ≡ None }
     requires sound { IsHonest (D.tells (kept_disk kept.old)) → IsSound D.Disk kept.old }
     ensures line { OnOk result (line.new.items ≡ row_line (kept_history kept.old) number row) }
@@ -100,7 +96,6 @@ pub fn file_rows<D: Disk, K: Sink>(
     out: &mut K,
 ) -> Result<(), Stop>
     requires few { length rows < 2 ^ 32 }
-    requires have_fields { All HasFields rows }
     requires decided { kept_pending kept.old ≡ None }
     requires sound { IsHonest (D.tells (kept_disk kept.old)) → IsSound D.Disk kept.old }
     ensures answered { IsTrue (K.honest out.old)

@@ -1,7 +1,7 @@
 //! A run of the program: its words, its input, its journal, what it writes, and its status.
-ghost use Rattle.std.specs.Prelude.{◌≡◌, ◌≢◌, ◌⊎◌, ◌≤◌, ◌+◌, ◌++◌, ◌↔◌, ◌∷◌, ◌^◌, ◌<◌, [], ℕ, List, All, Ok, Err, IsOk, IsTrue, IfOk, IfErr, OnOk, codes, length, map, string_bytes};
+ghost use Rattle.std.specs.Prelude.{◌≡◌, ◌≢◌, ◌⊎◌, ◌≤◌, ◌+◌, ◌++◌, ◌↔◌, ◌∷◌, ◌^◌, ◌<◌, [], ℕ, List, Ok, Err, IsOk, IsTrue, IfOk, IfErr, OnOk, codes, length, map, string_bytes};
 ghost use Rattle.aid_filings.specs.declared.filing.Filing.{Filing};
-ghost use Rattle.desk_forms.specs.Rows.{HasFields, rows_of_text};
+ghost use Rattle.desk_forms.specs.Rows.{rows_of_text};
 ghost use Rattle.aid_edges.specs.Faults.{Rose};
 ghost use Rattle.disk_model.specs.Telling.{EachImage, EachMoment, IsHonest};
 ghost use Rattle.filing_journal.specs.Founded.{UnbornOrEmpty};
@@ -48,7 +48,6 @@ fn are_word(words: &[String], word: &str) -> bool
 fn read_rows<S: Source>(alloc: Global, input: &mut S) -> Result<Rows, Stop>
     ensures rows { IsTrue (S.honest input.old) → IfOk result (λ rows. rows ≡ rows_of_text (S.left input.old)) }
     ensures few { IfOk result (λ rows. length rows ≤ INPUT_LIMIT + 1) }
-    ensures have_fields { IfOk result (λ rows. All HasFields rows) }
     ensures whole { IsTrue (S.honest input.old)
         → OnOk result ((length (S.left input.old) ≤ INPUT_LIMIT) × (S.left input.new ≡ [])) }
     ensures too_long { IsTrue (S.honest input.old) → result ≡ Err Stop.TooLong
@@ -112,7 +111,6 @@ fn file_journal<D: Disk, K: Sink>(
     out: &mut K,
 ) -> (Result<(), Stop>, D)
     requires few { length rows < 2 ^ 32 }
-    requires have_fields { All HasFields rows }
     ensures recovered { IsHonest (D.tells disk) → OnOk result.0 ((past : List Filing) × Recovers (D.tells disk).reads past) }
     ensures answered { IsHonest (D.tells disk) → IsTrue (K.honest out.old) → (past : List Filing) → Recovers (D.tells disk).reads past
         → OnOk result.0 (K.text out.new ≡ K.text out.old ++ file_text past 1 rows) }
