@@ -9,7 +9,7 @@ use crate::error::{Cause, RowError};
 use aid_filings::Filing;
 use aid_num::{Malformed, read_whole};
 use csv::ByteRecord;
-use filing_kinds::{Draft, Kind, kind_named, row as row_of_kind};
+use filing_kinds::{Draft, Kind, kind_named, row as table_row};
 use filing_numbers::filing_of;
 use std::alloc::Global;
 
@@ -53,7 +53,7 @@ fn filing_of_kind(
     ensures { result ≡ row_said row (texts_of texts.now) kind }
 {
     // The kind's name, the school and the number come before the kind's own fields.
-    if texts.len() != row_of_kind(kind).parts.len() + 3 {
+    if texts.len() != table_row(kind).parts.len() + 3 {
         return Err(refused(row, 0, Cause::WrongCount));
     }
     let draft = numbers_of(row, texts, kind)?;

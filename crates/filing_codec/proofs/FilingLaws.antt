@@ -1,7 +1,9 @@
 -- The bytes of a filing: what was read was spelled so, what was spelled is read again, and no spelling begins another.
-use Rattle.std.proofs.Common.{◌≡◌, ◌≢◌, ℕ, ◌≤◌, List, ◌++◌, length, Result, Ok, Err, refl, sym, ap, ◌∙◌}
+use Rattle.std.proofs.Common.{◌≡◌, ◌≢◌, ℕ, ◌≤◌, List, ◌++◌, length, Some, Result, Ok, Err, refl, sym, ap, ◌∙◌, slice_get}
 use Rattle.std.specs.Prelude.{IfOk}
 use Rattle.aid_filings.specs.declared.filing.Filing.{Filing}
+use Rattle.filing_kinds.specs.Kinds.{code_of}
+use Rattle.filing_kinds.specs.declared.kind.Kind.TheVariants.{Book}
 use Rattle.filing_numbers.specs.Numbers.{IsFiling, kind_of, numbers_of}
 use Rattle.filing_numbers.proofs.Same.{same_filing}
 use Rattle.filing_codec.specs.declared.reading.TakeError.{TakeError}
@@ -29,6 +31,12 @@ is_only bytes (Ok found) given filing are e memory =
 is_only bytes (Err (NotFiling place)) given filing are e memory =
     absurd (not_refused place (kind_of filing.what, numbers_of filing) (sym given ∙ again bytes filing are e))
 is_only bytes (Err NoMemory) given filing are e memory = absurd (memory refl)
+
+-- where memory ran out the bytes begin with a book's code
+pub is_for_book : (bytes : List ℕ) (r : Result Filing TakeError) → AreBytes bytes → Gives r (taken bytes) → r ≡ Err NoMemory → slice_get bytes 0 ≡ Some (code_of Book)
+is_for_book bytes (Ok filing) are given e = absurd cc
+is_for_book bytes (Err (NotFiling place)) are given e = absurd cc
+is_for_book bytes (Err NoMemory) are given e = ap (λ (bs : List ℕ). slice_get bs 0) (takes Book given.0 bytes are given.1).1
 
 pub is_alone : (filing other : Filing) (rest : List ℕ) → IsFiling filing → IsFiling other → spelling filing ++ rest ≡ spelling other → IsAlone filing other rest
 is_alone filing other rest are are_other e =

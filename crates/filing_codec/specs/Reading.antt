@@ -5,6 +5,7 @@ use Rattle.filing_codec.specs.Taking.{value_in}
 use Rattle.filing_kinds.specs.Draft.{Progress}
 use Rattle.filing_kinds.specs.Parts.{width_of}
 use Rattle.filing_kinds.specs.declared.field.Form.{Form}
+use Rattle.filing_kinds.specs.declared.kind.Kind.{Kind}
 
 -- the number that a form's first bytes hold
 abbrev pub front_value : Form → List ℕ → ℤ
@@ -23,3 +24,8 @@ IsNoNumber form bytes = (length bytes < width_of form) ⊎ (FitsSigned w64 (fron
 abbrev pub Reads : Result Progress ℕ → Result (List ℤ) ℕ → Type 0
 Reads (Ok draft) read = read ≡ Ok (reverse draft.earlier)
 Reads (Err place) read = read ≡ Err place
+
+-- a kind, and the numbers of its draft, are what was read
+abbrev pub ReadsKind : Result (Kind × Progress) ℕ → Result (Kind × List ℤ) ℕ → Type 0
+ReadsKind (Ok found) read = read ≡ Ok (found.0, reverse found.1.earlier)
+ReadsKind (Err place) read = read ≡ Err place

@@ -9,6 +9,7 @@ use Rattle.filing_kinds.specs.Parts.{Line, Slot, width_of}
 use Rattle.filing_kinds.specs.declared.field.Form.{Form}
 use Rattle.filing_kinds.specs.declared.field.Form.TheVariants.{I64, Day}
 use Rattle.filing_kinds.specs.declared.kind.Kind.{Kind}
+use Rattle.filing_kinds.specs.declared.kind.Kind.TheVariants.{Book}
 use Rattle.filing_numbers.specs.Numbers.{kind_of, numbers_of}
 use Rattle.filing_codec.specs.declared.reading.TakeError.{TakeError}
 use Rattle.filing_codec.specs.declared.reading.TakeError.TheVariants.{NotFiling, NoMemory}
@@ -67,8 +68,8 @@ abbrev pub taken : List ℕ → Result (Kind × List ℤ) ℕ
 taken [] = Err 0
 taken (code ∷ bytes) = of_kind (kind_at code) bytes
 
--- an answer is what reading gives, unless memory ran out
+-- an answer is what reading gives, or that a book was read and memory for it ran out
 abbrev pub Gives : Result Filing TakeError → Result (Kind × List ℤ) ℕ → Type 0
 Gives (Ok filing) read = read ≡ Ok (kind_of filing.what, numbers_of filing)
 Gives (Err (NotFiling place)) read = read ≡ Err place
-Gives (Err NoMemory) read = Unit {0}
+Gives (Err NoMemory) read = (zs : List ℤ) × (read ≡ Ok (Book, zs))

@@ -2,10 +2,11 @@
 ghost use Rattle.std.specs.Prelude.{◌≡◌, ◌≢◌, ◌≤◌, ◌*◌, ◌-ℤ◌, [], length, nat_lt, pos, slice_get, Some, None, Ok, Err, IfOk, IfSome, if◌then◌else◌};
 ghost use Rattle.std.specs.Int.{w64, from_le_bytes};
 ghost use Rattle.aid_filings.specs.declared.filing.Filing.{Filing};
-ghost use Rattle.filing_codec.specs.Reading.{IsNumber, IsNoNumber, Reads};
+ghost use Rattle.filing_codec.specs.Reading.{IsNumber, IsNoNumber, Reads, ReadsKind};
 ghost use Rattle.filing_codec.specs.Spelling.{spelling};
 ghost use Rattle.filing_codec.specs.Taking.{Gives, numbers_at as numbers_in, taken, value_in};
 ghost use Rattle.filing_kinds.specs.Kinds.{code_of, slots_of_kind};
+ghost use Rattle.filing_kinds.specs.Layout.{AreNumbers};
 ghost use Rattle.filing_numbers.specs.Numbers.{IsFiling};
 
 use aid_filings::Filing;
@@ -30,7 +31,7 @@ pub fn take(alloc: Global, bytes: &[u8]) -> Result<Filing, TakeError>
     ensures only { (filing : Filing) → IsFiling filing → bytes.now ≡ spelling filing → result ≢ Err TakeError.NoMemory → result ≡ Ok filing }
     // Which place it is.
     ensures exact { Gives result (taken bytes.now) }
-    // Only a book takes memory.
+    // Only a book takes memory, and only one that was read to its end.
     ensures memory { result ≡ Err TakeError.NoMemory → slice_get bytes.now 0 ≡ Some (code_of Kind.Book) }
 {
     filing_in(alloc, bytes)
@@ -38,21 +39,37 @@ pub fn take(alloc: Global, bytes: &[u8]) -> Result<Filing, TakeError>
 
 fn filing_in(alloc: Global, bytes: &[u8]) -> Result<Filing, TakeError>
     ensures exact { Gives result (taken bytes.now) }
-    ensures memory { result ≡ Err TakeError.NoMemory → slice_get bytes.now 0 ≡ Some (code_of Kind.Book) }
 {
-    let [code, rest @ ..] = bytes else {
-        return Err(TakeError::NotFiling(0));
-    };
-    let Some(kind) = kind_at(*code) else {
-        return Err(TakeError::NotFiling(0));
-    };
-    let draft = match numbers_at(kind, rest) {
-        Ok(draft) => draft,
-        Err(place) => return Err(TakeError::NotFiling(place)),
-    };
-    match filing_of(alloc, kind, draft.numbers()) {
+    match draft_in(bytes) {
+        Ok((kind, draft)) => filed(alloc, kind, draft.numbers()),
+        Err(place) => Err(TakeError::NotFiling(place)),
+    }
+}
+
+// The filing of a kind that has these numbers.
+fn filed(alloc: Global, kind: Kind, numbers: &[i64]) -> Result<Filing, TakeError>
+    requires { AreNumbers (slots_of_kind kind) [] numbers.now }
+    ensures { Gives result (Ok (kind, numbers.now)) }
+{
+    match filing_of(alloc, kind, numbers) {
         Ok(filing) => Ok(filing),
         Err(_) => Err(TakeError::NoMemory),
+    }
+}
+
+// The kind and the numbers that the bytes spell, or the place of the first fault.
+fn draft_in(bytes: &[u8]) -> Result<(Kind, Draft), u64>
+    ensures { ReadsKind result (taken bytes.now) }
+{
+    let [code, rest @ ..] = bytes else {
+        return Err(0);
+    };
+    let Some(kind) = kind_at(*code) else {
+        return Err(0);
+    };
+    match numbers_at(kind, rest) {
+        Ok(draft) => Ok((kind, draft)),
+        Err(place) => Err(place),
     }
 }
 

@@ -222,3 +222,7 @@ kind_at code = find (λ kind. code_of kind == code) kinds
 
 abbrev pub kind_named : List ℕ → Option Kind
 kind_named name = find (λ kind. bytes_eq (name_of kind) name) kinds
+
+-- the words of the programs of aid, in the order of returns (34 CFR 668.22(i))
+abbrev pub words_of_programs : List (List ℕ)
+words_of_programs = codes "unsub" ∷ codes "sub" ∷ codes "plus" ∷ codes "pell" ∷ codes "fseog" ∷ codes "teach" ∷ []

@@ -20,7 +20,8 @@ value_in_row earlier = row_value (record { over = before earlier 3; base = befor
 
 -- From a least number to a greatest one; or to the number just before; or above the same column of the row before, three
 -- places back; or the value that the row before it, of a table by amount, has where this row begins (HEA 475(e), 477(d),
--- 478(c)); or the share of what the first row begins at, by the schedule's first rate (HEA 475(e)).
+-- 478(c)); or the share of what the first row begins at, by the schedule's first rate (HEA 475(e)), which is five places back:
+-- the row's beginning, the count, the least contribution and the student's rate stand behind it.
 abbrev pub fits : Limit → List ℤ → ℤ → Bool
 fits (Between low high) earlier z = is_between low high z
 fits (UpToLast low) earlier z = is_between low (before earlier 0) z

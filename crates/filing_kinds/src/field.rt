@@ -1,5 +1,6 @@
 //! What a field of a filing is.
-ghost use Rattle.std.specs.Prelude.{◌≡◌};
+ghost use Rattle.std.specs.Prelude.{◌≡◌, map};
+ghost use Rattle.filing_kinds.specs.Kinds.{words_of_programs};
 ghost use Rattle.filing_kinds.specs.Parts.{width_of};
 
 /// How a field's number is written in a row and a body, and kept in bytes.
@@ -70,5 +71,11 @@ pub struct Part {
     pub later: &'static [Field],
 }
 
+static PROGRAM_WORDS: [&str; 6] = ["unsub", "sub", "plus", "pell", "fseog", "teach"];
+
 /// The words of the programs of aid, in the order of returns (34 CFR 668.22(i)), as a row and a body write them.
-pub static PROGRAM_WORDS: [&str; 6] = ["unsub", "sub", "plus", "pell", "fseog", "teach"];
+pub fn program_words() -> &'static [&'static str]
+    ensures { map (λ word. word.now) result.now ≡ words_of_programs }
+{
+    &PROGRAM_WORDS
+}

@@ -12,7 +12,7 @@ mod numbers;
 mod parts;
 
 pub use draft::Draft;
-pub use field::{Field, Form, Limit, PROGRAM_WORDS, Part};
+pub use field::{Field, Form, Limit, Part, program_words};
 pub use kind::{Kind, KindRow, kind_at, kind_named, row};
 pub use layout::Layout;
 pub use limit::fits;

@@ -132,11 +132,6 @@ facts_of (Adjust amount) = amount_numbers amount
 abbrev pub numbers_of : Filing → List ℤ
 numbers_of filing = key_numbers filing.key ++ facts_of filing.what
 
--- A filing is of a kind and has these numbers: no other filing of the kind has them.
-pub record IsFilingOf (kind : Kind) (numbers : List ℤ) (filing : Filing) : Type 0 where
-  pub kind_is : kind_of filing.what ≡ kind
-  pub numbers_are : numbers_of filing ≡ numbers
-
 -- a filing's numbers are within the limits of its kind's fields, as its type makes them
 abbrev pub IsFiling : Filing → Type 0
 IsFiling filing = AreNumbers (slots_of_kind (kind_of filing.what)) [] (numbers_of filing)

@@ -1,7 +1,7 @@
 //! Prints the columns of every kind of filing, from the table of kinds.
 #![tactic(auto)]
 
-use filing_kinds::{Field, Form, Kind, Limit, PROGRAM_WORDS, Part, key_parts, kind_at, row};
+use filing_kinds::{Field, Form, Kind, Limit, Part, key_parts, kind_at, program_words, row};
 use std::io;
 
 fn main(rt: HostRuntime) -> io::Result<()> {
@@ -11,7 +11,7 @@ fn main(rt: HostRuntime) -> io::Result<()> {
     println!(rt;
         "and has no columns. Bytes have the code of the kind, and then the same numbers in the same order."
     )?;
-    for code in 2..=11 {
+    for code in 2..=u8::MAX {
         if let Some(kind) = kind_at(code) {
             print_kind(&rt, kind)?;
         }
@@ -60,7 +60,7 @@ fn print_form(rt: &impl Print, form: Form) -> io::Result<()> {
         Form::Cents => print!(rt; "dollars and cents"),
         Form::Day => print!(rt; "a day"),
         Form::Flag => print!(rt; "0 or 1"),
-        Form::Program => print_words(rt, &PROGRAM_WORDS),
+        Form::Program => print_words(rt, program_words()),
         Form::Count => print!(rt; "a count of rows"),
     }
 }
@@ -78,7 +78,9 @@ fn print_limit(rt: &impl Print, form: Form, limit: Limit) -> io::Result<()> {
     match (form, limit) {
         (Form::Flag | Form::Program, _) => println!(rt; ""),
         (Form::Day, _) => println!(rt; ", 1900-01-01 to 9999-12-31"),
-        (Form::Cents, _) => println!(rt; ", 0.00 to 999999.99"),
+        (Form::Cents, Limit::Between(low, high)) => {
+            println!(rt; ", {}.{:02} to {}.{:02}", low / 100, low % 100, high / 100, high % 100)
+        }
         (_, Limit::Between(low, high)) => println!(rt; ", {low} to {high}"),
         (_, Limit::UpToLast(_) | Limit::AboveRow(_) | Limit::Continues(_) | Limit::Begins(_)) => {
             println!(rt; ", as the numbers before it allow")

@@ -40,9 +40,17 @@ range_of (Begins high) = between (pos 0) (up_to high)
 abbrev pub filed : FiledLine → Named
 filed f = record { name = f.name; range = range_of f.limit }
 
--- a filed number and those of the rows that it counts
+-- a filed number and those of each later row that it counts
 abbrev pub slot_named : Slot → List Named
 slot_named slot = filed slot.line ∷ map filed slot.later
 
+-- the names of the fields of first rows, and of later ones
+abbrev pub first_names : Slot → List (List ℕ)
+first_names slot = map (λ line. line.name) slot.first
+
+abbrev pub later_names : Slot → List (List ℕ)
+later_names slot = map (λ line. line.name) slot.later
+
+-- the fields are those that are filed, and a first row has the fields of the later ones
 abbrev pub AreFiled : List Line → Type 0
-AreFiled fields = flat_map (λ f. numbers_named f.kind f) fields ≡ flat_map slot_named book_slots
+AreFiled fields = (flat_map (λ f. numbers_named f.kind f) fields ≡ flat_map slot_named book_slots) × (flat_map first_names book_slots ≡ flat_map later_names book_slots)
