@@ -173,3 +173,26 @@ fn one_byte_too_many(rt: HostRuntime) -> Result<(), Fail> {
     assert_eq!(rt; place_of(alloc, bytes.as_slice()), Some(25));
     Ok(())
 }
+
+#[test]
+fn filings_are_told_apart(rt: HostRuntime) -> Result<(), Fail> {
+    let mut another_number = SCHOOL;
+    another_number[5] = 2;
+    let mut other_credits = SCHOOL;
+    other_credits[18] = 24;
+    assert!(rt; school() == school());
+    assert!(rt; school() != prior());
+    assert!(rt;
+        take(rt.alloc(), &another_number)
+            .ok()
+            .ok_or("it is a school")?
+            != school()
+    );
+    assert!(rt;
+        take(rt.alloc(), &other_credits)
+            .ok()
+            .ok_or("it is a school")?
+            != school()
+    );
+    Ok(())
+}

@@ -11,6 +11,7 @@ fn main(rt: HostRuntime) -> io::Result<()> {
     println!(rt;
         "and has no columns. Bytes have the code of the kind, and then the same numbers in the same order."
     )?;
+    println!(rt; "The program reads rows of school and prior so far.")?;
     for code in 2..=u8::MAX {
         if let Some(kind) = kind_at(code) {
             print_kind(&rt, kind)?;
@@ -79,7 +80,13 @@ fn print_limit(rt: &impl Print, form: Form, limit: Limit) -> io::Result<()> {
         (Form::Flag | Form::Program, _) => println!(rt; ""),
         (Form::Day, _) => println!(rt; ", 1900-01-01 to 9999-12-31"),
         (Form::Cents, Limit::Between(low, high)) => {
-            println!(rt; ", {}.{:02} to {}.{:02}", low / 100, low % 100, high / 100, high % 100)
+            println!(rt;
+                ", {}.{:02} to {}.{:02}",
+                low / 100,
+                low % 100,
+                high / 100,
+                high % 100
+            )
         }
         (_, Limit::Between(low, high)) => println!(rt; ", {low} to {high}"),
         (_, Limit::UpToLast(_) | Limit::AboveRow(_) | Limit::Continues(_) | Limit::Begins(_)) => {

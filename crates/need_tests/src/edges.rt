@@ -4,6 +4,7 @@ ghost use Rattle.aid_types.specs.Ranges.{IsAmount};
 
 use crate::households::nothing;
 use aid_books::{BoxedBook, Bracket};
+use aid_types::Year;
 use sai_parent::{
     asset_protection, business_worth, employment_allowance, payroll_allowance, schedule_value,
 };
@@ -182,5 +183,8 @@ fn rows_have_three_figures(rt: HostRuntime) {
 fn books_are_told_apart(rt: HostRuntime) -> Result<(), Fail> {
     let boxed = BoxedBook::new(Box::new(rt.alloc(), specimen_book())?);
     assert!(rt; *boxed.as_book() == specimen_book());
+    let mut other = specimen_book();
+    other.year = Year(2026);
+    assert!(rt; other != specimen_book());
     Ok(())
 }
