@@ -1,8 +1,8 @@
 //! What rows say and how lines are written.
-use desk_forms::{Cause, RowError, put_error, put_line, rows_of};
 use aid_replies::{Outcome, Reply};
-use filing_numbers::numbers_in;
 use aid_types::{Formula, Refusal, Way};
+use desk_forms::{Cause, RowError, put_error, put_line, rows_of};
+use filing_numbers::numbers_in;
 use itoa::Buffer;
 use std::alloc::Global;
 use std::process::Abort;
