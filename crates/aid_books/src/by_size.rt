@@ -19,14 +19,14 @@ pub type Guideline = BySize<1, 8>;
 pub type Allowance = BySize<2, 5>;
 
 impl<const FIRST: u8, const COUNT: usize> BySize<FIRST, COUNT> {
-    ghost use Rattle.std.specs.Prelude.{◌≤◌, unsigned_abs};
     ghost use Rattle.aid_books.specs.BySize.{by_size};
+    ghost use Rattle.aid_types.specs.Ranges.{IsSumOf};
 
     /// The amount for a family of this size.
     pub fn at(&self, family: u8) -> i64
         requires { 0 < COUNT }
         ensures value { result ≡ by_size FIRST self.now.sizes self.now.extra family }
-        ensures in_range { unsigned_abs result ≤ 30000000000 }
+        ensures in_range { IsSumOf 256 result }
     {
         let past_first = usize::from(family.saturating_sub(FIRST));
         let entry = past_first.min(COUNT - 1);

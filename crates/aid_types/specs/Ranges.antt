@@ -1,5 +1,5 @@
 -- The ranges of the numbers that filings hold.
-use Rattle.std.specs.Prelude.{ℕ, ◌≤◌, nat_le, ℤ, pos, neg_ℤ, ◌≤ℤ◌, int_le, Bool, ◌&&◌, List, IsTrue}
+use Rattle.std.specs.Prelude.{ℕ, ◌*◌, ◌≤◌, nat_le, ℤ, pos, neg_ℤ, ◌≤ℤ◌, int_le, unsigned_abs, Bool, ◌&&◌, List, IsTrue}
 use Rattle.std.specs.List.{list_all}
 
 -- low to high
@@ -18,6 +18,10 @@ IsAmount z = IsWithin (pos 0) (pos 99999999) z
 abbrev pub IsSignedAmount : ℤ → Type 0
 IsSignedAmount z = IsWithin (neg_ℤ (pos 99999999)) (pos 99999999) z
 
+-- a sum of at most n amounts, each of less than a hundred million dollars either way
+abbrev pub IsSumOf : ℕ → ℤ → Type 0
+IsSumOf n z = unsigned_abs z ≤ n * 100000000
+
 -- an amount of a book that is at most 0
 abbrev pub IsFloor : ℤ → Type 0
 IsFloor z = IsWithin (neg_ℤ (pos 999999)) (pos 0) z
@@ -28,6 +32,10 @@ IsRate z = IsWithin (pos 0) (pos 10000) z
 
 abbrev pub IsPercent : ℤ → Type 0
 IsPercent z = IsWithin (pos 1) (pos 9999) z
+
+-- a Student Aid Index: -1,500, the statute's least (HEA 473(b)(2)), to 999,999 (SAI and Pell Grant Eligibility Guide)
+abbrev pub IsIndex : ℤ → Type 0
+IsIndex z = IsWithin (neg_ℤ (pos 1500)) (pos 999999) z
 
 -- the test of an amount
 abbrev pub is_amount : ℤ → Bool

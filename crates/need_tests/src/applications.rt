@@ -1,6 +1,5 @@
 //! Whole applications.
-ghost use Rattle.std.specs.Prelude.{neg_ℤ, pos};
-ghost use Rattle.aid_types.specs.Ranges.{IsBetween, IsSignedAmount, IsWithin};
+ghost use Rattle.aid_types.specs.Ranges.{IsBetween, IsIndex, IsSignedAmount};
 
 use crate::households::{applicant, earner, family_of_four, no_lines, nothing};
 use aid_types::{Application, Formula, Refusal, Way};
@@ -18,7 +17,7 @@ fn assert_application(
     way: Way,
     scheduled: u32,
 )
-    requires { IsWithin (neg_ℤ (pos 1500)) (pos 999999) lines.now.index }
+    requires { IsIndex lines.now.index }
 {
     let book = specimen_book();
     assert!(rt; fits(&book, a).is_none());
@@ -171,7 +170,7 @@ fn family_of_four_with_more_income(rt: HostRuntime) {
 // Asserts the decision on a dependent student of married parents with this income, three in the family.
 fn assert_decision(rt: &impl Abort, agi: i64, index: i32, way: Way, scheduled: u32, sai: i32)
     requires agi_in_range { IsSignedAmount agi }
-    requires index_in_range { IsWithin (neg_ℤ (pos 1500)) (pos 999999) index }
+    requires index_in_range { IsIndex index }
 {
     let mut parents = nothing();
     parents.agi = agi;

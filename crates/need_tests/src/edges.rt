@@ -1,6 +1,5 @@
 //! The edges of the book's tables.
-ghost use Rattle.std.specs.Prelude.{◌≤◌, unsigned_abs};
-ghost use Rattle.aid_types.specs.Ranges.{IsAmount};
+ghost use Rattle.aid_types.specs.Ranges.{IsAmount, IsSumOf};
 
 use crate::households::nothing;
 use aid_books::{BoxedBook, Bracket};
@@ -19,7 +18,7 @@ fn assert_amount(rt: &impl Abort, found: i64, wanted: i64, place: i64) {
 
 // Asserts the schedule's value of an adjusted available income.
 fn assert_schedule(rt: &impl Abort, income: i64, value: i64)
-    requires { unsigned_abs income ≤ 100000 }
+    requires { IsSumOf 1 income }
 {
     assert_amount(rt, schedule_value(&specimen_book(), income), value, income);
 }

@@ -1,8 +1,8 @@
 //! The award of an application with an index (HEA 401(b)).
 #![tactic(auto)]
 
-ghost use Rattle.std.specs.Prelude.{◌≡◌, ◌≤◌, ◌≤ℤ◌, ℤ, unsigned_abs, pos, neg_ℤ};
-ghost use Rattle.aid_types.specs.Ranges.{IsWithin};
+ghost use Rattle.std.specs.Prelude.{◌≡◌, ◌≤ℤ◌, ℤ};
+ghost use Rattle.aid_types.specs.Ranges.{IsAmount, IsIndex, IsSignedAmount};
 ghost use Rattle.aid_types.specs.declared.application.Application.{Application as AnyApplication};
 ghost use Rattle.sai_parent.specs.Household.{IsRisingSchedule};
 ghost use Rattle.sai_index.specs.Formulas.{formula as formula_at};
@@ -42,7 +42,7 @@ pub struct Decision {
 
 /// The award of an application with this index (HEA 401(b)).
 pub fn decide(book: &Book, a: &Application, index: i32) -> Decision
-    requires { IsWithin (neg_ℤ (pos 1500)) (pos 999999) index }
+    requires { IsIndex index }
     ensures value { result ≡ decision book.now a.now index }
     ensures by_case { IsDecidedByCase (formula_at book.now a.now) book.now a.now index result }
     ensures award { IsScheduledAward book.now.pell result.scheduled }
@@ -57,7 +57,7 @@ pub fn decide(book: &Book, a: &Application, index: i32) -> Decision
 
 // The first of the five cases that holds under a formula.
 fn decide_under(formula: Formula, book: &Book, a: &Application, index: i32) -> Decision
-    requires { IsWithin (neg_ℤ (pos 1500)) (pos 999999) index }
+    requires { IsIndex index }
     ensures { result ≡ decision_under formula book.now a.now index }
 {
     if is_barred(a) {
@@ -114,7 +114,7 @@ fn is_minimum(book: &Book, formula: Formula, a: &Application) -> bool
 
 // A decision.
 fn awarded(way: Way, scheduled: i64, sai: i32) -> Decision
-    requires { IsWithin (pos 0) (pos 999999) scheduled }
+    requires { IsAmount scheduled }
     ensures { result ≡ awarded_of way scheduled sai }
 {
     Decision {
@@ -200,10 +200,9 @@ fn is_within(agi: i64, percent: i64, guideline: i64) -> bool
 
 // The award that the index leaves of the greatest.
 fn calculated(book: &Book, index: i32) -> i64
-    requires { IsWithin (neg_ℤ (pos 1500)) (pos 999999) index }
+    requires { IsIndex index }
     ensures value { result ≡ calculated_of book.now index }
-    ensures at_most { result ≤ℤ pos 100000 }
-    ensures in_range { unsigned_abs result ≤ 1000000 }
+    ensures in_range { IsSignedAmount result }
 {
     to5(book.pell.maximum - i64::from(index.max(0)))
 }

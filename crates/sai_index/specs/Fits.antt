@@ -34,6 +34,6 @@ HasSize B married family = family ≡ (if married then 2 else 1)
 HasSize C married family = (if married then 3 else 2) ≤ family
 
 -- an application in range: its student is born in the book's year at the latest, and its family has such a size
-pub record IsInRange (book : Book) (a : Application) : Type 0 where
+pub record FitsBook (book : Book) (a : Application) : Type 0 where
   pub born : a.birth_year ≤ book.year
   pub size : HasSize (formula book a) a.married a.family

@@ -1,12 +1,12 @@
 //! The formula of an application, whether it fits the book, and the index (HEA 475 to 477, 480(d)).
 #![tactic(auto)]
 
-ghost use Rattle.std.specs.Prelude.{◌≡◌, ◌≤ℤ◌, ◌↔◌, IsNone, neg_ℤ, pos};
-ghost use Rattle.aid_types.specs.Ranges.{IsWithin};
+ghost use Rattle.std.specs.Prelude.{◌≡◌, ◌≤ℤ◌, ◌↔◌, IsNone};
+ghost use Rattle.aid_types.specs.Ranges.{IsIndex};
 ghost use Rattle.aid_types.specs.declared.application.Application.{Application as AnyApplication};
 ghost use Rattle.sai_parent.specs.Household.{IsRisingSchedule};
 ghost use Rattle.sai_index.specs.Income.{IsRicher};
-ghost use Rattle.sai_index.specs.Fits.{IsInRange, is_size as is_size_of, size_for as size_for_of, unfit};
+ghost use Rattle.sai_index.specs.Fits.{FitsBook, is_size as is_size_of, size_for as size_for_of, unfit};
 ghost use Rattle.sai_index.specs.Formulas.{formula, is_independent as is_independent_of};
 ghost use Rattle.sai_index.specs.Index.{AreIndexLines, bounded as bounded_of, index_lines, indexed as indexed_of, lines_of};
 ghost use Rattle.sai_index.specs.declared.IndexLines.{IndexLines as Lines};
@@ -63,7 +63,7 @@ pub fn formula_of(book: &Book, a: &Application) -> Formula
 /// The refusal of an application that is out of range for the book.
 pub fn fits(book: &Book, a: &Application) -> Option<Refusal>
     ensures value { result ≡ unfit book.now a.now }
-    ensures none { IsNone result ↔ IsInRange book.now a.now }
+    ensures none { IsNone result ↔ FitsBook book.now a.now }
 {
     if a.birth_year > book.year.0 {
         return Some(refusal(a.birth_year as u64, book.year.0 as u64));
@@ -115,7 +115,7 @@ pub fn index(book: &Book, a: &Application) -> IndexLines
     ensures lines { AreIndexLines book.now a.now result }
     ensures only { (lines : Lines) → AreIndexLines book.now a.now lines → lines ≡ result }
     ensures value { result ≡ index_lines book.now a.now }
-    ensures in_range { IsWithin (neg_ℤ (pos 1500)) (pos 999999) result.index }
+    ensures in_range { IsIndex result.index }
 
     // More income, all else equal, gives no lesser index.
     ensures rises { (richer : AnyApplication) → IsRisingSchedule book.now → IsRicher a.now richer
@@ -127,7 +127,7 @@ pub fn index(book: &Book, a: &Application) -> IndexLines
 // The lines of an application under a formula, and its index.
 fn index_under(formula: Formula, book: &Book, a: &Application) -> IndexLines
     ensures value { result ≡ lines_of formula book.now a.now }
-    ensures in_range { IsWithin (neg_ℤ (pos 1500)) (pos 999999) result.index }
+    ensures in_range { IsIndex result.index }
 {
     match formula {
         Formula::A => dependent_index(book, a),
@@ -139,7 +139,7 @@ fn index_under(formula: Formula, book: &Book, a: &Application) -> IndexLines
 // The index of a dependent student.
 fn dependent_index(book: &Book, a: &Application) -> IndexLines
     ensures value { result ≡ lines_of A book.now a.now }
-    ensures in_range { IsWithin (neg_ℤ (pos 1500)) (pos 999999) result.index }
+    ensures in_range { IsIndex result.index }
 {
     let parent = parents(book, a);
     let own = dependent(book, a, &parent);
@@ -151,7 +151,7 @@ fn dependent_index(book: &Book, a: &Application) -> IndexLines
 // The index of an independent student without dependents.
 fn single_index(book: &Book, a: &Application) -> IndexLines
     ensures value { result ≡ lines_of B book.now a.now }
-    ensures in_range { IsWithin (neg_ℤ (pos 1500)) (pos 999999) result.index }
+    ensures in_range { IsIndex result.index }
 {
     let own = single(book, a);
     let from_income = income_contribution(book, own.available);
@@ -162,7 +162,7 @@ fn single_index(book: &Book, a: &Application) -> IndexLines
 // The index of an independent student with dependents.
 fn family_index(book: &Book, a: &Application) -> IndexLines
     ensures value { result ≡ lines_of C book.now a.now }
-    ensures in_range { IsWithin (neg_ℤ (pos 1500)) (pos 999999) result.index }
+    ensures in_range { IsIndex result.index }
 {
     let own = family(book, a);
     let raw = own.contribution;
@@ -178,7 +178,7 @@ fn indexed(
     raw: i64,
 ) -> IndexLines
     ensures value { result ≡ indexed_of formula parent own from_income raw }
-    ensures in_range { IsWithin (neg_ℤ (pos 1500)) (pos 999999) result.index }
+    ensures in_range { IsIndex result.index }
 {
     IndexLines {
         formula,
@@ -193,7 +193,7 @@ fn indexed(
 // A raw index brought to the range of an index.
 fn bounded(raw: i64) -> i32
     ensures value { result ≡ bounded_of raw }
-    ensures in_range { IsWithin (neg_ℤ (pos 1500)) (pos 999999) result }
+    ensures in_range { IsIndex result }
 {
     raw.max(-1500).min(999_999) as i32
 }

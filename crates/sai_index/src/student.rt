@@ -1,5 +1,6 @@
 //! The student's lines in each formula.
-ghost use Rattle.std.specs.Prelude.{◌≡◌, ◌≤◌, ◌+◌, ◌+ℤ◌, pos, unsigned_abs};
+ghost use Rattle.std.specs.Prelude.{◌≡◌, ℕ, ◌+◌};
+ghost use Rattle.aid_types.specs.Ranges.{IsSumOf};
 ghost use Rattle.sai_index.specs.Index.{
   AreDependentLines,
   age as age_of,
@@ -16,7 +17,7 @@ ghost use Rattle.sai_index.specs.Index.{
 
 use aid_books::Book;
 use aid_num::share;
-use aid_types::{Application, Side};
+use aid_types::Application;
 use sai_parent::{
     ParentLines, assessed, employment_allowance, income_and_assets, payroll_allowance,
     tax_allowance, total_income,
@@ -26,18 +27,20 @@ use sai_parent::{
 #[tactic(auto, unfolding(crate::specs::Index::income_contribution))]
 pub(crate) fn income_contribution(book: &Book, available: i64) -> i64
     ensures value { result ≡ income_contribution_of book.now available }
-    ensures in_range { unsigned_abs result ≤ 100000000 + unsigned_abs available }
+    ensures in_range { (n : ℕ) → IsSumOf n available → IsSumOf (n + 1) result }
 {
     share(available, book.schedule.student_rate).max(book.schedule.lowest_student)
 }
 
 /// The lines of a dependent student (HEA 475(g), (h)).
 pub(crate) fn dependent(book: &Book, a: &Application, parent: &ParentLines) -> ParentLines
-    requires { unsigned_abs parent.now.adjusted ≤ 42000000000 }
+    requires { IsSumOf 280 parent.now.adjusted }
     ensures lines { AreDependentLines book.now a.now parent.now result }
     ensures value { result ≡ dependent_lines book.now a.now parent.now }
-    ensures available_in_range { unsigned_abs result.available ≤ 44000000000 }
-    ensures assets_in_range { unsigned_abs result.from_assets ≤ 300000000 }
+
+    // Nine amounts of income less allowances of 1, 5, 1 and 280.
+    ensures available_in_range { IsSumOf 296 result.available }
+    ensures assets_in_range { IsSumOf 3 result.from_assets }
 {
     let side = &a.own;
     let total = total_income(side);
@@ -45,8 +48,9 @@ pub(crate) fn dependent(book: &Book, a: &Application, parent: &ParentLines) -> P
     let payroll = payroll_allowance(&book.payroll, false, side);
     let protection = book.protection.dependent_student;
     let shortfall = shortfall(parent);
-    let allowances = dependent_allowances(tax, payroll, protection, shortfall);
-    let worth = assets(side);
+    let allowances = tax + payroll + protection + shortfall;
+    let available = total - allowances;
+    let worth = side.cash + side.investments + side.business;
     ParentLines {
         total,
         tax,
@@ -54,7 +58,7 @@ pub(crate) fn dependent(book: &Book, a: &Application, parent: &ParentLines) -> P
         protection,
         employment: 0,
         allowances,
-        available: total - allowances,
+        available,
         business: 0,
         worth,
         asset_protection: 0,
@@ -67,38 +71,18 @@ pub(crate) fn dependent(book: &Book, a: &Application, parent: &ParentLines) -> P
 
 // What the parents' adjusted available income is below 0.
 fn shortfall(parent: &ParentLines) -> i64
-    requires { unsigned_abs parent.now.adjusted ≤ 42000000000 }
+    requires { IsSumOf 280 parent.now.adjusted }
     ensures value { result ≡ shortfall_of parent.now }
-    ensures in_range { unsigned_abs result ≤ 42000000000 }
+    ensures in_range { IsSumOf 280 result }
 {
     (-parent.adjusted).max(0)
-}
-
-// The sum of a dependent student's allowances.
-fn dependent_allowances(tax: i64, payroll: i64, protection: i64, shortfall: i64) -> i64
-    requires tax_in_range { unsigned_abs tax ≤ 100000000 }
-    requires payroll_in_range { unsigned_abs payroll ≤ 600000000 }
-    requires protection_in_range { unsigned_abs protection ≤ 100000000 }
-    requires shortfall_in_range { unsigned_abs shortfall ≤ 42000000000 }
-    ensures value { result ≡ tax +ℤ payroll +ℤ protection +ℤ shortfall }
-    ensures in_range { unsigned_abs result ≤ 43000000000 }
-{
-    tax + payroll + protection + shortfall
-}
-
-// The worth of all assets that count for a dependent student.
-fn assets(side: &Side) -> i64
-    ensures value { result ≡ side.now.cash +ℤ side.now.investments +ℤ side.now.business }
-    ensures in_range { unsigned_abs result ≤ 300000000 }
-{
-    side.cash + side.investments + side.business
 }
 
 /// The lines of an independent student without dependents (HEA 476).
 pub(crate) fn single(book: &Book, a: &Application) -> ParentLines
     ensures value { result ≡ single_lines book.now a.now }
-    ensures available_in_range { unsigned_abs result.available ≤ 41000000000 }
-    ensures assets_in_range { unsigned_abs result.from_assets ≤ 1000000000 }
+    ensures available_in_range { IsSumOf 273 result.available }
+    ensures assets_in_range { IsSumOf 7 result.from_assets }
 {
     income_and_assets(
         book,
@@ -113,8 +97,7 @@ pub(crate) fn single(book: &Book, a: &Application) -> ParentLines
 
 // A student's age in the award year, by years alone.
 fn age(book: &Book, a: &Application) -> i64
-    ensures value { result ≡ age_of book.now a.now }
-    ensures in_range { unsigned_abs result ≤ 3000 }
+    ensures { result ≡ age_of book.now a.now }
 {
     i64::from(book.year.0) - i64::from(a.birth_year)
 }
@@ -122,7 +105,7 @@ fn age(book: &Book, a: &Application) -> i64
 // What such a student is allowed for living.
 fn single_or_married(book: &Book, a: &Application) -> i64
     ensures value { result ≡ single_or_married_of book.now a.now }
-    ensures in_range { unsigned_abs result ≤ 100000000 }
+    ensures in_range { IsSumOf 1 result }
 {
     if a.married {
         book.protection.married_student
@@ -134,7 +117,7 @@ fn single_or_married(book: &Book, a: &Application) -> i64
 // What such a student is allowed for employment.
 fn employment_if_married(book: &Book, a: &Application) -> i64
     ensures value { result ≡ employment_if_married_of book.now a.now }
-    ensures in_range { unsigned_abs result ≤ 200000000 }
+    ensures in_range { IsSumOf 2 result }
 {
     if a.married {
         employment_allowance(&book.employment, &a.own)
@@ -146,7 +129,7 @@ fn employment_if_married(book: &Book, a: &Application) -> i64
 /// The lines of an independent student with dependents (HEA 477).
 pub(crate) fn family(book: &Book, a: &Application) -> ParentLines
     ensures value { result ≡ family_lines book.now a.now }
-    ensures contribution_in_range { unsigned_abs result.contribution ≤ 42200000000 }
+    ensures contribution_in_range { IsSumOf 282 result.contribution }
 {
     let protection = family_protection(book, a);
     let employment = employment_allowance(&book.employment, &a.own);
@@ -165,7 +148,7 @@ pub(crate) fn family(book: &Book, a: &Application) -> ParentLines
 // What such a student is allowed for living.
 fn family_protection(book: &Book, a: &Application) -> i64
     ensures value { result ≡ family_protection_of book.now a.now }
-    ensures in_range { unsigned_abs result ≤ 30000000000 }
+    ensures in_range { IsSumOf 256 result }
 {
     let allowance = if a.married {
         &book.protection.married_parent

@@ -1,3 +1,4 @@
 pub mod LinesLaws
 pub mod NearestOrder
 pub mod ScheduleRises
+pub mod Sums

@@ -1,6 +1,6 @@
 //! The lines that every household has.
-ghost use Rattle.std.specs.Prelude.{◌≡◌, ◌≤◌, ◌<◌, ◌+◌, ◌-◌, length, IfSome, unsigned_abs, pos, ◌+ℤ◌};
-ghost use Rattle.aid_types.specs.Ranges.{EachIsAmount, IsAmount, IsRate, IsWithin};
+ghost use Rattle.std.specs.Prelude.{◌≡◌, ℕ, ◌≤◌, ◌<◌, ◌+◌, ◌-◌, length, IfSome, unsigned_abs, pos, ◌≤ℤ◌};
+ghost use Rattle.aid_types.specs.Ranges.{EachIsAmount, IsAmount, IsRate, IsSumOf};
 ghost use Rattle.aid_books.specs.Marginal.{value_at as value_at_of};
 ghost use Rattle.sai_parent.specs.Household.{
   asset_contribution as asset_contribution_of,
@@ -27,7 +27,7 @@ use aid_types::Side;
 #[tactic(auto, unfolding(crate::specs::Household::total_income))]
 pub fn total_income(side: &Side) -> i64
     ensures value { result ≡ total_income_of side.now }
-    ensures in_range { unsigned_abs result ≤ 1000000000 }
+    ensures in_range { IsSumOf 9 result }
 {
     side.agi + untaxed_income(side) - income_offsets(side)
 }
@@ -35,7 +35,7 @@ pub fn total_income(side: &Side) -> i64
 // Untaxed income and benefits (HEA 480(b)).
 fn untaxed_income(side: &Side) -> i64
     ensures value { result ≡ untaxed_income_of side.now }
-    ensures in_range { IsWithin (pos 0) (pos 499999995) result }
+    ensures in_range { IsSumOf 5 result }
 {
     side.ira + side.interest + side.ira_untaxed + side.pension + side.foreign
 }
@@ -43,7 +43,7 @@ fn untaxed_income(side: &Side) -> i64
 // What is taken off income (HEA 480(e)).
 fn income_offsets(side: &Side) -> i64
     ensures value { result ≡ income_offsets_of side.now }
-    ensures in_range { IsWithin (pos 0) (pos 299999997) result }
+    ensures in_range { IsSumOf 3 result }
 {
     side.grants + side.credits + side.work_study
 }
@@ -52,7 +52,7 @@ fn income_offsets(side: &Side) -> i64
 #[tactic(auto, unfolding(crate::specs::Household::tax_allowance))]
 pub fn tax_allowance(side: &Side) -> i64
     ensures value { result ≡ tax_allowance_of side.now }
-    ensures in_range { unsigned_abs result ≤ 100000000 }
+    ensures in_range { IsSumOf 1 result }
 {
     side.tax.max(0)
 }
@@ -60,7 +60,8 @@ pub fn tax_allowance(side: &Side) -> i64
 // What both earned.
 fn earned(side: &Side) -> i64
     ensures value { result ≡ earned_of side.now }
-    ensures in_range { IsWithin (pos 0) (pos 199999998) result }
+    ensures not_negative { pos 0 ≤ℤ result }
+    ensures in_range { IsSumOf 2 result }
 {
     side.earned_first + side.earned_second
 }
@@ -81,7 +82,7 @@ fn medicare_threshold(payroll: &Payroll, married: bool) -> i64
 #[tactic(auto, unfolding(crate::specs::Household::payroll_allowance))]
 pub fn payroll_allowance(payroll: &Payroll, married: bool, side: &Side) -> i64
     ensures value { result ≡ payroll_allowance_of payroll.now married side.now }
-    ensures in_range { unsigned_abs result ≤ 600000000 }
+    ensures in_range { IsSumOf 5 result }
 {
     let insurance = oasdi(payroll, side.earned_first) + oasdi(payroll, side.earned_second);
     insurance + medicare(payroll, married, earned(side))
@@ -92,7 +93,7 @@ pub fn payroll_allowance(payroll: &Payroll, married: bool, side: &Side) -> i64
 fn oasdi(payroll: &Payroll, earned: i64) -> i64
     requires { IsAmount earned }
     ensures value { result ≡ oasdi_of payroll.now earned }
-    ensures in_range { unsigned_abs result ≤ 100000000 }
+    ensures in_range { IsSumOf 1 result }
 {
     share(earned.min(payroll.oasdi_cap), payroll.oasdi_rate)
 }
@@ -100,9 +101,10 @@ fn oasdi(payroll: &Payroll, earned: i64) -> i64
 // The Medicare tax of what both earned.
 #[tactic(auto, unfolding(crate::specs::Household::medicare))]
 fn medicare(payroll: &Payroll, married: bool, earned: i64) -> i64
-    requires { IsWithin (pos 0) (pos 199999998) earned }
+    requires not_negative { pos 0 ≤ℤ earned }
+    requires in_range { IsSumOf 2 earned }
     ensures value { result ≡ medicare_of payroll.now married earned }
-    ensures in_range { unsigned_abs result ≤ 399999996 }
+    ensures in_range { IsSumOf 3 result }
 {
     let threshold = medicare_threshold(payroll, married);
     share(earned.min(threshold), payroll.medicare_rate)
@@ -113,7 +115,7 @@ fn medicare(payroll: &Payroll, married: bool, earned: i64) -> i64
 #[tactic(auto, unfolding(crate::specs::Household::employment_allowance))]
 pub fn employment_allowance(employment: &Employment, side: &Side) -> i64
     ensures value { result ≡ employment_allowance_of employment.now side.now }
-    ensures in_range { unsigned_abs result ≤ 200000000 }
+    ensures in_range { IsSumOf 2 result }
 {
     employment.cap.min(share(earned(side), employment.rate))
 }
@@ -123,7 +125,7 @@ pub fn employment_allowance(employment: &Employment, side: &Side) -> i64
 pub fn business_worth(rows: &Brackets, x: i64) -> i64
     requires { IsAmount x }
     ensures value { result ≡ business_worth_of rows.now x }
-    ensures in_range { unsigned_abs result ≤ 300000000 }
+    ensures in_range { IsSumOf 3 result }
 {
     match value_at(rows, x) {
         Some(value) => value,
@@ -156,9 +158,9 @@ pub fn asset_contribution(discretionary: i64, rate: i64) -> i64
 /// The assessment schedule's value of an adjusted available income (HEA 475(e), 477(d)).
 #[tactic(auto, unfolding(crate::specs::Household::schedule_value))]
 pub fn schedule_value(book: &Book, x: i64) -> i64
-    requires { unsigned_abs x ≤ 100000000000 }
+    requires { IsSumOf 280 x }
     ensures value { result ≡ schedule_value_of book.now x }
-    ensures in_range { unsigned_abs result ≤ 200000000 + unsigned_abs x }
+    ensures in_range { IsSumOf 282 result }
 {
     if x < book.schedule.low_at {
         return book.schedule.low;
@@ -171,31 +173,10 @@ pub fn schedule_value(book: &Book, x: i64) -> i64
 
 /// A table's value at an amount, where a row begins below it.
 pub fn value_at(rows: &Brackets, x: i64) -> Option<i64>
-    requires { unsigned_abs x ≤ 100000000000 }
+    requires { IsSumOf 280 x }
     ensures value { result ≡ value_at_of rows.now x }
-    ensures in_range { IfSome result (λ v. unsigned_abs v ≤ 200000000 + unsigned_abs x) }
+    ensures in_range { (n : ℕ) → IsSumOf n x → IfSome result (IsSumOf (n + 2)) }
 {
     let row = rows.row_at(x)?;
     Some(row.base + share(x - row.over, row.rate))
-}
-
-/// The sum of the four allowances.
-pub fn sum_of_allowances(tax: i64, payroll: i64, protection: i64, employment: i64) -> i64
-    requires tax_in_range { unsigned_abs tax ≤ 100000000 }
-    requires payroll_in_range { unsigned_abs payroll ≤ 600000000 }
-    requires protection_in_range { unsigned_abs protection ≤ 30000000000 }
-    requires employment_in_range { unsigned_abs employment ≤ 200000000 }
-    ensures value { result ≡ tax +ℤ payroll +ℤ protection +ℤ employment }
-    ensures in_range { unsigned_abs result ≤ 40000000000 }
-{
-    tax + payroll + protection + employment
-}
-
-/// The net worth of a household, from the adjusted net worth of its business.
-pub fn net_worth(side: &Side, business: i64) -> i64
-    requires { unsigned_abs business ≤ 300000000 }
-    ensures value { result ≡ side.now.support +ℤ side.now.cash +ℤ side.now.investments +ℤ business }
-    ensures in_range { unsigned_abs result ≤ 700000000 }
-{
-    side.support + side.cash + side.investments + business
 }

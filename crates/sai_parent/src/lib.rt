@@ -1,7 +1,8 @@
 //! The parents' lines of need analysis, and the lines that every household has (HEA 475 to 478, 480).
 #![tactic(auto)]
 
-ghost use Rattle.std.specs.Prelude.{◌≡◌, ◌≤◌, unsigned_abs};
+ghost use Rattle.std.specs.Prelude.{◌≡◌};
+ghost use Rattle.aid_types.specs.Ranges.{IsSumOf};
 ghost use Rattle.sai_parent.specs.Lines.{AreParentLines, parent_lines};
 ghost use Rattle.sai_parent.specs.declared.ParentLines.{ParentLines as Lines};
 
@@ -11,8 +12,8 @@ mod lines;
 use aid_books::Book;
 use aid_types::Application;
 pub use household::{
-    asset_contribution, asset_protection, business_worth, employment_allowance, net_worth,
-    payroll_allowance, schedule_value, sum_of_allowances, tax_allowance, total_income,
+    asset_contribution, asset_protection, business_worth, employment_allowance, payroll_allowance,
+    schedule_value, tax_allowance, total_income,
 };
 pub use lines::{assessed, income_and_assets};
 
@@ -40,8 +41,8 @@ pub fn parents(book: &Book, a: &Application) -> ParentLines
     ensures lines { AreParentLines book.now a.now result }
     ensures only { (lines : Lines) → AreParentLines book.now a.now lines → lines ≡ result }
     ensures value { result ≡ parent_lines book.now a.now }
-    ensures adjusted_in_range { unsigned_abs result.adjusted ≤ 42000000000 }
-    ensures contribution_in_range { unsigned_abs result.contribution ≤ 42200000000 }
+    ensures adjusted_in_range { IsSumOf 280 result.adjusted }
+    ensures contribution_in_range { IsSumOf 282 result.contribution }
 {
     let protection = book.protection.parents.at(a.family);
     let employment = employment_allowance(&book.employment, &a.parents);

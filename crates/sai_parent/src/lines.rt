@@ -1,12 +1,12 @@
 //! The lines of a household together.
-ghost use Rattle.std.specs.Prelude.{◌≡◌, ◌≤◌, unsigned_abs};
-ghost use Rattle.aid_types.specs.Ranges.{IsRate};
+ghost use Rattle.std.specs.Prelude.{◌≡◌};
+ghost use Rattle.aid_types.specs.Ranges.{IsRate, IsSumOf};
 ghost use Rattle.sai_parent.specs.Lines.{AreHouseholdLines, IsNotAssessed, assessed_lines, household_lines};
 
 use crate::ParentLines;
 use crate::household::{
-    asset_contribution, asset_protection, business_worth, net_worth, payroll_allowance,
-    schedule_value, sum_of_allowances, tax_allowance, total_income,
+    asset_contribution, asset_protection, business_worth, payroll_allowance, schedule_value,
+    tax_allowance, total_income,
 };
 use aid_books::Book;
 use aid_types::Side;
@@ -22,21 +22,24 @@ pub fn income_and_assets(
     employment: i64,
     rate: i64,
 ) -> ParentLines
-    requires protection_in_range { unsigned_abs protection ≤ 30000000000 }
-    requires employment_in_range { unsigned_abs employment ≤ 200000000 }
+    requires protection_in_range { IsSumOf 256 protection }
+    requires employment_in_range { IsSumOf 2 employment }
     requires rate_in_range { IsRate rate }
     ensures lines { AreHouseholdLines book.now side.now married age protection employment rate result }
     ensures not_assessed { IsNotAssessed result }
     ensures value { result ≡ household_lines book.now side.now married age protection employment rate }
-    ensures available_in_range { unsigned_abs result.available ≤ 41000000000 }
-    ensures assets_in_range { unsigned_abs result.from_assets ≤ 1000000000 }
+
+    // Nine amounts of income less allowances of 1, 5, 256 and 2; six of worth less the one that is protected.
+    ensures available_in_range { IsSumOf 273 result.available }
+    ensures assets_in_range { IsSumOf 7 result.from_assets }
 {
     let total = total_income(side);
     let tax = tax_allowance(side);
     let payroll = payroll_allowance(&book.payroll, married, side);
-    let allowances = sum_of_allowances(tax, payroll, protection, employment);
+    let allowances = tax + payroll + protection + employment;
+    let available = total - allowances;
     let business = business_worth(&book.business, side.business);
-    let worth = net_worth(side, business);
+    let worth = side.support + side.cash + side.investments + business;
     let asset_protection = asset_protection(&book.age, married, age);
     let discretionary = worth - asset_protection;
     ParentLines {
@@ -46,7 +49,7 @@ pub fn income_and_assets(
         protection,
         employment,
         allowances,
-        available: total - allowances,
+        available,
         business,
         worth,
         asset_protection,
@@ -59,11 +62,11 @@ pub fn income_and_assets(
 
 /// These lines of a household that the schedule assesses.
 pub fn assessed(book: &Book, mut lines: ParentLines) -> ParentLines
-    requires available_in_range { unsigned_abs lines.available ≤ 41000000000 }
-    requires assets_in_range { unsigned_abs lines.from_assets ≤ 1000000000 }
+    requires available_in_range { IsSumOf 273 lines.available }
+    requires assets_in_range { IsSumOf 7 lines.from_assets }
     ensures value { result ≡ assessed_lines book.now lines }
-    ensures adjusted_in_range { unsigned_abs result.adjusted ≤ 42000000000 }
-    ensures contribution_in_range { unsigned_abs result.contribution ≤ 42200000000 }
+    ensures adjusted_in_range { IsSumOf 280 result.adjusted }
+    ensures contribution_in_range { IsSumOf 282 result.contribution }
 {
     lines.adjusted = lines.available + lines.from_assets;
     lines.contribution = schedule_value(book, lines.adjusted);

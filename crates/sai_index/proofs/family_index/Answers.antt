@@ -7,5 +7,5 @@ use Rattle.sai_index.proofs.family_index.Goals as goal
 pub returns-clause-value : goal.returns-clause-value
 returns-clause-value c =
     let own = c.family-own.ensures.value in
-    let raw = machine c.family-own.result.contribution 42200000000 c.family-own.ensures.contribution_in_range (lit< tt) ∙ (λ i. (own i).contribution) in
+    let raw = machine c.family-own.result.contribution _ c.family-own.ensures.contribution_in_range (lit< tt) ∙ (λ i. (own i).contribution) in
     c.indexed.ensures.value ∙ (λ i. indexed C (c.no_lines.ensures i) (own i) (pos 0) (raw i))

@@ -10,8 +10,8 @@ returns-clause-value c =
     let book = c.args.book.now in
     let a = c.args.a.now in
     let age : to_z w64 (of_z w64 c.from.result) ≡ pos a.parent_age = omega (arith, ints, c.from.ensures) in
-    let allowed = machine c.at-protection.result 30000000000 c.at-protection.ensures.in_range (lit< tt) ∙ c.at-protection.ensures.value in
-    let working = machine c.employment_allowance-employment.result 200000000 c.employment_allowance-employment.ensures.in_range (lit< tt) ∙ c.employment_allowance-employment.ensures.value in
+    let allowed = machine c.at-protection.result _ c.at-protection.ensures.in_range (lit< tt) ∙ c.at-protection.ensures.value in
+    let working = machine c.employment_allowance-employment.result _ c.employment_allowance-employment.ensures.in_range (lit< tt) ∙ c.employment_allowance-employment.ensures.value in
     let rate = machine book.assets.parents_rate 10000 (omega (arith, ints, book.assets.in_range.0)) (lit< tt) in
     c.assessed.ensures.value ∙ ap (assessed_lines book) (c.income_and_assets-lines.ensures.value
     ∙ (λ i. household_lines book a.parents a.parents_married (age i) (allowed i) (working i) (rate i)))

@@ -3,8 +3,8 @@ use Rattle.std.proofs.lemmas.Int.{ints}
 use Rattle.aid_books.specs.declared.book.Book.{Book}
 use Rattle.sai_index.proofs.student.age.Goals as goal
 
-pub returns-clause-value : goal.returns-clause-value
-returns-clause-value c =
+pub returns : goal.returns
+returns c =
     let year : c.from.result ≡ pos c.args.book.now.year = c.from.ensures ∙ ap (λ (b : Book). pos b.year) c.book.view_is in
     let birth_year : c.from-2.result ≡ pos c.args.a.now.birth_year = c.from-2.ensures in
     omega (arith, ints)

@@ -1,41 +1,58 @@
-use Rattle.std.proofs.Common.{◌+ℤ◌, to_z, of_z, w64, unsigned_abs, ◌≤◌, refl, arith, lit<, ap, ◌∙◌}
+use Rattle.std.proofs.Common.{◌≡◌, pos, refl, sym, subst, arith, lit<, lit≤, ◌∙◌}
 use Rattle.std.proofs.lemmas.Int.{ints}
-use Rattle.aid_num.proofs.Machine.{difference_is, difference_most, machine}
 use Rattle.aid_num.specs.Nearest.{share}
-use Rattle.sai_index.proofs.IndexLaws.{dependent_lines-only}
+use Rattle.aid_num.proofs.Machine.{machine}
+use Rattle.sai_parent.proofs.Sums.{amount, answer, minus, minus_fits, no_greater, plus}
+use Rattle.sai_index.specs.Index.{AreDependentLines, dependent_lines}
+use Rattle.sai_index.proofs.IndexLaws.{dependent_lines-are}
 use Rattle.sai_index.proofs.student.dependent.Goals as goal
 
-pub returns-clause-lines : goal.returns-clause-lines
-returns-clause-lines c =
-    let total = machine c.total_income-total.result 1000000000 c.total_income-total.ensures.in_range (lit< tt) in
-    let tax = machine c.tax_allowance-tax.result 100000000 c.tax_allowance-tax.ensures.in_range (lit< tt) in
-    let payroll = machine c.payroll_allowance-payroll.result 600000000 c.payroll_allowance-payroll.ensures.in_range (lit< tt) in
-    let shortfall = machine c.shortfall-shortfall.result 42000000000 c.shortfall-shortfall.ensures.in_range (lit< tt) in
-    let allowances = machine c.dependent_allowances-allowances.result 43000000000 c.dependent_allowances-allowances.ensures.in_range (lit< tt) in
-    let worth = machine c.assets-worth.result 300000000 c.assets-worth.ensures.in_range (lit< tt) in
-    let share_small : unsigned_abs c.share.result ≤ 300000000 = omega (arith, ints, rw worth at c.share.ensures.no_greater, c.assets-worth.ensures.in_range) in
+pub overflow_sub-available : goal.overflow_sub-available
+overflow_sub-available c =
+    let book = c.args.book.now in
+    let tax = answer 1 c.tax_allowance-tax.result _ c.tax_allowance-tax.ensures.in_range (lit≤ tt) refl in
+    let payroll = answer 5 c.payroll_allowance-payroll.result _ c.payroll_allowance-payroll.ensures.in_range (lit≤ tt) refl in
+    let protection = amount book.protection.dependent_student book.protection.in_range.0 in
+    let shortfall = answer 280 c.shortfall-shortfall.result _ c.shortfall-shortfall.ensures.in_range (lit≤ tt) refl in
+    let allowances = plus (plus (plus tax payroll (lit≤ tt)) protection (lit≤ tt)) shortfall (lit≤ tt) in
+    minus_fits (answer 9 c.total_income-total.result _ c.total_income-total.ensures.in_range (lit≤ tt) refl) allowances (lit≤ tt)
+
+pub returns : goal.returns
+returns c =
+    let book = c.args.book.now in
+    let a = c.args.a.now in
+    let side = a.own in
+    let parent = c.args.parent.now in
+    let total = answer 9 c.total_income-total.result _ c.total_income-total.ensures.in_range (lit≤ tt) c.total_income-total.ensures.value in
+    let tax = answer 1 c.tax_allowance-tax.result _ c.tax_allowance-tax.ensures.in_range (lit≤ tt) c.tax_allowance-tax.ensures.value in
+    let payroll = answer 5 c.payroll_allowance-payroll.result _ c.payroll_allowance-payroll.ensures.in_range (lit≤ tt) c.payroll_allowance-payroll.ensures.value in
+    let protection = amount book.protection.dependent_student book.protection.in_range.0 in
+    let shortfall = answer 280 c.shortfall-shortfall.result _ c.shortfall-shortfall.ensures.in_range (lit≤ tt) c.shortfall-shortfall.ensures.value in
+    let allowances = plus (plus (plus tax payroll (lit≤ tt)) protection (lit≤ tt)) shortfall (lit≤ tt) in
+    let available = minus total allowances (lit≤ tt) in
+    let worth = plus (plus (amount side.cash side.in_range.13) (amount side.investments side.in_range.14) (lit≤ tt)) (amount side.business side.in_range.15) (lit≤ tt) in
+    let rate = machine book.assets.dependent_rate 10000 (omega (arith, ints, book.assets.in_range.1)) (lit< tt) in
+    let from_assets = answer 3 c.share.result _ (no_greater c.share.result worth c.share.ensures.no_greater) (lit≤ tt)
+    (c.share.ensures.value ∙ (λ i. share (worth.is i) (rate i))) in
+    let value : _ ≡ dependent_lines book a parent = λ i. record {
+      total = total.is i;
+      tax = tax.is i;
+      payroll = payroll.is i;
+      protection = protection.is i;
+      employment = pos 0;
+      allowances = allowances.is i;
+      available = available.is i;
+      business = pos 0;
+      worth = worth.is i;
+      asset_protection = pos 0;
+      discretionary = worth.is i;
+      from_assets = from_assets.is i;
+      adjusted = pos 0;
+      contribution = pos 0;
+    } in
     record {
-      total = total ∙ c.total_income-total.ensures.value;
-      tax = tax ∙ c.tax_allowance-tax.ensures.value;
-      payroll = payroll ∙ c.payroll_allowance-payroll.ensures.value;
-      protection = machine c.args.book.now.protection.dependent_student 99999999 (omega (arith, ints, c.args.book.now.protection.in_range.0)) (lit< tt);
-      employment = refl;
-      allowances = allowances ∙ c.dependent_allowances-allowances.ensures.value ∙ ap (λ z. to_z w64 (of_z w64 c.tax_allowance-tax.result) +ℤ to_z w64 (of_z w64 c.payroll_allowance-payroll.result) +ℤ to_z w64 (of_z w64 c.args.book.now.protection.dependent_student) +ℤ z) (shortfall ∙ c.shortfall-shortfall.ensures.value);
-      available = difference_is c.total_income-total.result c.dependent_allowances-allowances.result 1000000000 43000000000 c.total_income-total.ensures.in_range c.dependent_allowances-allowances.ensures.in_range (lit< tt)
-          ∙ rw (total, allowances) refl;
-      business = refl;
-      worth = worth ∙ c.assets-worth.ensures.value;
-      asset_protection = refl;
-      discretionary = refl;
-      from_assets = machine c.share.result 300000000 share_small (lit< tt)
-          ∙ c.share.ensures.value
-          ∙ ap (share _) (machine c.args.book.now.assets.dependent_rate 10000 (omega (arith, ints, c.args.book.now.assets.in_range.1)) (lit< tt));
-      not_assessed = record { adjusted = refl; contribution = refl };
+      lines = subst (AreDependentLines book a parent) (sym value) (dependent_lines-are book a parent);
+      value = value;
+      available_in_range = rw available.is available.most;
+      assets_in_range = rw from_assets.is from_assets.most;
     }
-
-pub returns-clause-value : goal.returns-clause-value
-returns-clause-value c = dependent_lines-only c.args.book.now c.args.a.now c.args.parent.now _ (returns-clause-lines c)
-
-pub returns-clause-available_in_range : goal.returns-clause-available_in_range
-returns-clause-available_in_range c =
-    difference_most c.total_income-total.result c.dependent_allowances-allowances.result 1000000000 43000000000 c.total_income-total.ensures.in_range c.dependent_allowances-allowances.ensures.in_range (lit< tt)

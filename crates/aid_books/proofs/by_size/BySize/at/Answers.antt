@@ -1,8 +1,8 @@
-use Rattle.std.proofs.Common.{◌≡◌, ℤ, ℕ, pos, ◌+ℤ◌, ◌*ℤ◌, ◌-◌, ◌*◌, ◌<◌, ◌≤◌, min, length, slice_index_or, FitsSigned, to_z, of_z, w64, unsigned_abs, arith, lit<, ap, ◌∙◌}
+use Rattle.std.proofs.Common.{◌≡◌, ℤ, ℕ, pos, ◌+ℤ◌, ◌*ℤ◌, ◌-◌, ◌<◌, min, length, slice_index_or, FitsSigned, to_z, of_z, w64, unsigned_abs, arith, lit<, ap, ◌∙◌}
 use Rattle.std.proofs.lemmas.Int.{ints, unsigned_abs-mul}
 use Rattle.std.proofs.lemmas.Nat.{mul-le}
 use Rattle.aid_num.proofs.Machine.{fits as fits_of, machine}
-use Rattle.aid_types.specs.Ranges.{IsAmount}
+use Rattle.aid_types.specs.Ranges.{IsAmount, IsSumOf}
 use Rattle.aid_books.specs.BySize.{by_size}
 use Rattle.aid_books.proofs.RangeLemmas.{EachIsAmount-at}
 use Rattle.aid_books.proofs.by_size.BySize.at.Goals as goal
@@ -11,7 +11,7 @@ record Sized (entry past extra product sum : ℤ) : Type 0 where
   product_fits : FitsSigned w64 product
   fits : FitsSigned w64 sum
   value : to_z w64 (of_z w64 sum) ≡ entry +ℤ past *ℤ extra
-  in_range : unsigned_abs (to_z w64 (of_z w64 sum)) ≤ 30000000000
+  in_range : IsSumOf 256 (to_z w64 (of_z w64 sum))
 
 -- the code's sum, for a family of so many members past the last entry
 sized : (entry extra : ℤ) (p : ℕ) → p < 256 → IsAmount entry → IsAmount extra
@@ -20,13 +20,13 @@ sized entry extra p h k l =
     let past_is : to_z w64 p ≡ pos p = omega (arith, ints) in
     let extra_is : to_z w64 (of_z w64 extra) ≡ extra = omega (arith, ints) in
     let entry_is : to_z w64 (of_z w64 entry) ≡ entry = omega (arith, ints) in
-    let most : unsigned_abs (pos p *ℤ extra) ≤ 255 * 99999999 = omega (arith, unsigned_abs-mul (pos p) extra, mul-le p (unsigned_abs extra) 255 99999999 (omega arith) (omega (arith, ints))) in
-    let product_is = machine (pos p *ℤ extra) (255 * 99999999) most (lit< tt) in
-    let sum_most : unsigned_abs (entry +ℤ pos p *ℤ extra) ≤ 30000000000 = omega (arith, ints, most) in
-    let sum_is = machine (entry +ℤ pos p *ℤ extra) 30000000000 sum_most (lit< tt) in
+    let most : IsSumOf 255 (pos p *ℤ extra) = omega (arith, unsigned_abs-mul (pos p) extra, mul-le p (unsigned_abs extra) 255 100000000 (omega arith) (omega (arith, ints))) in
+    let product_is = machine (pos p *ℤ extra) _ most (lit< tt) in
+    let sum_most : IsSumOf 256 (entry +ℤ pos p *ℤ extra) = omega (arith, ints, most) in
+    let sum_is = machine (entry +ℤ pos p *ℤ extra) _ sum_most (lit< tt) in
     rw (past_is, extra_is, entry_is, product_is) (record {
-      product_fits = fits_of (pos p *ℤ extra) (255 * 99999999) most (lit< tt);
-      fits = fits_of (entry +ℤ pos p *ℤ extra) 30000000000 sum_most (lit< tt);
+      product_fits = fits_of _ _ most (lit< tt);
+      fits = fits_of _ _ sum_most (lit< tt);
       value = sum_is;
       in_range = rw sum_is sum_most;
     })
