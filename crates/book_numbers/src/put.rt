@@ -2,6 +2,7 @@
 ghost use Rattle.std.specs.Prelude.{◌≡◌, ◌≤◌, ◌+◌, ◌∷◌, [], ◌++◌, ℤ, List, flat_map, length, pos};
 ghost use Rattle.arrayvec.specs.ArrayVec.{array_vec_len};
 ghost use Rattle.book_numbers.specs.Book.{age_numbers, age_row, asset_numbers, bracket_numbers, bracket_row, employment_numbers, numbers_of, payroll_numbers, pell_numbers, percent_numbers, poverty_numbers, protection_numbers, schedule_numbers, size_numbers};
+ghost use Rattle.filing_kinds.specs.Forms.{most_numbers};
 ghost use Rattle.filing_kinds.specs.Kinds.{book_slots};
 ghost use Rattle.filing_kinds.specs.Layout.{AreNumbers};
 
@@ -9,31 +10,22 @@ use aid_books::{
     AgeRow, AssetRates, Book, Bracket, BySize, Employment, Payroll, PellFigures, Percents, Poverty,
     Protection, Schedule,
 };
-use filing_kinds::Numbers;
-
-// Puts some numbers.
-fn put(list: &[i64], numbers: &mut Numbers)
-    requires { array_vec_len numbers.old + length list.now ≤ 369 }
-    ensures added { numbers.new.items ≡ numbers.old.items ++ list.now }
-    ensures count { array_vec_len numbers.new ≡ array_vec_len numbers.old + length list.now }
-{
-    numbers.try_extend_from_slice(list).unwrap();
-}
+use filing_kinds::{Numbers, add_numbers};
 
 fn put_pell_figures(pell: &PellFigures, numbers: &mut Numbers)
-    requires { array_vec_len numbers.old + 2 ≤ 369 }
+    requires { array_vec_len numbers.old + 2 ≤ most_numbers }
     ensures added { numbers.new.items ≡ numbers.old.items ++ pell_numbers pell.now }
     ensures count { array_vec_len numbers.new ≡ array_vec_len numbers.old + 2 }
 {
-    put(&[pell.maximum, pell.minimum], numbers);
+    add_numbers(&[pell.maximum, pell.minimum], numbers);
 }
 
 fn put_percents(percent: &Percents, numbers: &mut Numbers)
-    requires { array_vec_len numbers.old + 7 ≤ 369 }
+    requires { array_vec_len numbers.old + 7 ≤ most_numbers }
     ensures added { numbers.new.items ≡ numbers.old.items ++ percent_numbers percent.now }
     ensures count { array_vec_len numbers.new ≡ array_vec_len numbers.old + 7 }
 {
-    put(
+    add_numbers(
         &[
             percent.maximum_single,
             percent.maximum_other,
@@ -51,16 +43,16 @@ fn put_by_size<const FIRST: u8, const COUNT: usize>(
     by_size: &BySize<FIRST, COUNT>,
     numbers: &mut Numbers,
 )
-    requires { array_vec_len numbers.old + (COUNT + 1) ≤ 369 }
+    requires { array_vec_len numbers.old + (COUNT + 1) ≤ most_numbers }
     ensures added { numbers.new.items ≡ numbers.old.items ++ size_numbers by_size.now }
     ensures count { array_vec_len numbers.new ≡ array_vec_len numbers.old + (COUNT + 1) }
 {
-    put(&by_size.sizes, numbers);
+    add_numbers(&by_size.sizes, numbers);
     numbers.push(by_size.extra);
 }
 
 fn put_poverty(poverty: &Poverty, numbers: &mut Numbers)
-    requires { array_vec_len numbers.old + 27 ≤ 369 }
+    requires { array_vec_len numbers.old + 27 ≤ most_numbers }
     ensures added { numbers.new.items ≡ numbers.old.items ++ poverty_numbers poverty.now }
     ensures count { array_vec_len numbers.new ≡ array_vec_len numbers.old + 27 }
 {
@@ -70,11 +62,11 @@ fn put_poverty(poverty: &Poverty, numbers: &mut Numbers)
 }
 
 fn put_payroll(payroll: &Payroll, numbers: &mut Numbers)
-    requires { array_vec_len numbers.old + 6 ≤ 369 }
+    requires { array_vec_len numbers.old + 6 ≤ most_numbers }
     ensures added { numbers.new.items ≡ numbers.old.items ++ payroll_numbers payroll.now }
     ensures count { array_vec_len numbers.new ≡ array_vec_len numbers.old + 6 }
 {
-    put(
+    add_numbers(
         &[
             payroll.oasdi_cap,
             payroll.oasdi_rate,
@@ -88,12 +80,12 @@ fn put_payroll(payroll: &Payroll, numbers: &mut Numbers)
 }
 
 fn put_protection(protection: &Protection, numbers: &mut Numbers)
-    requires { array_vec_len numbers.old + 21 ≤ 369 }
+    requires { array_vec_len numbers.old + 21 ≤ most_numbers }
     ensures added { numbers.new.items ≡ numbers.old.items ++ protection_numbers protection.now }
     ensures count { array_vec_len numbers.new ≡ array_vec_len numbers.old + 21 }
 {
     put_by_size(&protection.parents, numbers);
-    put(
+    add_numbers(
         &[
             protection.dependent_student,
             protection.single_student,
@@ -106,19 +98,19 @@ fn put_protection(protection: &Protection, numbers: &mut Numbers)
 }
 
 fn put_employment(employment: &Employment, numbers: &mut Numbers)
-    requires { array_vec_len numbers.old + 2 ≤ 369 }
+    requires { array_vec_len numbers.old + 2 ≤ most_numbers }
     ensures added { numbers.new.items ≡ numbers.old.items ++ employment_numbers employment.now }
     ensures count { array_vec_len numbers.new ≡ array_vec_len numbers.old + 2 }
 {
-    put(&[employment.cap, employment.rate], numbers);
+    add_numbers(&[employment.cap, employment.rate], numbers);
 }
 
 fn put_asset_rates(assets: &AssetRates, numbers: &mut Numbers)
-    requires { array_vec_len numbers.old + 4 ≤ 369 }
+    requires { array_vec_len numbers.old + 4 ≤ most_numbers }
     ensures added { numbers.new.items ≡ numbers.old.items ++ asset_numbers assets.now }
     ensures count { array_vec_len numbers.new ≡ array_vec_len numbers.old + 4 }
 {
-    put(
+    add_numbers(
         &[
             assets.parents_rate,
             assets.dependent_rate,
@@ -130,16 +122,16 @@ fn put_asset_rates(assets: &AssetRates, numbers: &mut Numbers)
 }
 
 fn put_bracket(row: &Bracket, numbers: &mut Numbers)
-    requires { array_vec_len numbers.old + 3 ≤ 369 }
+    requires { array_vec_len numbers.old + 3 ≤ most_numbers }
     ensures added { numbers.new.items ≡ numbers.old.items ++ bracket_row row.now }
     ensures count { array_vec_len numbers.new ≡ array_vec_len numbers.old + 3 }
 {
-    put(&[row.over, row.base, row.rate], numbers);
+    add_numbers(&[row.over, row.base, row.rate], numbers);
 }
 
 fn put_brackets(rows: &[Bracket], numbers: &mut Numbers)
     requires few { length rows.now ≤ 16 }
-    requires room { array_vec_len numbers.old + 49 ≤ 369 }
+    requires room { array_vec_len numbers.old + 49 ≤ most_numbers }
     ensures added { numbers.new.items ≡ numbers.old.items ++ bracket_numbers rows.now }
     ensures count { array_vec_len numbers.new ≤ array_vec_len numbers.old + 49 }
 {
@@ -150,16 +142,16 @@ fn put_brackets(rows: &[Bracket], numbers: &mut Numbers)
 }
 
 fn put_age(row: &AgeRow, numbers: &mut Numbers)
-    requires { array_vec_len numbers.old + 3 ≤ 369 }
+    requires { array_vec_len numbers.old + 3 ≤ most_numbers }
     ensures added { numbers.new.items ≡ numbers.old.items ++ age_row row.now }
     ensures count { array_vec_len numbers.new ≡ array_vec_len numbers.old + 3 }
 {
-    put(&[row.start, row.single, row.married], numbers);
+    add_numbers(&[row.start, row.single, row.married], numbers);
 }
 
 fn put_ages(rows: &[AgeRow], numbers: &mut Numbers)
     requires few { length rows.now ≤ 64 }
-    requires room { array_vec_len numbers.old + 193 ≤ 369 }
+    requires room { array_vec_len numbers.old + 193 ≤ most_numbers }
     ensures added { numbers.new.items ≡ numbers.old.items ++ age_numbers rows.now }
     ensures count { array_vec_len numbers.new ≤ array_vec_len numbers.old + 193 }
 {
@@ -170,11 +162,11 @@ fn put_ages(rows: &[AgeRow], numbers: &mut Numbers)
 }
 
 fn put_schedule(schedule: &Schedule, numbers: &mut Numbers)
-    requires { array_vec_len numbers.old + 5 ≤ 369 }
+    requires { array_vec_len numbers.old + 5 ≤ most_numbers }
     ensures added { numbers.new.items ≡ numbers.old.items ++ schedule_numbers schedule.now }
     ensures count { array_vec_len numbers.new ≡ array_vec_len numbers.old + 5 }
 {
-    put(
+    add_numbers(
         &[
             schedule.low_at,
             schedule.low,
@@ -188,12 +180,12 @@ fn put_schedule(schedule: &Schedule, numbers: &mut Numbers)
 
 /// Puts the numbers of a book.
 pub fn put_book(book: &Book, numbers: &mut Numbers)
-    requires { array_vec_len numbers.old + 367 ≤ 369 }
+    requires { array_vec_len numbers.old + 367 ≤ most_numbers }
     ensures added { numbers.new.items ≡ numbers.old.items ++ numbers_of book.now }
     ensures in_range { (earlier : List ℤ) → AreNumbers book_slots earlier (numbers_of book.now) }
     ensures few { length (numbers_of book.now) ≤ 367 }
 {
-    put(&[1, i64::from(book.year.number())], numbers);
+    add_numbers(&[1, i64::from(book.year.number())], numbers);
     put_pell_figures(&book.pell, numbers);
     put_percents(&book.percent, numbers);
     put_poverty(&book.poverty, numbers);

@@ -1,16 +1,17 @@
 -- One number's bytes: what was read was spelled so, and what was spelled is read again.
-use Rattle.std.proofs.Common.{◌≡◌, ℕ, suc, ◌+◌, ◌-◌, ◌^◌, ◌<◌, ◌≤◌, ℤ, pos, negsuc, ◌-ℤ◌, ◌≤ℤ◌, lit<, Bool, true, false, cond, ltb, lt-ltb, List, ◌++◌, length, take, drop, Option, Some, None, refl, sym, ap, subst, ◌∙◌, arith, length-append, inl, inr}
+use Rattle.std.proofs.Common.{◌≡◌, ℕ, suc, ◌+◌, ◌-◌, ◌^◌, ◌<◌, ◌≤◌, ℤ, pos, negsuc, ◌-ℤ◌, ◌≤ℤ◌, lit<, cond, lt-ltb, List, ◌++◌, length, take, drop, Result, Ok, Err, refl, sym, ap, subst, ◌∙◌, arith, length-append, inl, inr}
 use Rattle.std.specs.Int.{w64, to_le_bytes, from_le_bytes, cast_unsigned}
-use Rattle.std.proofs.lemmas.Bool.{cases_lt, ltb-false, le-ltb}
+use Rattle.std.proofs.lemmas.Bool.{cases_lt, le-ltb}
 use Rattle.std.proofs.lemmas.Int.{ints}
-use Rattle.std.proofs.lemmas.List.{take_at, length-take-le, take-append-drop}
+use Rattle.std.proofs.lemmas.List.{drop_at, take_at, length-take-le, take-append-drop}
 use Rattle.filing_kinds.specs.Forms.{IsHeld}
-use Rattle.filing_kinds.specs.Limits.{fits}
-use Rattle.filing_kinds.specs.Parts.{Line, width_of}
+use Rattle.filing_kinds.specs.Parts.{width_of}
+use Rattle.filing_kinds.specs.Walk.{Found}
 use Rattle.filing_kinds.specs.declared.field.Form.{Form}
 use Rattle.filing_kinds.specs.declared.field.Form.TheVariants.{U8, U16, U32, U64, I64, Cents, Day, Flag, Program, Count}
 use Rattle.filing_codec.specs.Spelling.{number_bytes}
-use Rattle.filing_codec.specs.Taking.{number_at, tested, value_in, with_sign}
+use Rattle.filing_codec.specs.Reading.{front_value}
+use Rattle.filing_codec.specs.Taking.{Placed, front_number, placed, value_in, with_sign}
 use Rattle.filing_codec.proofs.Widths.{AreBytes, AreBytes-take, Width, bytes_again, low_four, size, size-word, within_word, word_again}
 use Rattle.filing_codec.proofs.Widths.Width.{one, two, four, eight}
 
@@ -50,6 +51,18 @@ width_at_most Day = omega arith
 width_at_most Flag = omega arith
 width_at_most Program = omega arith
 width_at_most Count = omega arith
+
+pub width-positive : (form : Form) → 1 ≤ width_of form
+width-positive U8 = omega arith
+width-positive U16 = omega arith
+width-positive U32 = omega arith
+width-positive U64 = omega arith
+width-positive I64 = omega arith
+width-positive Cents = omega arith
+width-positive Day = omega arith
+width-positive Flag = omega arith
+width-positive Program = omega arith
+width-positive Count = omega arith
 
 pub length-number_bytes : (form : Form) (z : ℤ) → length (number_bytes form z) ≡ width_of form
 length-number_bytes form z = length-take-le (width_of form) (to_le_bytes w64 (cast_unsigned w64 z)) (width_at_most form)
@@ -140,39 +153,43 @@ bytes_of_value Flag front len fits = bytes_again one front len fits
 bytes_of_value Program front len fits = bytes_again one front len fits
 bytes_of_value Count front len fits = bytes_again one front len fits
 
--- what a field's number at the front of bytes says of them
-pub record TakesNumber (line : Line) (earlier : List ℤ) (bytes : List ℕ) (z : ℤ) : Type 0 where
-  pub parts : bytes ≡ number_bytes line.form z ++ drop (width_of line.form) bytes
-  pub within : fits line.limit earlier z ≡ true
+-- ---- the number at the front of bytes
+-- a number with the bytes behind it
+abbrev pub found_at : Form → ℕ → List ℕ → ℤ → Found Placed
+found_at form place bytes z = record { number = z; rest = placed (place + width_of form) (drop (width_of form) bytes) }
 
-enough : (b : Bool) (x : Option ℤ) (z : ℤ) → cond b None x ≡ Some z → (b ≡ false) × (x ≡ Some z)
-enough true x z e = absurd cc
-enough false x z e = (refl, e)
+pub short : (form : Form) (place : ℕ) (bytes : List ℕ) → length bytes < width_of form → front_number form (placed place bytes) ≡ Err place
+short form place bytes lt = ap (λ b. cond b (Err place) (Ok (found_at form place bytes (front_value form bytes)))) (lt-ltb (length bytes) (width_of form) lt)
 
-passed : (b : Bool) (y z : ℤ) → cond b (Some y) None ≡ Some z → (b ≡ true) × (y ≡ z)
-passed true y z e = (refl, cc)
-passed false y z e = absurd cc
+pub long : (form : Form) (place : ℕ) (bytes : List ℕ) → width_of form ≤ length bytes → front_number form (placed place bytes) ≡ Ok (found_at form place bytes (front_value form bytes))
+long form place bytes le = ap (λ b. cond b (Err place) (Ok (found_at form place bytes (front_value form bytes)))) (le-ltb (length bytes) (width_of form) le)
 
-pub number_takes : (line : Line) (earlier : List ℤ) (bytes : List ℕ) (z : ℤ) → AreBytes bytes → number_at line earlier bytes ≡ Some z → TakesNumber line earlier bytes z
-number_takes line earlier bytes z are e =
-    let w = width_of line.form in
-    let front = take w bytes in
-    let value = value_in line.form (from_le_bytes w64 front) in
-    let a = enough (ltb (length bytes) w) (tested line earlier value) z e in
-    let b = passed (fits line.limit earlier value) value z a.1 in
-    let le : w ≤ length bytes = ltb-false (length bytes) w a.0 in
-    let again : number_bytes line.form value ≡ front = bytes_of_value line.form front (length-take-le w bytes le) (AreBytes-take w bytes are) in
-    let whole : bytes ≡ number_bytes line.form value ++ drop w bytes = sym (take-append-drop w bytes) ∙ ap (λ (bs : List ℕ). bs ++ drop w bytes) (sym again) in
-    subst (TakesNumber line earlier bytes) b.1 (record { parts = whole; within = b.0 })
+no_fault : (r : Result (Found Placed) ℕ) (place : ℕ) (found : Found Placed) → r ≡ Err place → r ≡ Ok found → ⊥
+no_fault r place found e h = cc
 
-pub number_again : (line : Line) (earlier : List ℤ) (z : ℤ) (rest : List ℕ) → IsHeld line.form z → fits line.limit earlier z ≡ true → number_at line earlier (number_bytes line.form z ++ rest) ≡ Some z
-number_again line earlier z rest held within =
-    let w = width_of line.form in
-    let front = number_bytes line.form z in
-    let bytes = front ++ rest in
-    let len : length front ≡ w = length-number_bytes line.form z in
-    let le : w ≤ length bytes = omega (arith, length-append front rest, len) in
-    ap (λ b. cond b None (tested line earlier (value_in line.form (from_le_bytes w64 (take w bytes))))) (le-ltb (length bytes) w le)
-    ∙ ap (λ (bs : List ℕ). tested line earlier (value_in line.form (from_le_bytes w64 bs))) (take_at front rest w len)
-    ∙ ap (tested line earlier) (value_again line.form z held)
-    ∙ ap (λ b. cond b (Some z) None) within
+one_found : (r : Result (Found Placed) ℕ) (f g : Found Placed) → r ≡ Ok f → r ≡ Ok g → f ≡ g
+one_found r f g e h = cc
+
+-- what it says of them
+pub number_takes : (form : Form) (at : Placed) (found : Found Placed) → AreBytes at.bytes → front_number form at ≡ Ok found → at.bytes ≡ number_bytes form found.number ++ found.rest.bytes
+number_takes form at found are e =
+    let w = width_of form in
+    let front = take w at.bytes in
+    let value = value_in form (from_le_bytes w64 front) in
+    elim (cases_lt (length at.bytes) w) [
+      | inl lt ↦ absurd (no_fault (front_number form at) at.place found (short form at.place at.bytes lt) e)
+      | inr le ↦
+          let again : number_bytes form value ≡ front = bytes_of_value form front (length-take-le w at.bytes le) (AreBytes-take w at.bytes are) in
+          let whole : at.bytes ≡ number_bytes form value ++ drop w at.bytes = sym (take-append-drop w at.bytes) ∙ ap (λ (bs : List ℕ). bs ++ drop w at.bytes) (sym again) in
+          let same = one_found (front_number form at) (found_at form at.place at.bytes value) found (long form at.place at.bytes le) e in
+          subst (λ (f : Found Placed). at.bytes ≡ number_bytes form f.number ++ f.rest.bytes) same whole
+    ]
+
+pub number_again : (form : Form) (place : ℕ) (z : ℤ) (rest : List ℕ) → IsHeld form z → front_number form (placed place (number_bytes form z ++ rest)) ≡ Ok (record { number = z; rest = placed (place + width_of form) rest })
+number_again form place z rest held =
+    let w = width_of form in
+    let front = number_bytes form z in
+    let len : length front ≡ w = length-number_bytes form z in
+    let le : w ≤ length (front ++ rest) = omega (arith, length-append front rest, len) in
+    let value : front_value form (front ++ rest) ≡ z = ap (λ (bs : List ℕ). value_in form (from_le_bytes w64 bs)) (take_at front rest w len) ∙ value_again form z held in
+    long form place (front ++ rest) le ∙ (λ i. Ok (record { number = value i; rest = placed (place + w) (drop_at front rest w len i) }))

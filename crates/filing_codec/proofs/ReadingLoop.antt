@@ -1,128 +1,56 @@
--- Reading numbers one after the other, as a loop does.
-use Rattle.std.proofs.Common.{◌≡◌, ℕ, zero, suc, ◌+◌, ◌-◌, ◌≤◌, inl, inr, ℤ, Bool, true, false, cond, ltb, lt-ltb, List, [], ◌∷◌, ◌++◌, length, drop, reverse, Option, Some, None, Result, Ok, Err, FitsSigned, w64, refl, sym, ap, ◌∙◌, arith, append_assoc}
+-- Reading numbers from bytes one after the other, as a loop does.
+use Rattle.std.proofs.Common.{◌≡◌, ℕ, ◌+◌, ◌<◌, inl, inr, ℤ, true, false, List, [], ◌∷◌, length, drop, Some, None, Ok, Err, refl, sym, ap, ◌∙◌, reverse}
 use Rattle.std.specs.Prelude.{option_map, slice_get}
-use Rattle.std.proofs.lemmas.Bool.{le-ltb}
-use Rattle.std.proofs.lemmas.Int.{ints}
-use Rattle.std.proofs.lemmas.List.{reverse-append}
-use Rattle.filing_codec.specs.Reading.{IsNumber, IsNoNumber, front_value}
-use Rattle.filing_codec.specs.Taking.{number_at, numbers_at, put_first, tested, with_next}
-use Rattle.filing_kinds.specs.Draft.{Progress, may_follow, onward}
-use Rattle.filing_kinds.specs.Forms.{IsHeld}
-use Rattle.filing_kinds.specs.Layout.{after}
-use Rattle.filing_kinds.specs.Limits.{IsNarrow, fits}
-use Rattle.filing_kinds.specs.Parts.{Line, Slot, width_of}
+use Rattle.std.proofs.lemmas.Bool.{cases_lt}
+use Rattle.filing_kinds.specs.Draft.{Progress, accepts, onward}
+use Rattle.filing_kinds.specs.Forms.{IsHeld, most_numbers}
+use Rattle.filing_kinds.specs.Parts.{Line, width_of}
 use Rattle.filing_kinds.specs.declared.field.Form.{Form}
-use Rattle.filing_kinds.specs.declared.field.Form.TheVariants.{U8, U16, U32, U64, I64, Cents, Day, Flag, Program, Count}
-use Rattle.filing_kinds.proofs.Laws.{IsHeld-IsNarrow}
+use Rattle.filing_kinds.proofs.WalkLaws.{IsNext, all_put, none_found, numbers_with, past_limit, past_word, put_next, too_much_left}
+use Rattle.filing_codec.specs.Reading.{IsNumber, IsNoNumber, front_value}
+use Rattle.filing_codec.specs.Taking.{byte_source, front_number, place_left, placed}
+use Rattle.filing_codec.proofs.NumberLaws.{found_at, long, short}
 
--- what was read before, newest first, and what is still read
-abbrev pub with_front : List ℤ → Result (List ℤ) ℕ → Result (List ℤ) ℕ
-with_front earlier (Ok zs) = Ok (reverse earlier ++ zs)
-with_front earlier (Err place) = Err place
+is_found : (form : Form) (place : ℕ) (bytes : List ℕ) (z : ℤ) → IsNumber form bytes z → front_number form (placed place bytes) ≡ Ok (found_at form place bytes z)
+is_found form place bytes z h = long form place bytes h.enough ∙ ap (λ y. Ok (found_at form place bytes y)) (sym h.value)
 
--- ---- one number
-pub number_at-yes : (line : Line) (earlier : List ℤ) (bytes : List ℕ) (z : ℤ) → IsNumber line.form bytes z → fits line.limit earlier z ≡ true → number_at line earlier bytes ≡ Some z
-number_at-yes line earlier bytes z h f =
-    ap (λ b. cond b None (tested line earlier (front_value line.form bytes))) (le-ltb (length bytes) (width_of line.form) h.enough)
-    ∙ ap (tested line earlier) (sym h.value) ∙ ap (λ b. cond b (Some z) None) f
+-- what is known where the next number is read
+pub record IsReading (draft : Progress) (line : Line) : Type 0 where
+  pub next : IsNext line draft.slots
+  pub room : length draft.earlier < most_numbers
+  pub held : (z : ℤ) → accepts draft z ≡ true → IsHeld line.form z
 
-pub number_at-not : (line : Line) (earlier : List ℤ) (bytes : List ℕ) (z : ℤ) → IsNumber line.form bytes z → fits line.limit earlier z ≡ false → number_at line earlier bytes ≡ None
-number_at-not line earlier bytes z h f =
-    ap (λ b. cond b None (tested line earlier (front_value line.form bytes))) (le-ltb (length bytes) (width_of line.form) h.enough)
-    ∙ ap (tested line earlier) (sym h.value) ∙ ap (λ b. cond b (Some z) None) f
+-- there is none
+pub is_short : (draft : Progress) (place : ℕ) (bytes : List ℕ) (line : Line) → IsReading draft line → IsNoNumber line.form bytes → numbers_with byte_source draft (placed place bytes) ≡ Err place
+is_short draft place bytes line r (inl lt) = none_found byte_source draft (placed place bytes) line place r.next r.room (short line.form place bytes lt)
+is_short draft place bytes line r (inr wide) = elim (cases_lt (length bytes) (width_of line.form)) [
+  | inl lt ↦ none_found byte_source draft (placed place bytes) line place r.next r.room (short line.form place bytes lt)
+  | inr le ↦ past_limit byte_source draft (placed place bytes) line (found_at line.form place bytes (front_value line.form bytes)) r.next r.room (long line.form place bytes le)
+      (past_word draft line.form (front_value line.form bytes) r.held wide)
+]
 
-untested : (z : ℤ) (b : Bool) → (b ≡ true → ⊥) → cond b (Some z) None ≡ None
-untested z true fails = absurd (fails refl)
-untested z false fails = refl
+-- it is past its limit
+pub is_past : (draft : Progress) (place : ℕ) (bytes : List ℕ) (line : Line) (z : ℤ) → IsReading draft line → IsNumber line.form bytes z → accepts draft z ≡ false
+    → numbers_with byte_source draft (placed place bytes) ≡ Err place
+is_past draft place bytes line z r n past = past_limit byte_source draft (placed place bytes) line (found_at line.form place bytes z) r.next r.room (is_found line.form place bytes z n) past
 
-none_anyway : (b : Bool) (o : Option ℤ) → o ≡ None → cond b None o ≡ None
-none_anyway true o e = refl
-none_anyway false o e = e
+-- it is put behind the others
+pub goes_on : (draft next : Progress) (place : ℕ) (bytes behind : List ℕ) (line : Line) (z : ℤ) (width : ℕ) → IsReading draft line → IsNumber line.form bytes z → accepts draft z ≡ true → next ≡ onward draft z
+    → width ≡ width_of line.form → behind ≡ drop width bytes → numbers_with byte_source next (placed (place + width) behind) ≡ numbers_with byte_source draft (placed place bytes)
+goes_on draft next place bytes behind line z width r n fit is w b =
+    rw (b, w) (put_next byte_source draft next (placed place bytes) line (found_at line.form place bytes z) r.next r.room (is_found line.form place bytes z n) fit is)
 
-pub number_at-none : (line : Line) (earlier : List ℤ) (bytes : List ℕ) → IsNoNumber line.form bytes → ((z : ℤ) → fits line.limit earlier z ≡ true → IsHeld line.form z) → number_at line earlier bytes ≡ None
-number_at-none line earlier bytes (inl short) held = ap (λ b. cond b None (tested line earlier (front_value line.form bytes))) (lt-ltb (length bytes) (width_of line.form) short)
-number_at-none line earlier bytes (inr past) held =
-    let z = front_value line.form bytes in
-    let narrow_fits : IsNarrow z → FitsSigned w64 z = λ h. omega (arith, ints) in
-    let none = untested z (fits line.limit earlier z) (λ f. past (narrow_fits (IsHeld-IsNarrow line.form z (held z f)))) in
-    none_anyway (ltb (length bytes) (width_of line.form)) (tested line earlier z) none
+-- none is to come, and no byte is left, or some are
+none_left : (place : ℕ) (bytes : List ℕ) → length bytes ≡ 0 → place_left place bytes ≡ None
+none_left place [] e = refl
+none_left place (b ∷ bytes) e = absurd cc
 
--- ---- the next of several
-line_is : (a b : Line) → Some a ≡ Some b → b ≡ a
-line_is a b e = cc
+some_left : (place : ℕ) (bytes : List ℕ) → (length bytes ≡ 0 → ⊥) → place_left place bytes ≡ Some place
+some_left place [] e = absurd (e refl)
+some_left place (b ∷ bytes) e = refl
 
-abbrev IsNext : Line → List Slot → Type 0
-IsNext line slots = Some line ≡ option_map (λ slot. slot.line) (slice_get slots 0)
+pub is_done : (draft : Progress) (place : ℕ) (bytes : List ℕ) → None ≡ option_map (λ slot. slot.line) (slice_get draft.slots 0) → length bytes ≡ 0 → numbers_with byte_source draft (placed place bytes) ≡ Ok (reverse draft.earlier)
+is_done draft place bytes none e = all_put byte_source draft (placed place bytes) none (none_left place bytes e)
 
-follow_is : (line : Line) (slots : List Slot) (earlier : List ℤ) (z : ℤ) → IsNext line slots → may_follow slots earlier z ≡ fits line.limit earlier z
-follow_is line [] earlier z e = absurd (cc)
-follow_is line (slot ∷ slots) earlier z e = ap (λ l. fits l.limit earlier z) (line_is line slot.line e)
-
-next_fault : (most : ℕ) (slots : List Slot) (earlier : List ℤ) (place : ℕ) (bytes : List ℕ) (line : Line) → IsNext line slots → number_at line earlier bytes ≡ None → numbers_at most slots earlier place bytes ≡ Err place
-next_fault most [] earlier place bytes line e n = absurd (cc)
-next_fault zero (slot ∷ slots) earlier place bytes line e n = refl
-next_fault (suc most) (slot ∷ slots) earlier place bytes line e n =
-    let width = width_of slot.line.form in
-    let found = ap (λ l. number_at l earlier bytes) (line_is line slot.line e) ∙ n in
-    ap (λ o. with_next o place (λ z. numbers_at most (after (slot ∷ slots) z) (z ∷ earlier) (place + width) (drop width bytes))) found
-
-next_number : (most : ℕ) (slots : List Slot) (earlier : List ℤ) (place : ℕ) (bytes : List ℕ) (line : Line) (z : ℤ) → IsNext line slots → number_at line earlier bytes ≡ Some z → 1 ≤ most
-    → numbers_at most slots earlier place bytes ≡ put_first z (numbers_at (most - 1) (after slots z) (z ∷ earlier) (place + width_of line.form) (drop (width_of line.form) bytes))
-next_number most [] earlier place bytes line z e n h = absurd (cc)
-next_number zero (slot ∷ slots) earlier place bytes line z e n h = absurd (omega arith)
-next_number (suc most) (slot ∷ slots) earlier place bytes line z e n h =
-    let width = width_of slot.line.form in
-    let same = line_is line slot.line e in
-    let found = ap (λ l. number_at l earlier bytes) same ∙ n in
-    let less : most ≡ suc most - 1 = omega arith in
-    ap (λ o. with_next o place (λ y. numbers_at most (after (slot ∷ slots) y) (y ∷ earlier) (place + width) (drop width bytes))) found
-    ∙ (λ i. put_first z (numbers_at (less i) (after (slot ∷ slots) z) (z ∷ earlier) (place + width_of (same i).form) (drop (width_of (same i).form) bytes)))
-
--- a fault is where the loop stands
-pub faults : (most : ℕ) (slots : List Slot) (earlier : List ℤ) (place : ℕ) (bytes : List ℕ) (line : Line) (total : Result (List ℤ) ℕ) → IsNext line slots → number_at line earlier bytes ≡ None
-    → with_front earlier (numbers_at most slots earlier place bytes) ≡ total → total ≡ Err place
-faults most slots earlier place bytes line total e n so_far = sym so_far ∙ ap (with_front earlier) (next_fault most slots earlier place bytes line e n)
-
-pub is_short : (most : ℕ) (slots : List Slot) (earlier : List ℤ) (place : ℕ) (bytes : List ℕ) (line : Line) (total : Result (List ℤ) ℕ) → IsNext line slots → IsNoNumber line.form bytes
-    → ((z : ℤ) → may_follow slots earlier z ≡ true → IsHeld line.form z)
-    → with_front earlier (numbers_at most slots earlier place bytes) ≡ total → total ≡ Err place
-is_short most slots earlier place bytes line total e n held so_far =
-    let none = number_at-none line earlier bytes n (λ z f. held z (follow_is line slots earlier z e ∙ f)) in
-    faults most slots earlier place bytes line total e none so_far
-
-pub is_past : (most : ℕ) (slots : List Slot) (earlier : List ℤ) (place : ℕ) (bytes : List ℕ) (line : Line) (z : ℤ) (total : Result (List ℤ) ℕ) → IsNext line slots → IsNumber line.form bytes z
-    → may_follow slots earlier z ≡ false
-    → with_front earlier (numbers_at most slots earlier place bytes) ≡ total → total ≡ Err place
-is_past most slots earlier place bytes line z total e n f so_far =
-    faults most slots earlier place bytes line total e (number_at-not line earlier bytes z n (sym (follow_is line slots earlier z e) ∙ f)) so_far
-
-regroup : (earlier : List ℤ) (z : ℤ) (read : Result (List ℤ) ℕ) → with_front earlier (put_first z read) ≡ with_front (z ∷ earlier) read
-regroup earlier z (Ok zs) = ap (λ (ys : List ℤ). Ok ys) (sym (append_assoc (reverse earlier) (z ∷ []) zs) ∙ ap (λ ys. ys ++ zs) (sym (reverse-append (z ∷ []) earlier)))
-regroup earlier z (Err later) = refl
-
--- after a number was read, the numbers so far and those to come are still the same
-pub goes_on : (all : ℕ) (slots : List Slot) (earlier : List ℤ) (place : ℕ) (bytes behind : List ℕ) (line : Line) (z : ℤ) (width : ℕ) (next : Progress) (total : Result (List ℤ) ℕ)
-    → IsNext line slots → IsNumber line.form bytes z → may_follow slots earlier z ≡ true → next ≡ onward (record { slots = slots; earlier = earlier }) z → width ≡ width_of line.form → behind ≡ drop width bytes
-    → length earlier + 1 ≤ all
-    → with_front earlier (numbers_at (all - length earlier) slots earlier place bytes) ≡ total
-    → with_front next.earlier (numbers_at (all - length next.earlier) next.slots next.earlier (place + width) behind) ≡ total
-goes_on all slots earlier place bytes behind line z width next total e n f is w b room so_far =
-    let found = number_at-yes line earlier bytes z n (sym (follow_is line slots earlier z e) ∙ f) in
-    let one = next_number (all - length earlier) slots earlier place bytes line z e found (omega arith) in
-    let less : all - length (z ∷ earlier) ≡ all - length earlier - 1 = omega arith in
-    rw (is, b, w, less) (sym (regroup earlier z _) ∙ sym (ap (with_front earlier) one) ∙ so_far)
-
-pub width-positive : (form : Form) → 1 ≤ width_of form
-width-positive U8 = omega arith
-width-positive U16 = omega arith
-width-positive U32 = omega arith
-width-positive U64 = omega arith
-width-positive I64 = omega arith
-width-positive Cents = omega arith
-width-positive Day = omega arith
-width-positive Flag = omega arith
-width-positive Program = omega arith
-width-positive Count = omega arith
-
-pub earlier_is : (next draft : Progress) (z : ℤ) → next ≡ onward draft z → length next.earlier ≡ 1 + length draft.earlier
-earlier_is next draft z e = ap (λ (p : Progress). length p.earlier) e ∙ omega arith
+pub is_too_long : (draft : Progress) (place : ℕ) (bytes : List ℕ) → None ≡ option_map (λ slot. slot.line) (slice_get draft.slots 0) → (length bytes ≡ 0 → ⊥) → numbers_with byte_source draft (placed place bytes) ≡ Err place
+is_too_long draft place bytes none e = too_much_left byte_source draft (placed place bytes) place none (some_left place bytes e)

@@ -4,63 +4,51 @@ use Rattle.std.proofs.Common.{◌≡◌, ℕ, zero, suc, ◌+◌, ◌*◌, ◌�
 use Rattle.std.specs.Int.{w64, from_le_bytes}
 use Rattle.std.proofs.lemmas.Bool.{and_parts, eqb-true}
 use Rattle.std.proofs.lemmas.List.{drop_at, take_at}
-use Rattle.filing_kinds.specs.Forms.{IsHeld, are_sound, is_sound_slot}
-use Rattle.filing_kinds.specs.Kinds.{code_of, kind_at, kinds, row_of, slots_of_kind}
+use Rattle.filing_kinds.specs.Forms.{IsHeld, are_sound, is_sound_slot, most_numbers}
+use Rattle.filing_kinds.specs.Kinds.{code_of, kind_at, kinds, slots_of_kind, table_row_of}
 use Rattle.filing_kinds.specs.Layout.{AreNumbers, after}
 use Rattle.filing_kinds.specs.Limits.{IsNarrow, fits}
 use Rattle.filing_kinds.specs.Parts.{Slot, width_of}
+use Rattle.filing_kinds.specs.Walk.{Found, nothing_left, number_first, numbers_from, numbers_of_kind}
 use Rattle.filing_kinds.specs.declared.field.Form.{Form}
 use Rattle.filing_kinds.specs.declared.kind.Kind.{Kind}
 use Rattle.filing_kinds.specs.declared.kind.Kind.TheVariants.{Book, School, Calendar, Prior, Apply, Enrol, Originate, Pay, Withdraw, Repay, Adjust}
 use Rattle.filing_kinds.proofs.Laws.{All-IsNarrow-cons, IsHeld-IsNarrow, IsSound-slot, are_sound-after, are_sound-kind, few_numbers, fits-IsHeld}
+use Rattle.filing_kinds.proofs.WalkLaws.{firsts, found_leads, led_to}
 use Rattle.filing_codec.specs.Spelling.{number_bytes, numbers_bytes}
-use Rattle.filing_codec.specs.Taking.{number_at, numbers_at, of_kind, put_first, taken, value_in, with_kind, with_next}
+use Rattle.filing_codec.specs.Taking.{Placed, byte_source, of_kind, place_left, placed, taken, value_in, with_kind}
 use Rattle.filing_codec.proofs.NumberLaws.{length-number_bytes, number_again, number_takes, value_again, width_at_most}
-use Rattle.filing_codec.proofs.ReadingLoop.{width-positive}
 use Rattle.filing_codec.proofs.Widths.{AreBytes, AreBytes-drop}
 
 abbrev pub done : {A : Type 0} → A → Result A ℕ
 done x = Ok x
 
 -- ---- lists of numbers
-
--- a number that was read, and those behind it
-record Firsts (first : Option ℤ) (others : ℤ → Result (List ℤ) ℕ) (zs : List ℤ) : Type 0 where
-  z : ℤ
-  rest : List ℤ
-  first_is : first ≡ Some z
-  others_are : others z ≡ Ok rest
-  zs_are : z ∷ rest ≡ zs
-
-put_firsts : (z : ℤ) (others : ℤ → Result (List ℤ) ℕ) (read : Result (List ℤ) ℕ) (zs : List ℤ) → others z ≡ read → put_first z read ≡ done zs → Firsts (Some z) others zs
-put_firsts z others (Ok rest) zs r e = record { z = z; rest = rest; first_is = refl; others_are = r; zs_are = cc }
-put_firsts z others (Err later) zs r e = absurd cc
-
-firsts : (first : Option ℤ) (place : ℕ) (others : ℤ → Result (List ℤ) ℕ) (zs : List ℤ) → with_next first place others ≡ done zs → Firsts first others zs
-firsts None place others zs e = absurd cc
-firsts (Some z) place others zs e = put_firsts z others (others z) zs refl e
-
 -- what the bytes say where numbers were read from all of them
 pub record AllTaken (slots : List Slot) (earlier : List ℤ) (bytes : List ℕ) (zs : List ℤ) : Type 0 where
   pub spelled : bytes ≡ numbers_bytes slots zs
   pub are : AreNumbers slots earlier zs
 
-none_left : (most : ℕ) (earlier : List ℤ) (place : ℕ) (bytes : List ℕ) (zs : List ℤ) → numbers_at most [] earlier place bytes ≡ done zs → AllTaken [] earlier bytes zs
-none_left most earlier place [] [] e = record { spelled = refl; are = tt }
-none_left most earlier place [] (z ∷ zs) e = absurd cc
-none_left most earlier place (b ∷ bytes) zs e = absurd cc
+none_left : (earlier : List ℤ) (place : ℕ) (bytes : List ℕ) (zs : List ℤ) → nothing_left (place_left place bytes) ≡ done zs → AllTaken [] earlier bytes zs
+none_left earlier place [] [] e = record { spelled = refl; are = tt }
+none_left earlier place [] (z ∷ zs) e = absurd cc
+none_left earlier place (b ∷ bytes) zs e = absurd cc
 
-pub numbers_take : (most : ℕ) (slots : List Slot) (earlier : List ℤ) (place : ℕ) (bytes : List ℕ) (zs : List ℤ) → AreBytes bytes → numbers_at most slots earlier place bytes ≡ done zs → AllTaken slots earlier bytes zs
-numbers_take most [] earlier place bytes zs are e = none_left most earlier place bytes zs e
-numbers_take zero (slot ∷ slots) earlier place bytes zs are e = absurd cc
-numbers_take (suc most) (slot ∷ slots) earlier place bytes zs are e =
-    let w = width_of slot.line.form in
-    let a = firsts (number_at slot.line earlier bytes) place (λ z. numbers_at most (after (slot ∷ slots) z) (z ∷ earlier) (place + w) (drop w bytes)) zs e in
-    let first = number_takes slot.line earlier bytes a.z are a.first_is in
-    let others = numbers_take most (after (slot ∷ slots) a.z) (a.z ∷ earlier) (place + w) (drop w bytes) a.rest (AreBytes-drop w bytes are) a.others_are in
-    subst (AllTaken (slot ∷ slots) earlier bytes) a.zs_are (record {
-      spelled = first.parts ∙ ap (λ (bs : List ℕ). number_bytes slot.line.form a.z ++ bs) others.spelled;
-      are = (first.within, others.are);
+AreBytes-behind : (front bytes all : List ℕ) → all ≡ front ++ bytes → AreBytes all → AreBytes bytes
+AreBytes-behind front bytes all e are = subst AreBytes (drop_at front bytes (length front) refl) (AreBytes-drop (length front) (front ++ bytes) (subst AreBytes e are))
+
+pub numbers_take : (most : ℕ) (slots : List Slot) (earlier : List ℤ) (at : Placed) (zs : List ℤ) → AreBytes at.bytes → numbers_from byte_source most slots earlier at ≡ done zs → AllTaken slots earlier at.bytes zs
+unfolding numbers_from
+numbers_take most [] earlier at zs are e = none_left earlier at.place at.bytes zs e
+numbers_take zero (slot ∷ slots) earlier at zs are e = absurd cc
+numbers_take (suc most) (slot ∷ slots) earlier at zs are e =
+    let a = firsts byte_source most slot slots earlier at zs e in
+    let first = number_takes slot.line.form at a.found are a.found_is in
+    let others = numbers_take most (after (slot ∷ slots) a.found.number) (a.found.number ∷ earlier) a.found.rest a.others
+    (AreBytes-behind (number_bytes slot.line.form a.found.number) a.found.rest.bytes at.bytes first are) a.others_are in
+    subst (AllTaken (slot ∷ slots) earlier at.bytes) a.numbers_are (record {
+      spelled = first ∙ ap (λ (bs : List ℕ). number_bytes slot.line.form a.found.number ++ bs) others.spelled;
+      are = (a.within, others.are);
     })
 
 -- slots of the table after narrow numbers
@@ -81,28 +69,25 @@ AreKept-after slot slots earlier z kept f = record {
 pub AreKept-kind : (kind : Kind) → AreKept (slots_of_kind kind) []
 AreKept-kind kind = record { sound = are_sound-kind kind; narrow = λ k d below. absurd (omega arith) }
 
-pub numbers_again : (most : ℕ) (slots : List Slot) (earlier : List ℤ) (place : ℕ) (zs : List ℤ) → AreKept slots earlier → AreNumbers slots earlier zs → length (numbers_bytes slots zs) ≤ most
-    → numbers_at most slots earlier place (numbers_bytes slots zs) ≡ done zs
+pub numbers_again : (most : ℕ) (slots : List Slot) (earlier : List ℤ) (place : ℕ) (zs : List ℤ) → AreKept slots earlier → AreNumbers slots earlier zs → length zs ≤ most
+    → numbers_from byte_source most slots earlier (placed place (numbers_bytes slots zs)) ≡ done zs
+unfolding numbers_from
 numbers_again most [] earlier place [] kept are room = refl
 numbers_again most [] earlier place (z ∷ zs) kept are room = absurd are
 numbers_again most (slot ∷ slots) earlier place [] kept are room = absurd are
-numbers_again zero (slot ∷ slots) earlier place (z ∷ zs) kept are room =
-    absurd (omega (arith, length-append (number_bytes slot.line.form z) (numbers_bytes (after (slot ∷ slots) z) zs), length-number_bytes slot.line.form z, width-positive slot.line.form))
+numbers_again zero (slot ∷ slots) earlier place (z ∷ zs) kept are room = absurd (omega arith)
 numbers_again (suc most) (slot ∷ slots) earlier place (z ∷ zs) kept are room =
-    let w = width_of slot.line.form in
+    let form = slot.line.form in
     let rest = numbers_bytes (after (slot ∷ slots) z) zs in
-    let bytes = number_bytes slot.line.form z ++ rest in
-    let within = are.0 in
-    let first = number_again slot.line earlier z rest (is_held slot slots earlier z kept within) within in
-    let behind : drop w bytes ≡ rest = drop_at (number_bytes slot.line.form z) rest w (length-number_bytes slot.line.form z) in
-    let fewer : length rest ≤ most = omega (arith, length-append (number_bytes slot.line.form z) rest, length-number_bytes slot.line.form z, width-positive slot.line.form) in
-    ap (λ (o : Option ℤ). with_next o place (λ y. numbers_at most (after (slot ∷ slots) y) (y ∷ earlier) (place + w) (drop w bytes))) first
-    ∙ ap (λ (bs : List ℕ). put_first z (numbers_at most (after (slot ∷ slots) z) (z ∷ earlier) (place + w) bs)) behind
-    ∙ ap (put_first z) (numbers_again most (after (slot ∷ slots) z) (z ∷ earlier) (place + w) zs (AreKept-after slot slots earlier z kept within) are.1 fewer)
+    let found : Found Placed = record { number = z; rest = placed (place + width_of form) rest } in
+    let at = placed place (number_bytes form z ++ rest) in
+    found_leads byte_source most slot slots earlier at found (number_again form place z rest (is_held slot slots earlier z kept are.0))
+    ∙ ap (led_to byte_source most (slot ∷ slots) earlier at found) are.0
+    ∙ ap (number_first z) (numbers_again most (after (slot ∷ slots) z) (z ∷ earlier) (place + width_of form) zs (AreKept-after slot slots earlier z kept are.0) are.1 (omega arith))
 
 -- ---- kinds
 pub kind_again : (kind : Kind) → kind_at (code_of kind) ≡ Some kind
-unfolding row_of
+unfolding table_row_of
 kind_again Book = refl
 kind_again School = refl
 kind_again Calendar = refl
@@ -143,11 +128,11 @@ with_kind_ok : (kind : Kind) (read : Result (List ℤ) ℕ) (row : Row) → with
 with_kind_ok kind (Ok zs) row e = let same = row_is (kind, zs) row e in (same.0, ap (λ (ys : List ℤ). Ok ys) same.1)
 with_kind_ok kind (Err place) row e = absurd cc
 
-of_kind_ok : (kind : Option Kind) (bytes : List ℕ) (row : Row) → of_kind kind bytes ≡ done row → (kind ≡ Some row.0) × (numbers_at (length bytes) (slots_of_kind row.0) [] 1 bytes ≡ Ok row.1)
+of_kind_ok : (kind : Option Kind) (bytes : List ℕ) (row : Row) → of_kind kind bytes ≡ done row → (kind ≡ Some row.0) × (numbers_of_kind byte_source row.0 (placed 1 bytes) ≡ Ok row.1)
 of_kind_ok None bytes row e = absurd cc
 of_kind_ok (Some kind) bytes row e =
-    let h = with_kind_ok kind (numbers_at (length bytes) (slots_of_kind kind) [] 1 bytes) row e in
-    (ap (λ (k : Kind). Some k) h.0, subst (λ (k : Kind). numbers_at (length bytes) (slots_of_kind k) [] 1 bytes ≡ Ok row.1) h.0 h.1)
+    let h = with_kind_ok kind (numbers_of_kind byte_source kind (placed 1 bytes)) row e in
+    (ap (λ (k : Kind). Some k) h.0, subst (λ (k : Kind). numbers_of_kind byte_source k (placed 1 bytes) ≡ Ok row.1) h.0 h.1)
 
 AreBytes-rest : (b : ℕ) (bytes : List ℕ) → AreBytes (b ∷ bytes) → AreBytes bytes
 AreBytes-rest b bytes are i = are (suc i)
@@ -158,15 +143,14 @@ takes kind zs [] are e = absurd cc
 takes kind zs (code ∷ bytes) are e =
     let h = of_kind_ok (kind_at code) bytes (kind, zs) e in
     let code_is : code ≡ code_of kind = kind_takes code kind h.0 in
-    let all = numbers_take (length bytes) (slots_of_kind kind) [] 1 bytes zs (AreBytes-rest code bytes are) h.1 in
+    let all = numbers_take most_numbers (slots_of_kind kind) [] (placed 1 bytes) zs (AreBytes-rest code bytes are) h.1 in
     (all.are, λ i. code_is i ∷ all.spelled i)
 
 -- what was spelled is read again
 pub takes_again : (kind : Kind) (zs : List ℤ) → AreNumbers (slots_of_kind kind) [] zs → taken (row_bytes kind zs) ≡ done (kind, zs)
 takes_again kind zs are =
-    let bytes = numbers_bytes (slots_of_kind kind) zs in
-    ap (λ (k : Option Kind). of_kind k bytes) (kind_again kind)
-    ∙ ap (with_kind kind) (numbers_again (length bytes) (slots_of_kind kind) [] 1 zs (AreKept-kind kind) are (omega arith))
+    ap (λ (k : Option Kind). of_kind k (numbers_bytes (slots_of_kind kind) zs)) (kind_again kind)
+    ∙ ap (with_kind kind) (numbers_again most_numbers (slots_of_kind kind) [] 1 zs (AreKept-kind kind) are (few_numbers kind zs are))
 
 -- ---- no spelling begins another
 record AreAlone (xs ys : List ℤ) (rest : List ℕ) : Type 0 where

@@ -20,11 +20,6 @@ pub record IsNumber (form : Form) (bytes : List ℕ) (z : ℤ) : Type 0 where
 abbrev pub IsNoNumber : Form → List ℕ → Type 0
 IsNoNumber form bytes = (length bytes < width_of form) ⊎ (FitsSigned w64 (front_value form bytes) → ⊥)
 
--- the numbers of a draft are what was read
-abbrev pub Reads : Result Progress ℕ → Result (List ℤ) ℕ → Type 0
-Reads (Ok draft) read = read ≡ Ok (reverse draft.earlier)
-Reads (Err place) read = read ≡ Err place
-
 -- a kind, and the numbers of its draft, are what was read
 abbrev pub ReadsKind : Result (Kind × Progress) ℕ → Result (Kind × List ℤ) ℕ → Type 0
 ReadsKind (Ok found) read = read ≡ Ok (found.0, reverse found.1.earlier)

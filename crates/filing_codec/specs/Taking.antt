@@ -1,11 +1,10 @@
 -- Reading a filing's bytes from left to right, with the place of the first fault.
-use Rattle.std.specs.Prelude.{◌≡◌, ℕ, zero, suc, ◌+◌, ◌-◌, ◌^◌, ◌*◌, ℤ, pos, ◌-ℤ◌, nat_lt, List, [], ◌∷◌, length, take, drop, Option, Some, None, Result, Ok, Err, if◌then◌else◌}
+use Rattle.std.specs.Prelude.{◌≡◌, ℕ, ◌+◌, ◌-◌, ◌^◌, ◌*◌, ℤ, pos, ◌-ℤ◌, nat_lt, List, [], ◌∷◌, length, take, drop, Option, Some, None, Result, Ok, Err, if◌then◌else◌}
 use Rattle.std.specs.Int.{w64, from_le_bytes}
 use Rattle.aid_filings.specs.declared.filing.Filing.{Filing}
-use Rattle.filing_kinds.specs.Kinds.{kind_at, slots_of_kind}
-use Rattle.filing_kinds.specs.Layout.{after}
-use Rattle.filing_kinds.specs.Limits.{fits}
-use Rattle.filing_kinds.specs.Parts.{Line, Slot, width_of}
+use Rattle.filing_kinds.specs.Kinds.{kind_at}
+use Rattle.filing_kinds.specs.Parts.{width_of}
+use Rattle.filing_kinds.specs.Walk.{Found, Source, numbers_of_kind}
 use Rattle.filing_kinds.specs.declared.field.Form.{Form}
 use Rattle.filing_kinds.specs.declared.field.Form.TheVariants.{I64, Day}
 use Rattle.filing_kinds.specs.declared.kind.Kind.{Kind}
@@ -23,35 +22,32 @@ value_in I64 word = with_sign 8 word
 value_in Day word = with_sign 4 word
 value_in _ word = pos word
 
--- the number of a field at the front of the bytes, where they are enough and it is within its limit
-abbrev pub tested : Line → List ℤ → ℤ → Option ℤ
-tested line earlier z = if fits line.limit earlier z then Some z else None
+-- bytes, with the place of the first of them
+pub record Placed : Type 0 where
+  pub place : ℕ
+  pub bytes : List ℕ
 
-abbrev pub number_at : Line → List ℤ → List ℕ → Option ℤ
-number_at line earlier bytes =
-    if nat_lt (length bytes) (width_of line.form) then None
-    else tested line earlier (value_in line.form (from_le_bytes w64 (take (width_of line.form) bytes)))
+abbrev pub placed : ℕ → List ℕ → Placed
+placed place bytes = record { place = place; bytes = bytes }
 
--- a number and those behind it
-abbrev pub put_first : ℤ → Result (List ℤ) ℕ → Result (List ℤ) ℕ
-put_first z (Ok zs) = Ok (z ∷ zs)
-put_first z (Err later) = Err later
+-- the number of a field at the front of the bytes, or their place where they are too few
+abbrev pub front_number : Form → Placed → Result (Found Placed) ℕ
+front_number form at =
+    if nat_lt (length at.bytes) (width_of form) then Err at.place
+    else Ok (record {
+      number = value_in form (from_le_bytes w64 (take (width_of form) at.bytes));
+      rest = placed (at.place + width_of form) (drop (width_of form) at.bytes);
+    })
 
--- what the next number leads to, or its place where there is none
-abbrev pub with_next : Option ℤ → ℕ → (ℤ → Result (List ℤ) ℕ) → Result (List ℤ) ℕ
-with_next None place more = Err place
-with_next (Some z) place more = put_first z (more z)
+-- the place of the first byte too many
+abbrev pub place_left : ℕ → List ℕ → Option ℕ
+place_left place [] = None
+place_left place (b ∷ bytes) = Some place
 
--- The numbers of all that is to come in all of the bytes, which begin at a place, after the numbers before them, newest first;
--- or the place of the first fault: a number that is short or past its limit, or a byte too many. There are at most so many
--- numbers: each takes a byte at least, so the count of the bytes is enough.
-abbrev pub numbers_at : ℕ → List Slot → List ℤ → ℕ → List ℕ → Result (List ℤ) ℕ
-numbers_at most [] earlier place [] = Ok []
-numbers_at most [] earlier place (b ∷ bytes) = Err place
-numbers_at zero (slot ∷ slots) earlier place bytes = Err place
-numbers_at (suc most) (slot ∷ slots) earlier place bytes =
-    with_next (number_at slot.line earlier bytes) place
-    (λ z. numbers_at most (after (slot ∷ slots) z) (z ∷ earlier) (place + width_of slot.line.form) (drop (width_of slot.line.form) bytes))
+-- The numbers of bytes from left to right, with the place of the first fault: a number that is short or past its limit, or a
+-- byte too many.
+abbrev pub byte_source : Source Placed ℕ
+byte_source = record { find = λ before line at. front_number line.form at; past = λ before at. at.place; left = λ at. place_left at.place at.bytes }
 
 -- numbers with their kind
 abbrev pub with_kind : Kind → Result (List ℤ) ℕ → Result (Kind × List ℤ) ℕ
@@ -61,7 +57,7 @@ with_kind kind (Err place) = Err place
 -- the numbers of a kind, behind its code
 abbrev pub of_kind : Option Kind → List ℕ → Result (Kind × List ℤ) ℕ
 of_kind None bytes = Err 0
-of_kind (Some kind) bytes = with_kind kind (numbers_at (length bytes) (slots_of_kind kind) [] 1 bytes)
+of_kind (Some kind) bytes = with_kind kind (numbers_of_kind byte_source kind (placed 1 bytes))
 
 -- the kind and the numbers that the bytes spell, or the place of the first fault; an unknown kind is one at place 0
 abbrev pub taken : List ℕ → Result (Kind × List ℤ) ℕ

@@ -2,11 +2,12 @@
 ghost use Rattle.std.specs.Prelude.{◌≡◌, ◌≢◌, ◌≤◌, ◌*◌, ◌-ℤ◌, [], length, nat_lt, pos, slice_get, Some, None, Ok, Err, IfOk, IfSome, if◌then◌else◌};
 ghost use Rattle.std.specs.Int.{w64, from_le_bytes};
 ghost use Rattle.aid_filings.specs.declared.filing.Filing.{Filing};
-ghost use Rattle.filing_codec.specs.Reading.{IsNumber, IsNoNumber, Reads, ReadsKind};
+ghost use Rattle.filing_codec.specs.Reading.{IsNumber, IsNoNumber, ReadsKind};
 ghost use Rattle.filing_codec.specs.Spelling.{spelling};
-ghost use Rattle.filing_codec.specs.Taking.{Gives, numbers_at as numbers_in, taken, value_in};
+ghost use Rattle.filing_codec.specs.Taking.{Gives, byte_source, placed, taken, value_in};
 ghost use Rattle.filing_kinds.specs.Kinds.{code_of, slots_of_kind};
 ghost use Rattle.filing_kinds.specs.Layout.{AreNumbers};
+ghost use Rattle.filing_kinds.specs.Walk.{numbers_drafted, numbers_of_kind};
 ghost use Rattle.filing_numbers.specs.Numbers.{IsFiling};
 
 use aid_filings::Filing;
@@ -75,7 +76,7 @@ fn draft_in(bytes: &[u8]) -> Result<(Kind, Draft), u64>
 
 // The numbers of a kind in all of the bytes, which stand behind the kind's code.
 fn numbers_at(kind: Kind, bytes: &[u8]) -> Result<Draft, u64>
-    ensures value { Reads result (numbers_in (length bytes.now) (slots_of_kind kind) [] 1 bytes.now) }
+    ensures { numbers_drafted result ≡ numbers_of_kind byte_source kind (placed 1 bytes.now) }
 {
     let mut draft = Draft::new(kind);
     let mut place = 1;

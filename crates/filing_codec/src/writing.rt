@@ -2,11 +2,12 @@
 ghost use Rattle.std.specs.Prelude.{◌≡◌, ◌+◌, ◌*◌, ◌≤◌, ◌++◌, length, List, ℕ};
 ghost use Rattle.aid_filings.specs.declared.filing.Filing.{Filing};
 ghost use Rattle.filing_codec.specs.Spelling.{IsAlone, number_bytes, numbers_bytes, spelling};
+ghost use Rattle.filing_kinds.specs.Forms.{most_numbers};
 ghost use Rattle.filing_kinds.specs.Kinds.{slots_of_kind};
 ghost use Rattle.filing_numbers.specs.Numbers.{IsFiling};
 
 use aid_filings::Filing;
-use filing_kinds::{Form, Kind, Layout, row};
+use filing_kinds::{Form, Kind, Layout, table_row};
 use filing_numbers::{kind, numbers_in};
 use payload::{CAPACITY, Room};
 
@@ -29,12 +30,12 @@ fn put_parts(filing: &Filing, room: &mut Room)
     let kind = kind(&filing.what);
     let numbers = numbers_in(filing);
     room.clear();
-    room.append(&[row(kind).code]);
+    room.append(&[table_row(kind).code]);
     put_numbers(kind, numbers.as_slice(), room);
 }
 
 fn put_numbers(kind: Kind, numbers: &[i64], room: &mut Room)
-    requires few { length numbers.now ≤ 369 }
+    requires few { length numbers.now ≤ most_numbers }
     requires fits { length room.old ≤ 1 }
     ensures added { room.new ≡ room.old ++ numbers_bytes (slots_of_kind kind) numbers.now }
 {

@@ -4,7 +4,7 @@ use Rattle.std.specs.Prelude.{IfSome, option_map, slice_get}
 use Rattle.std.proofs.lemmas.List.{get_or-reverse, length-reverse}
 use Rattle.std.proofs.lemmas.List.Elements.{All-append}
 use Rattle.filing_kinds.specs.Draft.{IsDraft, Progress, accepts, may_follow}
-use Rattle.filing_kinds.specs.Forms.{IsHeld, are_sound, is_sound_slot}
+use Rattle.filing_kinds.specs.Forms.{IsHeld, are_sound, is_sound_slot, most_numbers}
 use Rattle.filing_kinds.specs.Kinds.{slots_of_kind}
 use Rattle.filing_kinds.specs.Layout.{after}
 use Rattle.filing_kinds.specs.Limits.{IsNarrow, fits}
@@ -26,7 +26,7 @@ All-IsNarrow-one z h (suc k) d below = absurd (omega arith)
 pub IsDraft-new : (kind : Kind) → IsDraft (slots_of_kind kind) []
 IsDraft-new kind = record { sound = are_sound-kind kind; narrow = λ k d below. absurd (omega arith); room = omega (arith, most_of-kind kind) }
 
-pub IsDraft-room : (slots : List Slot) (numbers : List ℤ) (line : Line) → Some line ≡ option_map (λ slot. slot.line) (slice_get slots 0) → IsDraft slots numbers → length numbers < 369
+pub IsDraft-room : (slots : List Slot) (numbers : List ℤ) (line : Line) → Some line ≡ option_map (λ slot. slot.line) (slice_get slots 0) → IsDraft slots numbers → length numbers < most_numbers
 IsDraft-room [] numbers line e h = absurd (cc)
 IsDraft-room (slot ∷ slots) numbers line e h = omega (arith, h.room)
 
@@ -66,3 +66,11 @@ IsDraft-at slots after_slots earlier numbers after_numbers line machine tested n
 
 pub IsDraft-none : (kind : Kind) (slots : List Slot) (numbers : List ℤ) → slots ≡ slots_of_kind kind → numbers ≡ [] → IsDraft slots numbers
 IsDraft-none kind slots numbers s n = rw (s, n) (IsDraft-new kind)
+
+-- where a number is to come there is room for it
+pub room_in : (result : Option (Bor Field)) (slots : List Slot) (numbers : List ℤ) (p : Progress) → option_map (λ field. line_of field.now) result ≡ option_map (λ slot. slot.line) (slice_get slots 0)
+    → IsDraft slots numbers → record { slots = slots; earlier = reverse numbers } ≡ p → IfSome result (λ field. length p.earlier < most_numbers)
+room_in None slots numbers p e h v = tt
+room_in (Some field) slots numbers p e h v =
+    let same : length numbers ≡ length p.earlier = sym (length-reverse numbers) ∙ ap (λ (q : Progress). length q.earlier) v in
+    omega (arith, IsDraft-room slots numbers (line_of field.now) e h, same)

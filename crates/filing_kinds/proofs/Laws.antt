@@ -1,4 +1,4 @@
--- What holds of each filing's numbers by the table of kinds: they have room in their bytes, and there are at most 369.
+-- What holds of each filing's numbers by the table of kinds: they have room in their bytes, and there are not more than the most.
 use Rattle.std.proofs.Common.{◌≡◌, ℕ, zero, suc, ◌+◌, ◌*◌, ◌≤◌, ◌^◌, max, ℤ, pos, neg_ℤ, ◌≤ℤ◌, int_le, int_lt, unsigned_abs, true, ◌&&◌, List, [], ◌∷◌, ◌++◌, All, length, map, refl, ◌∙◌, arith, lit≤}
 use Rattle.std.specs.Ordering.{int_eq}
 use Rattle.std.specs.List.{list_all}
@@ -6,8 +6,8 @@ use Rattle.std.proofs.lemmas.Bool.{and_parts, and_from}
 use Rattle.std.proofs.lemmas.Int.{ints}
 use Rattle.std.proofs.lemmas.Nat.{mul-le}
 use Rattle.std.proofs.lemmas.List.Folds.{list_all-append}
-use Rattle.filing_kinds.specs.Forms.{IsHeld, are_sound, highest, holds, is_sound_slot, limit_holds, line_holds, lowest, may_count, most_behind, most_of, most_rows}
-use Rattle.filing_kinds.specs.Kinds.{row_of, slots_of_kind}
+use Rattle.filing_kinds.specs.Forms.{IsHeld, are_sound, highest, holds, is_sound_slot, limit_holds, line_holds, lowest, may_count, most_behind, most_numbers, most_of, most_rows}
+use Rattle.filing_kinds.specs.Kinds.{slots_of_kind, table_row_of}
 use Rattle.filing_kinds.specs.Layout.{AreNumbers, after, plain, rows, rows_again}
 use Rattle.filing_kinds.specs.Limits.{IsNarrow, before, fits, is_between, value_in_row}
 use Rattle.filing_kinds.specs.Parts.{Line, Slot}
@@ -20,7 +20,7 @@ use Rattle.filing_kinds.specs.declared.kind.Kind.TheVariants.{Book, School, Cale
 
 -- ---- the table
 pub are_sound-kind : (kind : Kind) → are_sound (slots_of_kind kind) ≡ true
-unfolding row_of
+unfolding table_row_of
 are_sound-kind Book = refl
 are_sound-kind School = refl
 are_sound-kind Calendar = refl
@@ -33,8 +33,8 @@ are_sound-kind Withdraw = refl
 are_sound-kind Repay = refl
 are_sound-kind Adjust = refl
 
-pub most_of-kind : (kind : Kind) → most_of (slots_of_kind kind) ≤ 369
-unfolding row_of
+pub most_of-kind : (kind : Kind) → most_of (slots_of_kind kind) ≤ most_numbers
+unfolding table_row_of
 most_of-kind Book = lit≤ tt
 most_of-kind School = lit≤ tt
 most_of-kind Calendar = lit≤ tt
@@ -162,6 +162,14 @@ most_of-rows (suc n) most (line ∷ lines) later h =
     let y : suc n * columns ≤ most * columns = mul-le (suc n) columns most columns h (omega arith) in
     omega (arith, e, f, g, x, y)
 
+length-most_of : (slots : List Slot) → length slots ≤ most_of slots
+length-most_of [] = omega arith
+length-most_of (slot ∷ slots) = omega (arith, length-most_of slots)
+
+-- the fields of a kind are no more than the most numbers
+pub length-slots_of_kind : (kind : Kind) → length (slots_of_kind kind) ≤ most_numbers
+length-slots_of_kind kind = omega (arith, length-most_of (slots_of_kind kind), most_of-kind kind)
+
 few_rows : (line : Line) (lines : List Line) (limit : Limit) (earlier : List ℤ) (z : ℤ) → may_count (line ∷ lines) limit ≡ true → fits limit earlier z ≡ true → unsigned_abs z ≤ most_rows limit
 few_rows line lines (Between low high) earlier z h f =
     let x = and_parts (int_le low z) (int_le z high) f in
@@ -192,8 +200,8 @@ AreNumbers-few (slot ∷ slots) earlier [] h a = absurd a
 AreNumbers-few (slot ∷ slots) earlier (z ∷ zs) h a =
     omega (arith, most_of-after slot slots earlier z h a.0, AreNumbers-few (after (slot ∷ slots) z) (z ∷ earlier) zs (are_sound-after slot slots z h) a.1)
 
--- a filing of any kind has at most 369 numbers
-pub few_numbers : (kind : Kind) (zs : List ℤ) → AreNumbers (slots_of_kind kind) [] zs → length zs ≤ 369
+-- a filing of any kind has at most so many numbers
+pub few_numbers : (kind : Kind) (zs : List ℤ) → AreNumbers (slots_of_kind kind) [] zs → length zs ≤ most_numbers
 few_numbers kind zs h = omega (arith, AreNumbers-few (slots_of_kind kind) [] zs (are_sound-kind kind) h, most_of-kind kind)
 
 pub All-IsNarrow-cons : (z : ℤ) (zs : List ℤ) → IsNarrow z → All IsNarrow zs → All IsNarrow (z ∷ zs)

@@ -1,6 +1,6 @@
 -- The numbers of a filing so far, and what is still to come.
 use Rattle.std.specs.Prelude.{◌≡◌, ◌+◌, ◌≤◌, ℤ, Bool, true, false, List, [], ◌∷◌, All, length}
-use Rattle.filing_kinds.specs.Forms.{are_sound, most_of}
+use Rattle.filing_kinds.specs.Forms.{are_sound, most_numbers, most_of}
 use Rattle.filing_kinds.specs.Layout.{after}
 use Rattle.filing_kinds.specs.Limits.{IsNarrow, fits}
 use Rattle.filing_kinds.specs.Parts.{Slot}
@@ -27,4 +27,4 @@ onward p z = record { slots = after p.slots z; earlier = z ∷ p.earlier }
 pub record IsDraft (slots : List Slot) (numbers : List ℤ) : Type 0 where
   pub sound : are_sound slots ≡ true
   pub narrow : All IsNarrow numbers
-  pub room : length numbers + most_of slots ≤ 369
+  pub room : length numbers + most_of slots ≤ most_numbers

@@ -71,3 +71,7 @@ most_behind (line ∷ lines) later limit = most_rows limit * max (length (line �
 abbrev pub most_of : List Slot → ℕ
 most_of [] = 0
 most_of (slot ∷ slots) = (1 + most_behind slot.first slot.later slot.line.limit) + most_of slots
+
+-- the most numbers that a filing has: 2 of its key, and 367 of a book whose tables are full
+abbrev pub most_numbers : ℕ
+most_numbers = 369

@@ -190,31 +190,31 @@ pub record KindRow : Type 0 where
 abbrev pub kind_row : ℕ → List ℕ → List Slot → KindRow
 kind_row code name slots = record { code = code; name = name; slots = slots }
 
-unfoldable pub row_of : Kind → KindRow
-row_of Book = kind_row 1 (codes "book") book_slots
-row_of School = kind_row 2 (codes "school") school_slots
-row_of Calendar = kind_row 3 (codes "calendar") calendar_slots
-row_of Prior = kind_row 4 (codes "prior") prior_slots
-row_of Apply = kind_row 5 (codes "apply") apply_slots
-row_of Enrol = kind_row 6 (codes "enrol") enrol_slots
-row_of Originate = kind_row 7 (codes "originate") originate_slots
-row_of Pay = kind_row 8 (codes "pay") amount_slots
-row_of Withdraw = kind_row 9 (codes "withdraw") withdraw_slots
-row_of Repay = kind_row 10 (codes "repay") amount_slots
-row_of Adjust = kind_row 11 (codes "adjust") amount_slots
+unfoldable pub table_row_of : Kind → KindRow
+table_row_of Book = kind_row 1 (codes "book") book_slots
+table_row_of School = kind_row 2 (codes "school") school_slots
+table_row_of Calendar = kind_row 3 (codes "calendar") calendar_slots
+table_row_of Prior = kind_row 4 (codes "prior") prior_slots
+table_row_of Apply = kind_row 5 (codes "apply") apply_slots
+table_row_of Enrol = kind_row 6 (codes "enrol") enrol_slots
+table_row_of Originate = kind_row 7 (codes "originate") originate_slots
+table_row_of Pay = kind_row 8 (codes "pay") amount_slots
+table_row_of Withdraw = kind_row 9 (codes "withdraw") withdraw_slots
+table_row_of Repay = kind_row 10 (codes "repay") amount_slots
+table_row_of Adjust = kind_row 11 (codes "adjust") amount_slots
 
 abbrev pub kinds : List Kind
 kinds = Book ∷ School ∷ Calendar ∷ Prior ∷ Apply ∷ Enrol ∷ Originate ∷ Pay ∷ Withdraw ∷ Repay ∷ Adjust ∷ []
 
 abbrev pub code_of : Kind → ℕ
-code_of kind = (row_of kind).code
+code_of kind = (table_row_of kind).code
 
 abbrev pub name_of : Kind → List ℕ
-name_of kind = (row_of kind).name
+name_of kind = (table_row_of kind).name
 
 -- all fields of a filing of a kind, those of its key first
 abbrev pub slots_of_kind : Kind → List Slot
-slots_of_kind kind = key_slots ++ (row_of kind).slots
+slots_of_kind kind = key_slots ++ (table_row_of kind).slots
 
 -- the kind that has a code, and the one that has a name
 abbrev pub kind_at : ℕ → Option Kind

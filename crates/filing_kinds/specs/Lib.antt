@@ -4,3 +4,4 @@ pub mod Kinds
 pub mod Layout
 pub mod Limits
 pub mod Parts
+pub mod Walk

@@ -1,7 +1,7 @@
 //! The numbers of a filing, one after the other.
-ghost use Rattle.std.specs.Prelude.{◌≡◌, ◌+◌, ◌≤◌, ℤ, true, length, option_map, slice_get, reverse, IfSome, if◌then◌else◌};
+ghost use Rattle.std.specs.Prelude.{◌≡◌, ◌+◌, ◌<◌, ◌≤◌, ℤ, true, length, option_map, slice_get, reverse, IfSome, if◌then◌else◌};
 ghost use Rattle.filing_kinds.specs.Draft.{accepts, onward};
-ghost use Rattle.filing_kinds.specs.Forms.{IsHeld};
+ghost use Rattle.filing_kinds.specs.Forms.{IsHeld, most_numbers};
 ghost use Rattle.filing_kinds.specs.Kinds.{slots_of_kind};
 ghost use Rattle.filing_kinds.specs.Parts.{line_of};
 
@@ -49,6 +49,7 @@ impl Draft {
     pub fn next(&self) -> Option<&'static Field>
         ensures field { option_map (λ field. line_of field.now) result ≡ option_map (λ slot. slot.line) (slice_get self.now.slots 0) }
         ensures held { IfSome result (λ field. (z : ℤ) → accepts self.now z ≡ true → IsHeld field.now.form z) }
+        ensures room { IfSome result (λ field. length self.now.earlier < most_numbers) }
     {
         self.layout.next()
     }
@@ -72,7 +73,7 @@ impl Draft {
     /// The numbers so far, the oldest first.
     pub fn numbers(&self) -> &[i64]
         ensures numbers { result.now ≡ reverse self.now.earlier }
-        ensures few { length result.now ≤ 369 }
+        ensures few { length result.now ≤ most_numbers }
     {
         self.numbers.as_slice()
     }

@@ -1,13 +1,14 @@
 //! The table of kinds.
-ghost use Rattle.std.specs.Prelude.{◌≡◌};
-ghost use Rattle.filing_kinds.specs.Kinds.{code_of, kind_at as kind_at_code, kind_named as kind_of_name, name_of, row_of};
+ghost use Rattle.std.specs.Prelude.{◌≡◌, ◌≤◌, length};
+ghost use Rattle.filing_kinds.specs.Forms.{most_numbers};
+ghost use Rattle.filing_kinds.specs.Kinds.{code_of, kind_at as kind_at_code, kind_named as kind_of_name, name_of, slots_of_kind, table_row_of};
 ghost use Rattle.filing_kinds.specs.Parts.{slots_of};
 
 use crate::book::book_parts;
 use crate::field::Part;
 use crate::parts::{
-    amount_parts, apply_parts, calendar_parts, enrol_parts, originate_parts, prior_parts,
-    school_parts, withdraw_parts,
+    amount_parts, apply_parts, calendar_parts, enrol_parts, key_parts, originate_parts,
+    prior_parts, school_parts, withdraw_parts,
 };
 
 /// A kind of filing.
@@ -62,12 +63,12 @@ macro_rules! row {
 }
 
 /// The row of a kind in the table.
-#[tactic(auto, unfolding(crate::specs::Kinds::row_of))]
-pub fn row(kind: Kind) -> KindRow
+#[tactic(auto, unfolding(crate::specs::Kinds::table_row_of))]
+pub fn table_row(kind: Kind) -> KindRow
     ensures kind { result.kind ≡ kind }
     ensures code { result.code ≡ code_of kind }
     ensures name { result.name.now ≡ name_of kind }
-    ensures parts { slots_of result.parts.now ≡ (row_of kind).slots }
+    ensures parts { slots_of result.parts.now ≡ (table_row_of kind).slots }
 {
     match kind {
         Kind::Book => row!(Book, 1, "book": book_parts()),
@@ -84,11 +85,22 @@ pub fn row(kind: Kind) -> KindRow
     }
 }
 
+/// How many fields a kind has, those of its key among them. A filing has a number for each, and more where one counts rows.
+pub fn field_count(kind: Kind) -> usize
+    ensures value { result ≡ length (slots_of_kind kind) }
+    ensures few { result ≤ most_numbers }
+{
+    key_parts().len() + table_row(kind).parts.len()
+}
+
 /// The kind that a code stands for in bytes.
 pub fn kind_at(code: u8) -> Option<Kind>
     ensures { result ≡ kind_at_code code }
 {
-    KINDS.iter().copied().find(|kind| row(*kind).code == code)
+    KINDS
+        .iter()
+        .copied()
+        .find(|kind| table_row(*kind).code == code)
 }
 
 /// The kind of a name.
@@ -98,5 +110,5 @@ pub fn kind_named(name: &[u8]) -> Option<Kind>
     KINDS
         .iter()
         .copied()
-        .find(|kind| row(*kind).name.as_bytes() == name)
+        .find(|kind| table_row(*kind).name.as_bytes() == name)
 }

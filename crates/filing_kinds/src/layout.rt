@@ -5,7 +5,7 @@ ghost use Rattle.filing_kinds.specs.Layout.{after as after_number};
 ghost use Rattle.filing_kinds.specs.Parts.{line_of, slot_of};
 
 use crate::field::{Field, Part};
-use crate::kind::{Kind, row};
+use crate::kind::{Kind, table_row};
 use crate::parts::key_parts;
 use std::marker::Model;
 
@@ -106,7 +106,7 @@ impl Layout {
         Layout {
             rows: Rows::none(),
             key: key_parts(),
-            parts: row(kind).parts,
+            parts: table_row(kind).parts,
         }
     }
 

@@ -13,8 +13,8 @@ mod parts;
 
 pub use draft::Draft;
 pub use field::{Field, Form, Limit, Part, program_words};
-pub use kind::{Kind, KindRow, kind_at, kind_named, row};
+pub use kind::{Kind, KindRow, field_count, kind_at, kind_named, table_row};
 pub use layout::Layout;
 pub use limit::fits;
-pub use numbers::{MOST_NUMBERS, Numbers};
+pub use numbers::{MOST_NUMBERS, Numbers, add_numbers};
 pub use parts::key_parts;

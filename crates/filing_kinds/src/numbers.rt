@@ -1,4 +1,7 @@
 //! Room for the numbers of a filing.
+ghost use Rattle.std.specs.Prelude.{◌≡◌, ◌+◌, ◌≤◌, ◌++◌, length};
+ghost use Rattle.filing_kinds.specs.Forms.{most_numbers};
+
 use arrayvec::ArrayVec;
 
 /// The most numbers that a filing has: 2 of its key, and 367 of a book whose tables are full.
@@ -6,3 +9,12 @@ pub const MOST_NUMBERS: usize = 369;
 
 /// The numbers of a filing.
 pub type Numbers = ArrayVec<i64, MOST_NUMBERS>;
+
+/// Puts more numbers behind the others.
+pub fn add_numbers(more: &[i64], numbers: &mut Numbers)
+    requires { length numbers.old.items + length more.now ≤ most_numbers }
+    ensures added { numbers.new.items ≡ numbers.old.items ++ more.now }
+    ensures count { length numbers.new.items ≡ length numbers.old.items + length more.now }
+{
+    numbers.try_extend_from_slice(more).unwrap();
+}

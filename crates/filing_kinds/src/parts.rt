@@ -6,16 +6,33 @@ ghost use Rattle.filing_kinds.specs.Parts.{slots_of};
 use crate::field::Form::{Cents, Count, Day, Flag, I64, Program, U8, U16, U32, U64};
 use crate::field::{Field, Limit, Part};
 
-macro_rules! one {
-    ($name:literal, $form:ident: $low:literal to $high:literal) => {
+// A field that counts nothing.
+macro_rules! plain {
+    ($field:expr) => {
         Part {
-            field: Field {
-                name: $name,
-                form: $form,
-                limit: Limit::Between($low, $high),
-            },
+            field: $field,
             first: &[],
             later: &[],
+        }
+    };
+}
+
+macro_rules! one {
+    ($name:literal, $form:ident: $low:literal to $high:literal) => {
+        plain!(Field {
+            name: $name,
+            form: $form,
+            limit: Limit::Between($low, $high),
+        })
+    };
+}
+
+macro_rules! day {
+    ($name:literal) => {
+        Field {
+            name: $name,
+            form: Day,
+            limit: DAY,
         }
     };
 }
@@ -28,17 +45,9 @@ const TERM: Part = one!("term", U8: 1 to 8);
 
 const DAY: Limit = Limit::Between(-25_567, 2_932_896);
 
-const FIRST: Field = Field {
-    name: "first",
-    form: Day,
-    limit: DAY,
-};
+const FIRST: Field = day!("first");
 
-const LAST: Field = Field {
-    name: "last",
-    form: Day,
-    limit: DAY,
-};
+const LAST: Field = day!("last");
 
 // The fields of a key: the school, 0 at the office's own desk, and the number.
 static KEY: [Part; 2] = [
@@ -56,8 +65,8 @@ static CALENDAR: [Part; 6] = [
     YEAR,
     TERM,
     one!("extra", Flag: 0 to 1),
-    one!("first", Day: -25_567 to 2_932_896),
-    one!("last", Day: -25_567 to 2_932_896),
+    plain!(FIRST),
+    plain!(LAST),
     Part {
         field: Field {
             name: "breaks",
@@ -143,8 +152,8 @@ static WITHDRAW: [Part; 12] = [
     STUDENT,
     YEAR,
     TERM,
-    one!("last", Day: -25_567 to 2_932_896),
-    one!("determined", Day: -25_567 to 2_932_896),
+    plain!(LAST),
+    plain!(day!("determined")),
     one!("charges", Cents: 0 to 99_999_999),
     one!("could_unsub", Cents: 0 to 99_999_999),
     one!("could_sub", Cents: 0 to 99_999_999),

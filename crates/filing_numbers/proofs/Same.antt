@@ -24,7 +24,7 @@ use Rattle.aid_filings.specs.declared.filing.What.TheVariants.{Book, School, Cal
 use Rattle.aid_filings.specs.declared.filing.WithdrawFacts.{WithdrawFacts}
 use Rattle.aid_filings.proofs.SameFiling.{amount_parts, amount_whole, calendar_facts_parts, calendar_facts_whole, enrol_facts_parts, enrol_facts_whole, originate_facts_parts, originate_facts_whole, prior_facts_parts, prior_facts_whole, school_facts_parts, school_facts_whole, withdraw_facts_parts, withdraw_facts_whole}
 use Rattle.book_numbers.proofs.Equal.{same_book}
-use Rattle.filing_kinds.specs.Kinds.{row_of}
+use Rattle.filing_kinds.specs.Kinds.{table_row_of}
 use Rattle.filing_numbers.specs.Parts.{FitAnywhere}
 use Rattle.filing_numbers.specs.Numbers.{amount_numbers, application_numbers, break_days, calendar_numbers, could_numbers, day_number, enrol_numbers, facts_of, flag_number, key_numbers, kind_of, numbers_of, originate_numbers, prior_numbers, region_number, school_numbers, side_numbers, withdraw_numbers}
 
@@ -228,5 +228,5 @@ same_filing x y k e =
     λ i. record { key = key i; what = what i }
 
 -- numbers of equal facts
-pub facts_fit : (x y : What) → x ≡ y → FitAnywhere (row_of (kind_of y)).slots (facts_of y) → FitAnywhere (row_of (kind_of x)).slots (facts_of x)
-facts_fit x y e h = subst (λ (z : What). FitAnywhere (row_of (kind_of z)).slots (facts_of z)) (sym e) h
+pub facts_fit : (x y : What) → x ≡ y → FitAnywhere (table_row_of (kind_of y)).slots (facts_of y) → FitAnywhere (table_row_of (kind_of x)).slots (facts_of x)
+facts_fit x y e h = subst (λ (z : What). FitAnywhere (table_row_of (kind_of z)).slots (facts_of z)) (sym e) h

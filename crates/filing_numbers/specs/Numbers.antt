@@ -1,5 +1,5 @@
 -- A filing as the list of its numbers, in the order of its kind's fields, those of its key first. Own format.
-use Rattle.std.specs.Prelude.{◌≡◌, ℕ, ℤ, pos, ◌-ℤ◌, Bool, true, false, List, [], ◌∷◌, ◌++◌, length, flat_map, map}
+use Rattle.std.specs.Prelude.{ℕ, ℤ, pos, ◌-ℤ◌, Bool, true, false, List, [], ◌∷◌, ◌++◌, length, flat_map, map}
 use Rattle.aid_types.specs.Programs.{rank}
 use Rattle.aid_types.specs.declared.application.Application.{Application}
 use Rattle.aid_types.specs.declared.application.Region.{Region}

@@ -1,19 +1,20 @@
 //! The numbers of an application.
 ghost use Rattle.std.specs.Prelude.{◌≡◌, ◌+◌, ◌≤◌, [], ◌∷◌, ◌++◌, length, map, pos};
 ghost use Rattle.aid_types.specs.Ranges.{IsBetween};
+ghost use Rattle.filing_kinds.specs.Forms.{most_numbers};
 ghost use Rattle.filing_kinds.specs.Kinds.{apply_slots, own_slots};
 ghost use Rattle.filing_numbers.specs.Numbers.{applicant_numbers, application_numbers, flag_number, parents_numbers, region_number, side_numbers, standing_numbers, upbringing_numbers};
 ghost use Rattle.filing_numbers.specs.Parts.{FitAnywhere, FitSomewhere, applicant_slots, parents_slots, standing_slots, upbringing_slots};
 
 use crate::scalar::{
-    flag_of, number_of_flag, number_of_region, number_of_student, number_of_year, put, region_of,
-    student_of, year_of,
+    flag_from, number_of_flag, number_of_region, number_of_student, number_of_year, region_from,
+    student_from, year_from,
 };
 use aid_types::{Application, Region, Side, Student, Year};
-use filing_kinds::Numbers;
+use filing_kinds::{Numbers, add_numbers};
 
 pub(crate) fn put_application(application: &Application, numbers: &mut Numbers)
-    requires room { length numbers.old.items + 52 ≤ 369 }
+    requires room { length numbers.old.items + 52 ≤ most_numbers }
     ensures added { numbers.new.items ≡ numbers.old.items ++ application_numbers application.now }
     ensures in_range { FitAnywhere apply_slots (application_numbers application.now) }
 {
@@ -26,7 +27,7 @@ pub(crate) fn put_application(application: &Application, numbers: &mut Numbers)
 }
 
 fn put_applicant(application: &Application, numbers: &mut Numbers)
-    requires room { length numbers.old.items + 6 ≤ 369 }
+    requires room { length numbers.old.items + 6 ≤ most_numbers }
     ensures added { numbers.new.items ≡ numbers.old.items ++ applicant_numbers application.now }
     ensures in_range { FitAnywhere applicant_slots (applicant_numbers application.now) }
 {
@@ -36,14 +37,14 @@ fn put_applicant(application: &Application, numbers: &mut Numbers)
     let birth_year = i64::from(application.birth_year);
     let region = number_of_region(application.region);
     let family = i64::from(application.family);
-    put(
-        numbers,
+    add_numbers(
         &[student, year, transaction, birth_year, region, family],
+        numbers,
     );
 }
 
 fn put_standing(application: &Application, numbers: &mut Numbers)
-    requires room { length numbers.old.items + 5 ≤ 369 }
+    requires room { length numbers.old.items + 5 ≤ most_numbers }
     ensures added { numbers.new.items ≡ numbers.old.items ++ standing_numbers application.now }
 {
     let married = number_of_flag(application.married);
@@ -51,11 +52,11 @@ fn put_standing(application: &Application, numbers: &mut Numbers)
     let bachelor = number_of_flag(application.bachelor);
     let veteran = number_of_flag(application.veteran);
     let dependents = number_of_flag(application.dependents);
-    put(numbers, &[married, graduate, bachelor, veteran, dependents]);
+    add_numbers(&[married, graduate, bachelor, veteran, dependents], numbers);
 }
 
 fn put_upbringing(application: &Application, numbers: &mut Numbers)
-    requires room { length numbers.old.items + 6 ≤ 369 }
+    requires room { length numbers.old.items + 6 ≤ most_numbers }
     ensures added { numbers.new.items ≡ numbers.old.items ++ upbringing_numbers application.now }
 {
     let orphan = number_of_flag(application.orphan);
@@ -64,14 +65,14 @@ fn put_upbringing(application: &Application, numbers: &mut Numbers)
     let emancipated = number_of_flag(application.emancipated);
     let homeless = number_of_flag(application.homeless);
     let student_file = number_of_flag(application.student_file);
-    put(
-        numbers,
+    add_numbers(
         &[orphan, ward, foster, emancipated, homeless, student_file],
+        numbers,
     );
 }
 
 fn put_side(side: &Side, numbers: &mut Numbers)
-    requires room { length numbers.old.items + 16 ≤ 369 }
+    requires room { length numbers.old.items + 16 ≤ most_numbers }
     ensures added { numbers.new.items ≡ numbers.old.items ++ side_numbers side.now }
 {
     let amounts = [
@@ -92,16 +93,16 @@ fn put_side(side: &Side, numbers: &mut Numbers)
         side.investments,
         side.business,
     ];
-    put(numbers, &amounts);
+    add_numbers(&amounts, numbers);
 }
 
 fn put_parents(application: &Application, numbers: &mut Numbers)
-    requires room { length numbers.old.items + 3 ≤ 369 }
+    requires room { length numbers.old.items + 3 ≤ most_numbers }
     ensures added { numbers.new.items ≡ numbers.old.items ++ parents_numbers application.now }
 {
     let married = number_of_flag(application.parents_married);
     let file = number_of_flag(application.parents_file);
-    put(numbers, &[married, file, i64::from(application.parent_age)]);
+    add_numbers(&[married, file, i64::from(application.parent_age)], numbers);
 }
 
 pub(crate) fn application_of(numbers: &[i64]) -> Application
@@ -156,11 +157,11 @@ fn applicant_of(numbers: &[i64]) -> (Student, Year, u8, u16, Region, u8)
     let transaction = *transaction as u8;
     let birth_year = *birth_year as u16;
     (
-        student_of(*student),
-        year_of(*year),
+        student_from(*student),
+        year_from(*year),
         transaction,
         birth_year,
-        region_of(*region),
+        region_from(*region),
         *family as u8,
     )
 }
@@ -173,11 +174,11 @@ fn standing_of(numbers: &[i64]) -> [bool; 5]
         unreachable!();
     };
     [
-        flag_of(*married),
-        flag_of(*graduate),
-        flag_of(*bachelor),
-        flag_of(*veteran),
-        flag_of(*dependents),
+        flag_from(*married),
+        flag_from(*graduate),
+        flag_from(*bachelor),
+        flag_from(*veteran),
+        flag_from(*dependents),
     ]
 }
 
@@ -189,12 +190,12 @@ fn upbringing_of(numbers: &[i64]) -> [bool; 6]
         unreachable!();
     };
     [
-        flag_of(*orphan),
-        flag_of(*ward),
-        flag_of(*foster),
-        flag_of(*emancipated),
-        flag_of(*homeless),
-        flag_of(*student_file),
+        flag_from(*orphan),
+        flag_from(*ward),
+        flag_from(*foster),
+        flag_from(*emancipated),
+        flag_from(*homeless),
+        flag_from(*student_file),
     ]
 }
 
@@ -206,7 +207,7 @@ fn said_of(numbers: &[i64]) -> (bool, bool, u8)
     let [married, file, age] = numbers else {
         unreachable!();
     };
-    (flag_of(*married), flag_of(*file), *age as u8)
+    (flag_from(*married), flag_from(*file), *age as u8)
 }
 
 fn side_of(numbers: &[i64]) -> Side

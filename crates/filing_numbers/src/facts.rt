@@ -1,27 +1,28 @@
 //! The numbers of a key and of the facts of each kind but books and applications.
 ghost use Rattle.std.specs.Prelude.{◌≡◌, ℕ, ◌+◌, ◌*◌, ◌≤◌, ◌++◌, drop, flat_map, length, take};
 ghost use Rattle.aid_types.specs.Ranges.{EachIsCents};
+ghost use Rattle.filing_kinds.specs.Forms.{most_numbers};
 ghost use Rattle.filing_kinds.specs.Kinds.{amount_slots, calendar_slots, enrol_slots, key_slots, originate_slots, prior_slots, school_slots, withdraw_slots};
 ghost use Rattle.filing_numbers.specs.Numbers.{amount_numbers, break_days, calendar_numbers, could_numbers, enrol_numbers, key_numbers, originate_numbers, prior_numbers, school_numbers, withdraw_numbers, withdrawal_numbers};
 ghost use Rattle.filing_kinds.specs.Layout.{rows_again};
 ghost use Rattle.filing_numbers.specs.Parts.{FitAnywhere, FitSomewhere, break_lines};
 
 use crate::scalar::{
-    cents_of, day_of, flag_of, number_of_day, number_of_flag, number_of_program, number_of_student,
-    number_of_year, program_of, put, student_of, term_of, year_of,
+    cents_from, day_from, flag_from, number_of_day, number_of_flag, number_of_program,
+    number_of_student, number_of_year, program_from, student_from, term_from, year_from,
 };
 use aid_filings::{
     Amount, CalendarFacts, EnrolFacts, OriginateFacts, PriorFacts, SchoolFacts, WithdrawFacts,
 };
 use aid_types::{Breaks, ByProgram, Day, Key, School};
-use filing_kinds::Numbers;
+use filing_kinds::{Numbers, add_numbers};
 
 pub(crate) fn put_key(key: &Key, numbers: &mut Numbers)
-    requires room { length numbers.old.items + 2 ≤ 369 }
+    requires room { length numbers.old.items + 2 ≤ most_numbers }
     ensures added { numbers.new.items ≡ numbers.old.items ++ key_numbers key.now }
     ensures in_range { FitAnywhere key_slots (key_numbers key.now) }
 {
-    put(numbers, &[i64::from(key.school.0), key.number as i64]);
+    add_numbers(&[i64::from(key.school.0), key.number as i64], numbers);
 }
 
 pub(crate) fn key_of(numbers: &[i64]) -> Key
@@ -38,17 +39,17 @@ pub(crate) fn key_of(numbers: &[i64]) -> Key
 }
 
 pub(crate) fn put_school(facts: &SchoolFacts, numbers: &mut Numbers)
-    requires room { length numbers.old.items + 3 ≤ 369 }
+    requires room { length numbers.old.items + 3 ≤ most_numbers }
     ensures added { numbers.new.items ≡ numbers.old.items ++ school_numbers facts.now }
     ensures in_range { FitAnywhere school_slots (school_numbers facts.now) }
 {
-    put(
-        numbers,
+    add_numbers(
         &[
             i64::from(facts.code),
             i64::from(facts.terms),
             i64::from(facts.full),
         ],
+        numbers,
     );
 }
 
@@ -67,13 +68,13 @@ pub(crate) fn school_of(numbers: &[i64]) -> SchoolFacts
 }
 
 pub(crate) fn put_prior(facts: &PriorFacts, numbers: &mut Numbers)
-    requires room { length numbers.old.items + 2 ≤ 369 }
+    requires room { length numbers.old.items + 2 ≤ most_numbers }
     ensures added { numbers.new.items ≡ numbers.old.items ++ prior_numbers facts.now }
     ensures in_range { FitAnywhere prior_slots (prior_numbers facts.now) }
 {
-    put(
-        numbers,
+    add_numbers(
         &[number_of_student(facts.student), i64::from(facts.units)],
+        numbers,
     );
 }
 
@@ -85,26 +86,26 @@ pub(crate) fn prior_of(numbers: &[i64]) -> PriorFacts
         unreachable!();
     };
     PriorFacts {
-        student: student_of(*student),
+        student: student_from(*student),
         units: *units as u32,
     }
 }
 
 pub(crate) fn put_enrol(facts: &EnrolFacts, numbers: &mut Numbers)
-    requires room { length numbers.old.items + 4 ≤ 369 }
+    requires room { length numbers.old.items + 4 ≤ most_numbers }
     ensures added { numbers.new.items ≡ numbers.old.items ++ enrol_numbers facts.now }
     ensures in_range { FitAnywhere enrol_slots (enrol_numbers facts.now) }
 {
     let student = number_of_student(facts.student);
     let year = number_of_year(facts.year);
-    put(
-        numbers,
+    add_numbers(
         &[
             student,
             year,
             i64::from(facts.term),
             i64::from(facts.credits),
         ],
+        numbers,
     );
 }
 
@@ -116,21 +117,21 @@ pub(crate) fn enrol_of(numbers: &[i64]) -> EnrolFacts
         unreachable!();
     };
     EnrolFacts {
-        student: student_of(*student),
-        year: year_of(*year),
-        term: term_of(*term),
+        student: student_from(*student),
+        year: year_from(*year),
+        term: term_from(*term),
         credits: *credits as u8,
     }
 }
 
 pub(crate) fn put_originate(facts: &OriginateFacts, numbers: &mut Numbers)
-    requires room { length numbers.old.items + 3 ≤ 369 }
+    requires room { length numbers.old.items + 3 ≤ most_numbers }
     ensures added { numbers.new.items ≡ numbers.old.items ++ originate_numbers facts.now }
     ensures in_range { FitAnywhere originate_slots (originate_numbers facts.now) }
 {
     let student = number_of_student(facts.student);
     let year = number_of_year(facts.year);
-    put(numbers, &[student, year, i64::from(facts.cost)]);
+    add_numbers(&[student, year, i64::from(facts.cost)], numbers);
 }
 
 pub(crate) fn originate_of(numbers: &[i64]) -> OriginateFacts
@@ -141,22 +142,21 @@ pub(crate) fn originate_of(numbers: &[i64]) -> OriginateFacts
         unreachable!();
     };
     OriginateFacts {
-        student: student_of(*student),
-        year: year_of(*year),
+        student: student_from(*student),
+        year: year_from(*year),
         cost: *cost as u32,
     }
 }
 
 pub(crate) fn put_amount(amount: &Amount, numbers: &mut Numbers)
-    requires room { length numbers.old.items + 5 ≤ 369 }
+    requires room { length numbers.old.items + 5 ≤ most_numbers }
     ensures added { numbers.new.items ≡ numbers.old.items ++ amount_numbers amount.now }
     ensures in_range { FitAnywhere amount_slots (amount_numbers amount.now) }
 {
     let student = number_of_student(amount.student);
     let year = number_of_year(amount.year);
     let program = number_of_program(amount.program);
-    put(
-        numbers,
+    add_numbers(
         &[
             student,
             year,
@@ -164,6 +164,7 @@ pub(crate) fn put_amount(amount: &Amount, numbers: &mut Numbers)
             program,
             amount.cents as i64,
         ],
+        numbers,
     );
 }
 
@@ -175,16 +176,16 @@ pub(crate) fn amount_of(numbers: &[i64]) -> Amount
         unreachable!();
     };
     Amount {
-        student: student_of(*student),
-        year: year_of(*year),
-        term: term_of(*term),
-        program: program_of(*program),
-        cents: cents_of(*cents),
+        student: student_from(*student),
+        year: year_from(*year),
+        term: term_from(*term),
+        program: program_from(*program),
+        cents: cents_from(*cents),
     }
 }
 
 pub(crate) fn put_withdraw(facts: &WithdrawFacts, numbers: &mut Numbers)
-    requires room { length numbers.old.items + 12 ≤ 369 }
+    requires room { length numbers.old.items + 12 ≤ most_numbers }
     ensures added { numbers.new.items ≡ numbers.old.items ++ withdraw_numbers facts.now }
     ensures in_range { FitAnywhere withdraw_slots (withdraw_numbers facts.now) }
 {
@@ -193,7 +194,7 @@ pub(crate) fn put_withdraw(facts: &WithdrawFacts, numbers: &mut Numbers)
 }
 
 fn put_withdrawal(facts: &WithdrawFacts, numbers: &mut Numbers)
-    requires room { length numbers.old.items + 6 ≤ 369 }
+    requires room { length numbers.old.items + 6 ≤ most_numbers }
     ensures added { numbers.new.items ≡ numbers.old.items ++ withdrawal_numbers facts.now }
     ensures in_range { FitAnywhere (take 6 withdraw_slots) (withdrawal_numbers facts.now) }
 {
@@ -201,8 +202,7 @@ fn put_withdrawal(facts: &WithdrawFacts, numbers: &mut Numbers)
     let year = number_of_year(facts.year);
     let last = number_of_day(facts.last);
     let determined = number_of_day(facts.determined);
-    put(
-        numbers,
+    add_numbers(
         &[
             student,
             year,
@@ -211,18 +211,18 @@ fn put_withdrawal(facts: &WithdrawFacts, numbers: &mut Numbers)
             determined,
             facts.charges as i64,
         ],
+        numbers,
     );
 }
 
 fn put_could(could: &[u64; 6], numbers: &mut Numbers)
     requires cents { EachIsCents could.now }
-    requires room { length numbers.old.items + 6 ≤ 369 }
+    requires room { length numbers.old.items + 6 ≤ most_numbers }
     ensures added { numbers.new.items ≡ numbers.old.items ++ could_numbers could.now }
     ensures in_range { FitAnywhere (drop 6 withdraw_slots) (could_numbers could.now) }
 {
     let [unsub, sub, plus, pell, fseog, teach] = *could;
-    put(
-        numbers,
+    add_numbers(
         &[
             unsub as i64,
             sub as i64,
@@ -231,6 +231,7 @@ fn put_could(could: &[u64; 6], numbers: &mut Numbers)
             fseog as i64,
             teach as i64,
         ],
+        numbers,
     );
 }
 
@@ -251,12 +252,12 @@ fn withdrawal_of(numbers: &[i64], could: [u64; 6]) -> WithdrawFacts
         unreachable!();
     };
     WithdrawFacts {
-        student: student_of(*student),
-        year: year_of(*year),
-        term: term_of(*term),
-        last: day_of(*last),
-        determined: day_of(*determined),
-        charges: cents_of(*charges),
+        student: student_from(*student),
+        year: year_from(*year),
+        term: term_from(*term),
+        last: day_from(*last),
+        determined: day_from(*determined),
+        charges: cents_from(*charges),
         could: ByProgram::new(could),
     }
 }
@@ -270,17 +271,17 @@ fn could_of(numbers: &[i64]) -> [u64; 6]
         unreachable!();
     };
     [
-        cents_of(*unsub),
-        cents_of(*sub),
-        cents_of(*plus),
-        cents_of(*pell),
-        cents_of(*fseog),
-        cents_of(*teach),
+        cents_from(*unsub),
+        cents_from(*sub),
+        cents_from(*plus),
+        cents_from(*pell),
+        cents_from(*fseog),
+        cents_from(*teach),
     ]
 }
 
 pub(crate) fn put_calendar(facts: &CalendarFacts, numbers: &mut Numbers)
-    requires room { length numbers.old.items + 22 ≤ 369 }
+    requires room { length numbers.old.items + 22 ≤ most_numbers }
     ensures added { numbers.new.items ≡ numbers.old.items ++ calendar_numbers facts.now }
     ensures in_range { FitAnywhere calendar_slots (calendar_numbers facts.now) }
 {
@@ -289,20 +290,20 @@ pub(crate) fn put_calendar(facts: &CalendarFacts, numbers: &mut Numbers)
     let first = number_of_day(facts.first);
     let last = number_of_day(facts.last);
     let count = facts.breaks.len() as i64;
-    put(
-        numbers,
+    add_numbers(
         &[year, i64::from(facts.term), extra, first, last, count],
+        numbers,
     );
     put_breaks(facts.breaks.as_slice(), numbers);
 }
 
 fn put_breaks(breaks: &[(Day, Day)], numbers: &mut Numbers)
-    requires room { length numbers.old.items + 2 * length breaks.now ≤ 369 }
+    requires room { length numbers.old.items + 2 * length breaks.now ≤ most_numbers }
     ensures added { numbers.new.items ≡ numbers.old.items ++ flat_map break_days breaks.now }
     ensures in_range { FitAnywhere (rows_again (length breaks.now) break_lines) (flat_map break_days breaks.now) }
 {
     for &(first, last) in breaks {
-        put(numbers, &[number_of_day(first), number_of_day(last)]);
+        add_numbers(&[number_of_day(first), number_of_day(last)], numbers);
     }
 }
 
@@ -314,11 +315,11 @@ pub(crate) fn calendar_of(numbers: &[i64]) -> CalendarFacts
         unreachable!();
     };
     CalendarFacts {
-        year: year_of(*year),
-        term: term_of(*term),
-        extra: flag_of(*extra),
-        first: day_of(*first),
-        last: day_of(*last),
+        year: year_from(*year),
+        term: term_from(*term),
+        extra: flag_from(*extra),
+        first: day_from(*first),
+        last: day_from(*last),
         breaks: breaks_of(days),
     }
 }
@@ -330,7 +331,7 @@ fn breaks_of(days: &[i64]) -> Breaks
     let mut breaks = Breaks::new();
     let mut rest = days;
     while let [first, last, more @ ..] = rest {
-        breaks.push(day_of(*first), day_of(*last));
+        breaks.push(day_from(*first), day_from(*last));
         rest = more;
     }
     breaks

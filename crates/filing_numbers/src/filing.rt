@@ -1,7 +1,7 @@
 //! The numbers of a filing, and the filing of its numbers.
 ghost use Rattle.std.specs.Prelude.{◌≡◌, ◌≢◌, ◌≤◌, ◌++◌, [], length, IfOk, IsOk};
 ghost use Rattle.aid_filings.specs.declared.filing.Filing.{Filing};
-ghost use Rattle.filing_kinds.specs.Kinds.{row_of, slots_of_kind};
+ghost use Rattle.filing_kinds.specs.Kinds.{slots_of_kind, table_row_of};
 ghost use Rattle.filing_kinds.specs.Layout.{AreNumbers};
 ghost use Rattle.filing_numbers.specs.Numbers.{IsFiling, facts_of, kind_of, numbers_of};
 ghost use Rattle.filing_numbers.specs.Parts.{FitAnywhere, FitSomewhere};
@@ -47,11 +47,11 @@ pub fn numbers_in(filing: &Filing) -> Numbers
     numbers
 }
 
-#[tactic(auto, unfolding(crate::specs::Numbers::facts_of, filing_kinds::specs::Kinds::row_of))]
+#[tactic(auto, unfolding(crate::specs::Numbers::facts_of, filing_kinds::specs::Kinds::table_row_of))]
 fn put_facts(what: &What, numbers: &mut Numbers)
     requires room { length numbers.old.items ≤ 2 }
     ensures added { numbers.new.items ≡ numbers.old.items ++ facts_of what.now }
-    ensures in_range { FitAnywhere (row_of (kind_of what.now)).slots (facts_of what.now) }
+    ensures in_range { FitAnywhere (table_row_of (kind_of what.now)).slots (facts_of what.now) }
 {
     match what {
         What::Book(book) => put_book(book.as_book(), numbers),
@@ -84,9 +84,9 @@ pub fn filing_of(alloc: Global, kind: Kind, numbers: &[i64]) -> Result<Filing, A
     })
 }
 
-#[tactic(auto, unfolding(crate::specs::Numbers::facts_of, filing_kinds::specs::Kinds::row_of))]
+#[tactic(auto, unfolding(crate::specs::Numbers::facts_of, filing_kinds::specs::Kinds::table_row_of))]
 fn what_of(alloc: Global, kind: Kind, numbers: &[i64]) -> Result<What, AllocError>
-    requires in_range { FitSomewhere (row_of kind).slots numbers.now }
+    requires in_range { FitSomewhere (table_row_of kind).slots numbers.now }
     ensures kind { IfOk result (λ what. kind_of what ≡ kind) }
     ensures value { IfOk result (λ what. facts_of what ≡ numbers.now) }
     ensures memory { kind ≢ Kind.Book → IsOk result }

@@ -6,17 +6,6 @@ ghost use Rattle.filing_kinds.specs.Limits.{is_between};
 ghost use Rattle.filing_numbers.specs.Numbers.{day_number, flag_number, region_number};
 
 use aid_types::{Day, Program, Region, Student, Year};
-use filing_kinds::Numbers;
-
-/// Adds numbers at the end.
-pub(crate) fn put(numbers: &mut Numbers, more: &[i64])
-    requires room { length numbers.old.items + length more.now ≤ 369 }
-    ensures added { numbers.new.items ≡ numbers.old.items ++ more.now }
-{
-    if numbers.try_extend_from_slice(more).is_err() {
-        unreachable!();
-    }
-}
 
 pub(crate) fn number_of_student(student: Student) -> i64
     ensures value { result ≡ pos student }
@@ -25,7 +14,7 @@ pub(crate) fn number_of_student(student: Student) -> i64
     student.0 as i64
 }
 
-pub(crate) fn student_of(number: i64) -> Student
+pub(crate) fn student_from(number: i64) -> Student
     requires in_range { IsTrue (is_between (pos 1) (pos 999999999999) number) }
     ensures value { pos result ≡ number }
 {
@@ -39,7 +28,7 @@ pub(crate) fn number_of_year(year: Year) -> i64
     i64::from(year.0)
 }
 
-pub(crate) fn year_of(number: i64) -> Year
+pub(crate) fn year_from(number: i64) -> Year
     requires in_range { IsTrue (is_between (pos 2000) (pos 2099) number) }
     ensures value { pos result ≡ number }
 {
@@ -54,7 +43,7 @@ pub(crate) fn number_of_day(day: Day) -> i64
     i64::from(day.0)
 }
 
-pub(crate) fn day_of(number: i64) -> Day
+pub(crate) fn day_from(number: i64) -> Day
     requires in_range { IsTrue (is_between (neg_ℤ (pos 25567)) (pos 2932896) number) }
     ensures value { day_number result ≡ number }
 {
@@ -67,7 +56,7 @@ pub(crate) fn number_of_flag(flag: bool) -> i64
     i64::from(flag)
 }
 
-pub(crate) fn flag_of(number: i64) -> bool
+pub(crate) fn flag_from(number: i64) -> bool
     requires in_range { IsTrue (is_between (pos 0) (pos 1) number) }
     ensures value { flag_number result ≡ number }
 {
@@ -84,7 +73,7 @@ pub(crate) fn number_of_region(region: Region) -> i64
     }
 }
 
-pub(crate) fn region_of(number: i64) -> Region
+pub(crate) fn region_from(number: i64) -> Region
     requires in_range { IsTrue (is_between (pos 0) (pos 2) number) }
     ensures value { region_number result ≡ number }
 {
@@ -103,7 +92,7 @@ pub(crate) fn number_of_program(program: Program) -> i64
     program.rank() as i64
 }
 
-pub(crate) fn program_of(number: i64) -> Program
+pub(crate) fn program_from(number: i64) -> Program
     requires in_range { IsTrue (is_between (pos 0) (pos 5) number) }
     ensures value { pos (rank result) ≡ number }
 {
@@ -119,7 +108,7 @@ pub(crate) fn program_of(number: i64) -> Program
 }
 
 /// A term's number in its year.
-pub(crate) fn term_of(number: i64) -> u8
+pub(crate) fn term_from(number: i64) -> u8
     requires in_range { IsTrue (is_between (pos 1) (pos 8) number) }
     ensures value { pos result ≡ number }
     ensures in_range { IsBetween 1 8 result }
@@ -128,7 +117,7 @@ pub(crate) fn term_of(number: i64) -> u8
 }
 
 /// An amount below a million dollars.
-pub(crate) fn cents_of(number: i64) -> u64
+pub(crate) fn cents_from(number: i64) -> u64
     requires in_range { IsTrue (is_between (pos 0) (pos 99999999) number) }
     ensures value { pos result ≡ number }
     ensures in_range { result ≤ 99999999 }

@@ -8,7 +8,7 @@ abbrev pub IsSum : ℕ → Type 0
 IsSum cents = cents ≤ 1000000000000000
 
 -- the school's terms and full-time credits are those of a school on file; the award, the credits and the sums are in range
-pub record IsInRange (f : Facts) : Type 0 where
+pub record AreFactsInRange (f : Facts) : Type 0 where
   pub school : (f.school_at ≡ 0 → ⊥) → IsBetween 2 3 f.terms × IsBetween 1 40 f.full
   pub scheduled : f.scheduled ≤ 100000
   pub credits : f.credits ≤ 40

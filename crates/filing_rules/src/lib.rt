@@ -2,7 +2,7 @@
 #![tactic(auto)]
 
 ghost use Rattle.std.specs.Prelude.{◌≡◌};
-ghost use Rattle.filing_rules.specs.InRange.{IsInRange};
+ghost use Rattle.filing_rules.specs.InRange.{AreFactsInRange};
 ghost use Rattle.filing_rules.specs.Rules.{broken_of};
 
 mod award;
@@ -24,7 +24,7 @@ pub use refusal::MOST_FILINGS;
 /// The first rule of its kind's order that a filing breaks, with what stands and what may stand; `None` where it
 /// breaks none. `f` holds the facts of the filings before it.
 pub fn broken(f: &Facts, key: &Key, what: &What) -> Option<Refusal>
-    requires { IsInRange f.now }
+    requires { AreFactsInRange f.now }
     ensures { result ≡ broken_of f.now key.now what.now }
 {
     let school = key.school;

@@ -2,7 +2,7 @@
 ghost use Rattle.std.specs.Prelude.{◌≡◌, ◌*◌, ◌≤◌, [], ◌∷◌};
 ghost use Rattle.aid_types.specs.Ranges.{IsBetween};
 ghost use Rattle.enrolment.specs.Terms.{intensity_of, payment_of};
-ghost use Rattle.filing_rules.specs.InRange.{IsInRange};
+ghost use Rattle.filing_rules.specs.InRange.{AreFactsInRange};
 ghost use Rattle.filing_rules.specs.Lines.{pell_limits};
 ghost use Rattle.filing_rules.specs.Rules.{first_broken, is_half_time_extra, past_cost, past_fseog, year_limit};
 
@@ -70,7 +70,7 @@ pub fn limit_of_year(f: &Facts) -> u64
 /// The first limit on Pell that so many cents more pass, told under these rules: the term's payment, the year's limit,
 /// the lifetime limit.
 pub(crate) fn broken_by_pell(f: &Facts, rules: PellRules, cents: u64) -> Option<Refusal>
-    requires facts { IsInRange f.now }
+    requires facts { AreFactsInRange f.now }
     requires on_file { f.now.school_at ≡ 0 → ⊥ }
     requires enrolled { 1 ≤ f.now.credits }
     requires amount { cents ≤ 99999999 }
@@ -94,7 +94,7 @@ pub(crate) fn broken_by_pell(f: &Facts, rules: PellRules, cents: u64) -> Option<
 /// The refusal under this rule where so many cents of FSEOG more pass the year's limit (HEA 413B(a)(2)), one over all
 /// schools.
 pub(crate) fn broken_by_fseog(f: &Facts, rule: u16, cents: u64) -> Option<Refusal>
-    requires facts { IsInRange f.now }
+    requires facts { AreFactsInRange f.now }
     requires amount { cents ≤ 99999999 }
     ensures { result ≡ first_broken (past_fseog rule f.now cents ∷ []) }
 {
@@ -107,7 +107,7 @@ pub(crate) fn broken_by_fseog(f: &Facts, rule: u16, cents: u64) -> Option<Refusa
 /// The refusal under this rule where so many cents more of any program pass the cost of attendance (HEA 401(b)(3) for Pell; own for
 /// all programs together).
 pub(crate) fn broken_by_cost(f: &Facts, rule: u16, cents: u64) -> Option<Refusal>
-    requires facts { IsInRange f.now }
+    requires facts { AreFactsInRange f.now }
     requires amount { cents ≤ 599999994 }
     ensures { result ≡ first_broken (past_cost rule f.now cents ∷ []) }
 {

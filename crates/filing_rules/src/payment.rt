@@ -2,7 +2,7 @@
 ghost use Rattle.std.specs.Prelude.{◌≡◌, ◌≤◌, ◌<◌, ◌++◌, [], ◌∷◌, IsNone};
 ghost use Rattle.aid_types.specs.Programs.{rank};
 ghost use Rattle.aid_filings.specs.declared.filing.What.TheVariants.{Pay};
-ghost use Rattle.filing_rules.specs.InRange.{IsInRange};
+ghost use Rattle.filing_rules.specs.InRange.{AreFactsInRange};
 ghost use Rattle.filing_rules.specs.Lines.{fseog_lines, pell_lines, pell_standing, payment_standing, unlimited_lines};
 ghost use Rattle.filing_rules.specs.Rules.{first_broken, lines_of, rule_52};
 
@@ -22,7 +22,7 @@ const PAYMENT_RULES: PellRules = PellRules {
 /// The first broken rule of a payment.
 #[tactic(auto, using(crate::proofs::Groups::payment_groups))]
 pub(crate) fn broken_payment(f: &Facts, school: School, payment: &Amount) -> Option<Refusal>
-    requires { IsInRange f.now }
+    requires { AreFactsInRange f.now }
     ensures { result ≡ first_broken (lines_of f.now school (Pay payment.now)) }
 {
     if let Some(refusal) = broken_by_student(f, school, payment) {
@@ -63,7 +63,7 @@ fn broken_by_student(f: &Facts, school: School, payment: &Amount) -> Option<Refu
 /// The first rule of a payment's amount that so many cents of Pell break.
 #[tactic(auto, using(crate::proofs::Groups::pell_groups))]
 fn broken_pell(f: &Facts, school: School, cents: u64) -> Option<Refusal>
-    requires facts { IsInRange f.now }
+    requires facts { AreFactsInRange f.now }
     requires on_file { f.now.school_at ≡ 0 → ⊥ }
     requires enrolled { 1 ≤ f.now.credits }
     requires amount { cents ≤ 99999999 }
@@ -84,7 +84,7 @@ fn broken_pell(f: &Facts, school: School, cents: u64) -> Option<Refusal>
 /// The first rule of a payment's amount that so many cents of FSEOG break.
 #[tactic(auto, using(crate::proofs::Groups::fseog_groups))]
 fn broken_fseog(f: &Facts, cents: u64) -> Option<Refusal>
-    requires facts { IsInRange f.now }
+    requires facts { AreFactsInRange f.now }
     requires amount { cents ≤ 99999999 }
     ensures { result ≡ first_broken (fseog_lines f.now cents) }
 {
@@ -100,7 +100,7 @@ fn broken_fseog(f: &Facts, cents: u64) -> Option<Refusal>
 /// The first rule of a payment's amount that so many cents of a program without a limit of its own break.
 #[tactic(auto, using(crate::proofs::Groups::unlimited_groups))]
 fn broken_unlimited(f: &Facts, program: Program, cents: u64) -> Option<Refusal>
-    requires facts { IsInRange f.now }
+    requires facts { AreFactsInRange f.now }
     requires amount { cents ≤ 99999999 }
     ensures { result ≡ first_broken (unlimited_lines f.now (rank program) cents) }
 {
@@ -126,7 +126,7 @@ fn broken_by_pell_standing(f: &Facts, school: School) -> Option<Refusal>
 /// The refusal where so many cents pass what may be disbursed after a withdrawal, of the program or of all programs (34
 /// CFR 668.22(a)(6)).
 fn broken_by_withdrawal(f: &Facts, program: Program, cents: u64) -> Option<Refusal>
-    requires facts { IsInRange f.now }
+    requires facts { AreFactsInRange f.now }
     requires amount { cents ≤ 99999999 }
     ensures { result ≡ first_broken (rule_52 f.now (rank program) cents) }
 {

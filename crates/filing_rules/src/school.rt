@@ -1,6 +1,6 @@
 //! The rules on what a school files of its students: credits, costs, repayments and downward adjustments.
 ghost use Rattle.std.specs.Prelude.{◌≡◌};
-ghost use Rattle.filing_rules.specs.InRange.{IsInRange};
+ghost use Rattle.filing_rules.specs.InRange.{AreFactsInRange};
 ghost use Rattle.filing_rules.specs.Rules.{first_broken, lines_of};
 ghost use Rattle.aid_filings.specs.declared.filing.What.TheVariants.{Enrol, Originate, Repay, Adjust};
 
@@ -18,7 +18,7 @@ const MOST_CREDITS: u8 = 40;
 
 /// The first broken rule of a student's credits in a term.
 pub(crate) fn broken_enrolment(f: &Facts, school: School, enrolment: &EnrolFacts) -> Option<Refusal>
-    requires { IsInRange f.now }
+    requires { AreFactsInRange f.now }
     ensures { result ≡ first_broken (lines_of f.now school (Enrol enrolment.now)) }
 {
     if let Some(refusal) = broken_by_school(f, school) {
@@ -65,7 +65,7 @@ pub(crate) fn broken_origination(
 
 /// The first broken rule of a grant repayment by a student.
 pub(crate) fn broken_repayment(f: &Facts, school: School, repayment: &Amount) -> Option<Refusal>
-    requires { IsInRange f.now }
+    requires { AreFactsInRange f.now }
     ensures { result ≡ first_broken (lines_of f.now school (Repay repayment.now)) }
 {
     if let Some(refusal) = broken_by_school(f, school) {

@@ -2,7 +2,7 @@
 ghost use Rattle.std.specs.Prelude.{◌≡◌, ◌≤◌, ◌<◌, [], ◌∷◌, IsNone};
 ghost use Rattle.aid_types.specs.Ranges.{EachIsCents};
 ghost use Rattle.aid_filings.specs.declared.filing.What.TheVariants.{Withdraw};
-ghost use Rattle.filing_rules.specs.InRange.{IsInRange};
+ghost use Rattle.filing_rules.specs.InRange.{AreFactsInRange};
 ghost use Rattle.filing_rules.specs.Lines.{cost_could, fseog_could, pell_could, withdrawal_days, withdrawal_standing};
 ghost use Rattle.filing_rules.specs.Rules.{first_broken, lines_of, rule_63};
 
@@ -26,7 +26,7 @@ pub(crate) fn broken_withdrawal(
     school: School,
     withdrawal: &WithdrawFacts,
 ) -> Option<Refusal>
-    requires { IsInRange f.now }
+    requires { AreFactsInRange f.now }
     ensures { result ≡ first_broken (lines_of f.now school (Withdraw withdrawal.now)) }
 {
     if let Some(refusal) = broken_by_student(f, school, withdrawal) {
@@ -85,7 +85,7 @@ fn broken_by_days(f: &Facts, withdrawal: &WithdrawFacts) -> Option<Refusal>
 /// The first limit that what could have been disbursed passes, all of it paid at once.
 #[tactic(auto, using(crate::proofs::Groups::could_groups, aid_types::proofs::ProgramLemmas::cents_at))]
 fn broken_by_could(f: &Facts, could: &ByProgram) -> Option<Refusal>
-    requires facts { IsInRange f.now }
+    requires facts { AreFactsInRange f.now }
     requires on_file { f.now.school_at ≡ 0 → ⊥ }
     requires enrolled { 1 ≤ f.now.credits }
     requires amounts { EachIsCents could.now }
@@ -102,7 +102,7 @@ fn broken_by_could(f: &Facts, could: &ByProgram) -> Option<Refusal>
 
 /// The first limit on Pell that the Pell amount passes, if there is one.
 fn broken_by_pell_could(f: &Facts, cents: u64) -> Option<Refusal>
-    requires facts { IsInRange f.now }
+    requires facts { AreFactsInRange f.now }
     requires on_file { f.now.school_at ≡ 0 → ⊥ }
     requires enrolled { 1 ≤ f.now.credits }
     requires amount { cents ≤ 99999999 }
@@ -116,7 +116,7 @@ fn broken_by_pell_could(f: &Facts, cents: u64) -> Option<Refusal>
 
 /// The refusal where there is an FSEOG amount and it passes the year's limit.
 fn broken_by_fseog_could(f: &Facts, cents: u64) -> Option<Refusal>
-    requires facts { IsInRange f.now }
+    requires facts { AreFactsInRange f.now }
     requires amount { cents ≤ 99999999 }
     ensures { result ≡ first_broken (fseog_could f.now cents) }
 {
@@ -128,7 +128,7 @@ fn broken_by_fseog_could(f: &Facts, cents: u64) -> Option<Refusal>
 
 /// The refusal where there is an amount and all of them together pass the cost of attendance.
 fn broken_by_total_could(f: &Facts, cents: u64) -> Option<Refusal>
-    requires facts { IsInRange f.now }
+    requires facts { AreFactsInRange f.now }
     requires amount { cents ≤ 599999994 }
     ensures { result ≡ first_broken (cost_could f.now cents) }
 {

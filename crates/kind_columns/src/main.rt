@@ -1,7 +1,7 @@
 //! Prints the columns of every kind of filing, from the table of kinds.
 #![tactic(auto)]
 
-use filing_kinds::{Field, Form, Kind, Limit, Part, key_parts, kind_at, program_words, row};
+use filing_kinds::{Field, Form, Kind, Limit, Part, key_parts, kind_at, program_words, table_row};
 use std::io;
 
 fn main(rt: HostRuntime) -> io::Result<()> {
@@ -21,7 +21,7 @@ fn main(rt: HostRuntime) -> io::Result<()> {
 }
 
 fn print_kind(rt: &impl Print, kind: Kind) -> io::Result<()> {
-    let row = row(kind);
+    let row = table_row(kind);
     println!(rt; "")?;
     println!(rt; "{}, code {}", row.name, row.code)?;
     print_parts(rt, 2, key_parts())?;

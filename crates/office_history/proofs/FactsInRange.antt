@@ -15,7 +15,7 @@ use Rattle.aid_filings.specs.declared.filing.Filing.{Filing}
 use Rattle.aid_filings.specs.declared.filing.What.{What}
 use Rattle.aid_filings.specs.declared.filing.What.TheVariants.{Book as BookFiled, School, Calendar, Prior, Apply, Enrol, Originate, Pay, Withdraw, Repay, Adjust}
 use Rattle.filing_rules.specs.declared.facts.Facts.{Facts}
-use Rattle.filing_rules.specs.InRange.{IsInRange, IsSum}
+use Rattle.filing_rules.specs.InRange.{AreFactsInRange, IsSum}
 use Rattle.sai_index.specs.Formulas.{formula}
 use Rattle.sai_index.specs.Index.{index_lines}
 use Rattle.pell_schedule.specs.Award.{decision_of}
@@ -70,7 +70,7 @@ pub repaid_in_range : (past : List Filing) → IsLegal past → (sel : Cell → 
 repaid_in_range past legal sel = let p = repaid_is_small past sel in let s = legal_is_short past legal in omega arith
 
 -- what a withdrawal reads
-pub aid_in_range : (past : List Filing) → IsLegal past → (school student year term : ℕ) → IsInRange (aid_facts past school student year term)
+pub aid_in_range : (past : List Filing) → IsLegal past → (school student year term : ℕ) → AreFactsInRange (aid_facts past school student year term)
 aid_in_range past legal school student year term = record {
   school = school_in_range past school;
   scheduled = scheduled_in_range past student year;
@@ -85,7 +85,7 @@ aid_in_range past legal school student year term = record {
 }
 
 -- what a payment reads, and what a quote does
-pub payment_in_range : (past : List Filing) → IsLegal past → (school student year term program : ℕ) → IsInRange (payment_facts past school student year term program)
+pub payment_in_range : (past : List Filing) → IsLegal past → (school student year term program : ℕ) → AreFactsInRange (payment_facts past school student year term program)
 payment_in_range past legal school student year term program = record {
   school = school_in_range past school;
   scheduled = scheduled_in_range past student year;
@@ -101,7 +101,7 @@ payment_in_range past legal school student year term program = record {
 
 -- facts that hold no sums and no award
 bare_in_range : (f : Facts) → ((f.school_at ≡ 0 → ⊥) → IsBetween 2 3 f.terms × IsBetween 1 40 f.full) → f.scheduled ≡ 0 → f.credits ≡ 0 → f.pell_term ≡ 0 → IsSum f.pell_year →
-    f.fseog_year ≡ 0 → f.net_all ≡ 0 → f.after ≡ 0 → f.after_all ≡ 0 → IsSum f.repaid → IsInRange f
+    f.fseog_year ≡ 0 → f.net_all ≡ 0 → f.after ≡ 0 → f.after_all ≡ 0 → IsSum f.repaid → AreFactsInRange f
 bare_in_range f school scheduled credits term year fseog all after after_all repaid = record {
   school = school;
   scheduled = omega arith;
@@ -116,7 +116,7 @@ bare_in_range f school scheduled credits term year fseog all after after_all rep
 }
 
 -- what a filing reads
-facts_of_kind : (past : List Filing) → IsLegal past → (key : Key) (what : What) → IsInRange (facts_of past key what)
+facts_of_kind : (past : List Filing) → IsLegal past → (key : Key) (what : What) → AreFactsInRange (facts_of past key what)
 facts_of_kind past legal key (Pay a) = payment_in_range past legal key.school a.student a.year a.term (rank a.program)
 facts_of_kind past legal key (Withdraw w) = aid_in_range past legal key.school w.student w.year w.term
 facts_of_kind past legal key (Enrol e) = record {
@@ -142,5 +142,5 @@ facts_of_kind past legal key (Prior b) = bare_in_range (facts_of past key (Prior
 facts_of_kind past legal key (Originate b) = bare_in_range (facts_of past key (Originate b)) (school_in_range past key.school) refl refl refl zero-le refl refl refl refl zero-le
 facts_of_kind past legal key (Adjust b) = bare_in_range (facts_of past key (Adjust b)) (school_in_range past key.school) refl refl refl zero-le refl refl refl refl zero-le
 
-pub facts_in_range : (past : List Filing) → IsLegal past → (f : Filing) → IsInRange (facts_of past f.key f.what)
+pub facts_in_range : (past : List Filing) → IsLegal past → (f : Filing) → AreFactsInRange (facts_of past f.key f.what)
 facts_in_range past legal f = facts_of_kind past legal f.key f.what

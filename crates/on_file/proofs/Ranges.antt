@@ -11,7 +11,7 @@ use Rattle.aid_types.specs.declared.term.Term.{Term}
 use Rattle.aid_filings.specs.declared.filing.Filing.{Filing}
 use Rattle.aid_filings.specs.declared.filing.WithdrawFacts.{WithdrawFacts}
 use Rattle.enrolment.specs.Terms.{days_upto}
-use Rattle.withdrawal_returns.specs.Worksheet.{IsInRange}
+use Rattle.withdrawal_returns.specs.Worksheet.{AreInputsInRange}
 use Rattle.withdrawal_returns.specs.declared.Inputs.{Inputs}
 use Rattle.office_history.specs.Past.{the_term}
 use Rattle.office_history.specs.Net.{net_at, withdrawn_cell, days_of, last_of}
@@ -31,12 +31,12 @@ worked_days past key w can =
 pub inputs_in_range : (past : List Filing) (key : Key) (w : WithdrawFacts) (t : Term) (i : Inputs) →
     IsLegal past → CanBeWorkedOut past key w → Some t ≡ the_term past key.school w.year w.term →
     i ≡ record { completed = days_upto t w.last; total = days_upto t t.last; charges = w.charges; net = six (λ p. net_at past (withdrawn_cell key w p)); could = w.could } →
-    IsInRange i
+    AreInputsInRange i
 inputs_in_range past key w t i legal can is e =
     let d = worked_days past key w can in
     let o : days_of (the_term past key.school w.year w.term) w.last ≡ days_upto t w.last = ap (λ (x : Option Term). days_of x w.last) (sym is) in
     let p : days_of (the_term past key.school w.year w.term) (last_of (the_term past key.school w.year w.term)) ≡ days_upto t t.last = ap (λ (x : Option Term). days_of x (last_of x)) (sym is) in
-    subst IsInRange (sym e) (record {
+    subst AreInputsInRange (sym e) (record {
       begun = omega arith;
       inside = omega arith;
       charges = w.in_range.1;

@@ -13,7 +13,7 @@ use Rattle.office_history.specs.Past.{the_term, the_withdrawal, is_extra}
 use Rattle.office_history.specs.Net.{Cell, is_cell, in_term, onto, moves_at, withdrawn_cell, cell_of, net_at, paid, taken, owed, repaid, post, paid_after, payments_in, takings_in, owings_in, repayments_in, payments_after, posts_in, sheet}
 use Rattle.on_file.specs.Names.{names, NoneNames}
 use Rattle.on_file.specs.Accounts.{IsAccount, nothing}
-use Rattle.on_file.specs.CellTests.{test_of, student_of}
+use Rattle.on_file.specs.CellTests.{test_of, student_in}
 use Rattle.on_file.specs.declared.cells.Cells.{Cells}
 use Rattle.on_file.specs.declared.cells.Cells.TheVariants.{InYear, InMainTerms, AtSchool}
 use Rattle.on_file.proofs.Sixes.{six-ext}
@@ -132,7 +132,7 @@ account_none past school student year term h =
     }
 
 -- the cells that a net is of are those of its student
-pub cells_of : (past : List Filing) (cells : Cells) → OfStudent (student_of cells) (test_of past cells)
+pub cells_of : (past : List Filing) (cells : Cells) → OfStudent (student_in cells) (test_of past cells)
 cells_of past (InYear student year program) c away = ap (λ (x : Bool). x && (c.year == year && c.program == rank program)) away
 cells_of past (InMainTerms student year) c away =
     ap (λ (x : Bool). (x && (c.year == year && c.program == 3)) && not (is_extra (the_term past c.school c.year c.term))) away

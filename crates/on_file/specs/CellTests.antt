@@ -13,10 +13,10 @@ test_of past (InMainTerms student year) = in_main_terms past student year 3
 test_of past (AtSchool school student year) = at_school_in_year school student year
 
 -- the student whose cells they are
-abbrev pub student_of : Cells → ℕ
-student_of (InYear student year program) = student
-student_of (InMainTerms student year) = student
-student_of (AtSchool school student year) = student
+abbrev pub student_in : Cells → ℕ
+student_in (InYear student year program) = student
+student_in (InMainTerms student year) = student
+student_in (AtSchool school student year) = student
 
 -- whether all of them are of this student and year
 abbrev pub are_of : Cells → ℕ → ℕ → Bool

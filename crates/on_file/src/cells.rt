@@ -7,7 +7,7 @@ ghost use Rattle.office_history.specs.Net.{net, in_year, pell_main, at_school_in
 ghost use Rattle.office_history.specs.Past.{the_term, is_extra as is_extra_term};
 ghost use Rattle.office_history.specs.Sheets.{CanBeWorkedOut};
 ghost use Rattle.on_file.specs.Names.{NoneNames};
-ghost use Rattle.on_file.specs.CellTests.{test_of, are_of, student_of};
+ghost use Rattle.on_file.specs.CellTests.{test_of, are_of, student_in};
 
 use crate::sheets::sheet;
 use crate::term;
@@ -72,7 +72,7 @@ pub fn net_at_school(
 fn net_of(history: &[Filing], since: usize, cells: &Cells) -> u64
     requires legal { IsLegal (reverse history.now) }
     requires since { since ≤ length history.now }
-    requires none { NoneNames (student_of cells.now) (reverse (take since history.now)) }
+    requires none { NoneNames (student_in cells.now) (reverse (take since history.now)) }
     ensures value { result ≡ net (reverse history.now) (test_of (reverse history.now) cells.now) }
     ensures at_most { result ≤ 20000000000000 }
 {

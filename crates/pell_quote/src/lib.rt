@@ -4,7 +4,7 @@
 mod limits;
 
 ghost use Rattle.std.specs.Prelude.{◌≡◌, ◌≤◌, ◌<◌, ◌*◌, ℕ, None};
-ghost use Rattle.filing_rules.specs.InRange.{IsInRange};
+ghost use Rattle.filing_rules.specs.InRange.{AreFactsInRange};
 ghost use Rattle.filing_rules.specs.Quote.{greatest_payment};
 ghost use Rattle.filing_rules.specs.Rules.{first_broken, payment_lines};
 
@@ -19,7 +19,7 @@ const MOST_DOLLARS: u64 = 999_999;
 /// breaking a rule, and 0 where there is none. `f` holds the facts of a payment of theirs there: all that decides is among
 /// them, and no rule reads the names themselves.
 pub fn quote(f: &Facts, school: School, student: Student, year: Year, term: u8) -> u64
-    requires in_range { IsInRange f.now }
+    requires in_range { AreFactsInRange f.now }
     ensures value { result ≡ greatest_payment f.now school student year term }
     ensures payable { 0 < result → first_broken (payment_lines f.now school student year term 3 result) ≡ None }
     // Each smaller payment of whole dollars breaks no rule either.

@@ -2,7 +2,7 @@
 ghost use Rattle.std.specs.Prelude.{◌≡◌, ◌≤◌, ◌<◌, ◌+◌, ◌*◌, ◌-◌, ◌/◌, ◌↔◌, ℕ, IsTrue};
 ghost use Rattle.aid_types.specs.Ranges.{IsBetween};
 ghost use Rattle.lifetime_ledger.specs.Used.{use_of};
-ghost use Rattle.filing_rules.specs.InRange.{IsInRange};
+ghost use Rattle.filing_rules.specs.InRange.{AreFactsInRange};
 ghost use Rattle.pell_quote.specs.Limits.{IsAffordable, IsMostDollars, IsWithinLimits, IsWithinPost, MayBePaid};
 
 use aid_types::Program;
@@ -24,7 +24,7 @@ pub(crate) fn may_be_paid(f: &Facts) -> bool
 
 /// The most whole dollars of Pell that stay within all that bounds them.
 pub(crate) fn most_dollars(f: &Facts) -> u64
-    requires facts { IsInRange f.now }
+    requires facts { AreFactsInRange f.now }
     requires may_be_paid { MayBePaid f.now }
     ensures { IsMostDollars (IsAffordable f.now) result }
 {
@@ -38,7 +38,7 @@ pub(crate) fn most_dollars(f: &Facts) -> u64
 
 /// The most whole dollars within the limits of the term, the year, the lifetime and the cost of attendance.
 fn limit_dollars(f: &Facts) -> u64
-    requires facts { IsInRange f.now }
+    requires facts { AreFactsInRange f.now }
     requires may_be_paid { MayBePaid f.now }
     ensures { IsMostDollars (IsWithinLimits f.now) result }
 {
@@ -54,7 +54,7 @@ fn limit_dollars(f: &Facts) -> u64
 /// The most cents of the year that are within the lifetime limit, 0 where none is. A year's use is rounded to the nearest
 /// unit, so its cents are within so many units as long as they use less than half a unit more (HEA 401(d)(5)).
 fn lifetime_cents(f: &Facts) -> u64
-    requires facts { IsInRange f.now }
+    requires facts { AreFactsInRange f.now }
     requires may_be_paid { MayBePaid f.now }
     ensures { (cents : ℕ) → 0 < cents → (cents ≤ result) ↔ (f.now.used_else + use_of cents f.now.scheduled ≤ 600000) }
 {

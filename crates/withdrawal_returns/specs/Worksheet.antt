@@ -9,7 +9,7 @@ use Rattle.withdrawal_returns.specs.declared.Inputs.{Inputs}
 use Rattle.withdrawal_returns.specs.declared.Lines.{Lines}
 
 -- what a worksheet is worked out for: days of one term, and amounts below a million dollars
-pub record IsInRange (i : Inputs) : Type 0 where
+pub record AreInputsInRange (i : Inputs) : Type 0 where
   pub begun : 1 ≤ i.completed
   pub inside : i.completed ≤ i.total
   pub charges : i.charges ≤ 99999999

@@ -4,7 +4,7 @@
 ghost use Rattle.std.specs.Prelude.{◌≡◌, ℕ, ◌+◌, ◌*◌, ◌≤◌, ◌^◌, sum, slice_index};
 ghost use Rattle.aid_types.specs.Ranges.{EachIsCents};
 ghost use Rattle.aid_num.specs.Nearest.{half_up};
-ghost use Rattle.withdrawal_returns.specs.Worksheet.{IsInRange, grant_owed, owed_by_program, percent_earned as percent_of, spread as spread_of, worksheet_of};
+ghost use Rattle.withdrawal_returns.specs.Worksheet.{AreInputsInRange, grant_owed, owed_by_program, percent_earned as percent_of, spread as spread_of, worksheet_of};
 
 use aid_num::nearest_whole;
 use aid_types::{ByProgram, Program};
@@ -41,7 +41,7 @@ pub struct Lines {
 /// return of the rest, and what is still to be disbursed. All is earned past 60 percent of the days (668.22(e)(2)).
 /// Amounts are below a million dollars, and the last day lies in the term.
 pub fn worksheet(i: &Inputs) -> Lines
-    requires { IsInRange i.now }
+    requires { AreInputsInRange i.now }
     ensures lines { result ≡ worksheet_of i.now.completed i.now.total i.now.charges i.now.net i.now.could }
     ensures returned { sum result.returned ≡ result.school }
     ensures laid { sum result.laid ≡ result.student }
@@ -53,7 +53,7 @@ pub fn worksheet(i: &Inputs) -> Lines
 // Every line.
 #[tactic(auto, unfolding(crate::specs::Worksheet::worksheet_of))]
 fn worked_out(i: &Inputs) -> Lines
-    requires { IsInRange i.now }
+    requires { AreInputsInRange i.now }
     ensures { result ≡ worksheet_of i.now.completed i.now.total i.now.charges i.now.net i.now.could }
 {
     let percent = percent_earned(i.completed, i.total);
@@ -122,7 +122,7 @@ fn spread(left: u64, amounts: &ByProgram) -> ByProgram
 // What the student repays of each program: of the grants alone.
 #[tactic(auto, using(aid_types::proofs::ProgramLemmas::cents_at))]
 fn owed(laid: &ByProgram, i: &Inputs) -> ByProgram
-    requires { IsInRange i.now }
+    requires { AreInputsInRange i.now }
     ensures { result ≡ owed_by_program laid.now i.now.net i.now.could }
 {
     let (net, could) = (i.net, i.could);

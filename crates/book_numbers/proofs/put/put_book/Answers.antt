@@ -8,8 +8,8 @@ use Rattle.book_numbers.proofs.put.put_book.Goals as goal
 pub returns-clause-added : goal.returns-clause-added
 unfolding numbers_of
 returns-clause-added c =
-    let first : c.put.new.numbers.items ≡ c.args.numbers.now.items ++ (pos 1 ∷ pos c.args.book.now.year ∷ []) = search rules in
-    all_put c.args.numbers.now.items c.put.new.numbers.items c.put_pell_figures.new.numbers.items c.put_percents.new.numbers.items c.put_poverty.new.numbers.items c.put_payroll.new.numbers.items c.put_protection.new.numbers.items c.put_employment.new.numbers.items c.put_asset_rates.new.numbers.items c.put_brackets.new.numbers.items c.put_ages.new.numbers.items c.put_schedule.new.numbers.items c.put_brackets-2.new.numbers.items
+    let first : c.add_numbers.new.numbers.items ≡ c.args.numbers.now.items ++ (pos 1 ∷ pos c.args.book.now.year ∷ []) = search rules in
+    all_put c.args.numbers.now.items c.add_numbers.new.numbers.items c.put_pell_figures.new.numbers.items c.put_percents.new.numbers.items c.put_poverty.new.numbers.items c.put_payroll.new.numbers.items c.put_protection.new.numbers.items c.put_employment.new.numbers.items c.put_asset_rates.new.numbers.items c.put_brackets.new.numbers.items c.put_ages.new.numbers.items c.put_schedule.new.numbers.items c.put_brackets-2.new.numbers.items
     (pos 1 ∷ pos c.args.book.now.year ∷ []) (pell_numbers c.args.book.now.pell) (percent_numbers c.args.book.now.percent) (poverty_numbers c.args.book.now.poverty) (payroll_numbers c.args.book.now.payroll) (protection_numbers c.args.book.now.protection) (employment_numbers c.args.book.now.employment) (asset_numbers c.args.book.now.assets) (bracket_numbers c.args.book.now.business) (age_numbers c.args.book.now.age) (schedule_numbers c.args.book.now.schedule) (bracket_numbers c.args.book.now.bracket)
     first c.put_pell_figures.ensures.added c.put_percents.ensures.added c.put_poverty.ensures.added c.put_payroll.ensures.added c.put_protection.ensures.added c.put_employment.ensures.added c.put_asset_rates.ensures.added (c.put_brackets.ensures.added ∙ ap (λ rows. c.put_asset_rates.new.numbers.items ++ bracket_numbers rows) c.as_slice.ensures.rows) (c.put_ages.ensures.added ∙ ap (λ rows. c.put_brackets.new.numbers.items ++ age_numbers rows) c.as_slice-2.ensures.rows) c.put_schedule.ensures.added (c.put_brackets-2.ensures.added ∙ ap (λ rows. c.put_schedule.new.numbers.items ++ bracket_numbers rows) c.as_slice-3.ensures.rows)
 

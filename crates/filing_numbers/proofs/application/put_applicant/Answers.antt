@@ -12,4 +12,4 @@ returns-clause-added c =
     let birth_year : word c.from-birth_year.result ≡ pos x.birth_year = search rules in
     let region : word c.number_of_region-region.result ≡ region_number x.region = search rules in
     let family : word c.from-family.result ≡ pos x.family = search rules in
-    c.put.ensures.added ∙ ap (λ (zs : List ℤ). c.args.numbers.now.items ++ zs) (λ i. student i ∷ year i ∷ transaction i ∷ birth_year i ∷ region i ∷ family i ∷ [])
+    c.add_numbers.ensures.added ∙ ap (λ (zs : List ℤ). c.args.numbers.now.items ++ zs) (λ i. student i ∷ year i ∷ transaction i ∷ birth_year i ∷ region i ∷ family i ∷ [])

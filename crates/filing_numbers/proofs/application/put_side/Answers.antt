@@ -3,4 +3,4 @@ use Rattle.filing_numbers.proofs.Applications.{side_words}
 use Rattle.filing_numbers.proofs.application.put_side.Goals as goal
 
 pub returns : goal.returns
-returns c = record { added = c.put.ensures.added ∙ ap (λ (zs : List ℤ). c.args.numbers.now.items ++ zs) (side_words c.args.side.now) }
+returns c = record { added = c.add_numbers.ensures.added ∙ ap (λ (zs : List ℤ). c.args.numbers.now.items ++ zs) (side_words c.args.side.now) }

@@ -5,14 +5,14 @@ use Rattle.filing_numbers.proofs.Breaks.{next}
 use Rattle.filing_numbers.proofs.Slots.{all_of_rest}
 use Rattle.filing_numbers.proofs.facts.breaks_of.Goals as goal
 
-pub day_of-requires : goal.day_of-requires
-day_of-requires c =
+pub day_from-requires : goal.day_from-requires
+day_from-requires c =
     let h = next c.args.days.now c.loop-rest.breaks c.loop-rest.rest.now c.in-len2-up.len_at_least c.loop-rest.invariant in
     let first = h.first in
     search rules
 
-pub day_of-requires-in-len2-up : goal.day_of-requires-in-len2-up
-day_of-requires-in-len2-up c =
+pub day_from-requires-in-len2-up : goal.day_from-requires-in-len2-up
+day_from-requires-in-len2-up c =
     let h = next c.args.days.now c.loop-rest.breaks c.loop-rest.rest.now c.in-len2-up.len_at_least c.loop-rest.invariant in
     let last = h.last in
     search rules
@@ -20,7 +20,7 @@ day_of-requires-in-len2-up c =
 pub loop-rest-preserved : goal.loop-rest-preserved
 loop-rest-preserved c =
     let h = next c.args.days.now c.loop-rest.breaks c.loop-rest.rest.now c.in-len2-up.len_at_least c.loop-rest.invariant in
-    let first : day_number c.day_of.result ≡ slice_index_or c.loop-rest.rest.now 0 (pos 0) = search rules in
-    let last : day_number c.day_of-in-len2-up.result ≡ slice_index_or c.loop-rest.rest.now 1 (pos 0) = search rules in
-    let more = h.after c.day_of.result c.day_of-in-len2-up.result first last in
+    let first : day_number c.day_from.result ≡ slice_index_or c.loop-rest.rest.now 0 (pos 0) = search rules in
+    let last : day_number c.day_from-in-len2-up.result ≡ slice_index_or c.loop-rest.rest.now 1 (pos 0) = search rules in
+    let more = h.after c.day_from.result c.day_from-in-len2-up.result first last in
     rw (c.push.ensures, all_of_rest) more

@@ -8,7 +8,7 @@ pub loop-first-preserved : goal.loop-first-preserved
 loop-first-preserved c =
     let d = c.loop-first-item.result in
     let more = one_more c.args.breaks.now c.loop-first.first-index d c.loop-first-test.true c.loop-first-item.is c.number_of_day.ensures.in_range c.number_of_day-in-loop-first.ensures.in_range c.loop-first.invariant.in_range in
-    let added : c.put.new.numbers.items ≡ c.loop-first.numbers.items ++ break_days d = search rules in
+    let added : c.add_numbers.new.numbers.items ≡ c.loop-first.numbers.items ++ break_days d = search rules in
     record {
       room = rw added (omega (arith, length-append c.loop-first.numbers.items (break_days d)));
       added = added ∙ ap (λ (zs : List ℤ). zs ++ break_days d) c.loop-first.invariant.added ∙ append_assoc c.args.numbers.now.items (flat_map break_days (take c.loop-first.first-index c.args.breaks.now)) (break_days d) ∙ ap (λ (zs : List ℤ). c.args.numbers.now.items ++ zs) (sym more.days);

@@ -1,5 +1,6 @@
 use Rattle.std.proofs.Common.{◌≡◌, ◌+◌, ◌-◌, ◌*◌, ◌≤◌, ◌++◌, length, take}
 use Rattle.std.specs.Prelude.{flat_map}
+use Rattle.filing_kinds.specs.Forms.{most_numbers}
 use Rattle.filing_kinds.specs.Layout.{rows_again}
 use Rattle.filing_numbers.specs.Numbers.{break_days}
 use Rattle.filing_numbers.specs.Parts.{FitAnywhere, break_lines}
@@ -7,7 +8,7 @@ use Rattle.filing_numbers.proofs.facts.put_breaks.Given as goal
 
 abbrev pub invariant-loop-first : goal.invariant-loop-first
 invariant-loop-first l = record {
-  room : length l.numbers.items + 2 * (length l.breaks - l.first-index) ≤ 369;
+  room : length l.numbers.items + 2 * (length l.breaks - l.first-index) ≤ most_numbers;
   added : l.numbers.items ≡ l.initial.numbers.items ++ flat_map break_days (take l.first-index l.breaks);
   in_range : FitAnywhere (rows_again l.first-index break_lines) (flat_map break_days (take l.first-index l.breaks));
 }

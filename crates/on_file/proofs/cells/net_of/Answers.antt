@@ -3,7 +3,7 @@ use Rattle.aid_filings.specs.declared.filing.Filing.{Filing}
 use Rattle.office_history.specs.Net.{paid, taken, net_at, payments_in, takings_in}
 use Rattle.office_history.proofs.Cells.{onto_is}
 use Rattle.office_history.proofs.AnyNets.{any_net_stands}
-use Rattle.on_file.specs.CellTests.{student_of, test_of}
+use Rattle.on_file.specs.CellTests.{student_in, test_of}
 use Rattle.office_history.proofs.Slices.{legal_at, legal_take, one_more}
 use Rattle.on_file.proofs.Bounds.{paid-most, taken-most}
 use Rattle.on_file.proofs.Strangers.{cells_of, paid_none, taken_none}
@@ -15,8 +15,8 @@ loop-index-init c =
     let cells = c.args.cells.now in
     let past = reverse (take c.args.since h) in
     record {
-      paid = sym (paid_none (student_of cells) (test_of (reverse h) cells) (cells_of (reverse h) cells) past c.requires.none);
-      taken = sym (taken_none (student_of cells) (test_of (reverse h) cells) (cells_of (reverse h) cells) past c.requires.none);
+      paid = sym (paid_none (student_in cells) (test_of (reverse h) cells) (cells_of (reverse h) cells) past c.requires.none);
+      taken = sym (taken_none (student_in cells) (test_of (reverse h) cells) (cells_of (reverse h) cells) past c.requires.none);
     }
 
 pub overflow_add-paid : goal.overflow_add-paid
