@@ -1,8 +1,9 @@
 -- What the errors say of a text.
 use Rattle.std.proofs.Common.{◌≡◌, ℕ, zero, suc, ◌<◌, ℤ, Bool, true, false, ◌⊎◌, inl, inr, List, [], ◌∷◌, Option, Some, None, option_map, Result, Ok, Err, refl, sym, ap, ◌∙◌, subst, arith}
-use Rattle.std.specs.Prelude.{◌≢◌, IfErr, IfOk, is_some, slice_get, if◌then◌else◌}
+use Rattle.std.specs.Prelude.{◌≢◌, IfErr, IfOk, is_some, slice_get}
 use Rattle.std.specs.Cmp.Lexicographic.{slice_cmp}
 use Rattle.std.specs.List.{All, Contains, fold, list_all}
+use Rattle.std.specs.Option.{option_or}
 use Rattle.std.specs.Ordering.{match_ordering, nat_cmp, ordering_reverse}
 use Rattle.std.specs.declared.cmp.Ordering.{Ordering}
 use Rattle.std.specs.declared.cmp.Ordering.TheVariants.{Less, Equal, Greater}
@@ -13,14 +14,16 @@ use Rattle.aid_books.specs.declared.book.Book.{Book}
 use Rattle.book_numbers.proofs.Equal.{same_book}
 use Rattle.book_numbers.specs.Book.{numbers_of}
 use Rattle.year_books.specs.Causes.{IsLeastUnknown, IsLeastUnknownIn, IsMissing, IsMissingIn}
-use Rattle.year_books.specs.Fields.{Line, table_fields}
-use Rattle.year_books.specs.Flat.{flat}
-use Rattle.year_books.specs.Reading.{after, all_numbers, field_numbers, in_range, is_between, limit, numbers_from, numbers_in, or_wrong_kind, places_of, table_of, unranged}
+use Rattle.year_books.specs.Fields.{BookLine, table_fields}
+use Rattle.year_books.specs.Numbers.{numbers_in}
+use Rattle.year_books.specs.Ranges.{range_named}
+use Rattle.year_books.specs.Reading.{field_error, fields_error, first_error, first_fault, has_kind, has_range, limit, places_error, places_of, table_of}
 use Rattle.year_books.specs.Tables.{book_break, first_break}
 use Rattle.year_books.specs.Text.{numbers_if, numbers_of_table, numbers_of_text, unless}
 use Rattle.year_books.specs.Unknown.{keep_lesser, lesser, unknown_key, unknown_names}
 use Rattle.year_books.specs.declared.error.BookError.{BookError}
-use Rattle.year_books.specs.declared.error.BookError.TheVariants.{Missing, OutOfRange, NoMemory, NotRising, Unknown}
+use Rattle.year_books.specs.declared.table.Holds.{Holds}
+use Rattle.year_books.specs.declared.error.BookError.TheVariants.{Missing, NoMemory, NotRising, Unknown}
 
 cmp : List ℕ → List ℕ → Ordering
 cmp a b = slice_cmp nat_cmp a b
@@ -100,61 +103,44 @@ none_among [] h = cc
 none_among (None ∷ os) h = (zero, omega arith, refl)
 none_among (Some d ∷ os) h = let rest = none_among os h in (suc rest.0, omega arith, rest.2)
 
-record IsEmpty (f : Line) (t : Members) (field : ℕ) : Type 0 where
-  pub number : f.number ≡ field
-  pub empty : Contains (places_of f.kind f.section f.key t) None
-
-places_missing : (f : Line) (t : Members) (field : ℕ) → unranged f t ≡ Err (Missing field) → IsEmpty f t field
-places_missing f t field h = by (list_all is_some (places_of f.kind f.section f.key t)) refl h
+-- which error a field has
+missing_places : (n : ℕ) (kind : Holds) (low high : ℤ) (os : List (Option Data)) (field : ℕ) → places_error n kind low high os ≡ Some (Missing field) → (n ≡ field) × Contains os None
+missing_places n kind low high os field h = by (list_all is_some os) (list_all (has_kind kind) os) (list_all (has_range low high kind) os) refl h
   where
-    kinds : (o : Option (List ℤ)) → or_wrong_kind f.number o ≡ Err (Missing field) → ⊥
-    kinds None e = cc
-    kinds (Some zs) e = cc
+    by : (a b c : Bool) → list_all is_some os ≡ a → first_fault n a b c ≡ Some (Missing field) → (n ≡ field) × Contains os None
+    by true true true e k = cc
+    by true true false e k = cc
+    by true false c e k = cc
+    by false b c e k = (cc, none_among os e)
 
-    by : (b : Bool) → list_all is_some (places_of f.kind f.section f.key t) ≡ b
-        → (if b then or_wrong_kind f.number (all_numbers f.kind (places_of f.kind f.section f.key t)) else Err (Missing f.number)) ≡ Err (Missing field) → IsEmpty f t field
-    by true e k = absurd (kinds (all_numbers f.kind (places_of f.kind f.section f.key t)) k)
-    by false e k = record { number = cc; empty = none_among (places_of f.kind f.section f.key t) e }
-
--- an error other than that a number is out of range is of what stands there
-read_error : (f : Line) (t : Members) (e : BookError) → (OutOfRange f.number ≢ e) → field_numbers f t ≡ Err e → unranged f t ≡ Err e
-read_error f t e other h = by (unranged f t) h
+known_places : (n : ℕ) (kind : Holds) (low high : ℤ) (os : List (Option Data)) (name : List ℕ) → places_error n kind low high os ≢ Some (Unknown name)
+known_places n kind low high os name h = by (list_all is_some os) (list_all (has_kind kind) os) (list_all (has_range low high kind) os) h
   where
-    tested : (b : Bool) (zs : List ℤ) → (if b then Ok zs else Err (OutOfRange f.number)) ≡ Err e → ⊥
-    tested true zs k = cc
-    tested false zs k = other cc
+    by : (a b c : Bool) → first_fault n a b c ≢ Some (Unknown name)
+    by true true true k = cc
+    by true true false k = cc
+    by true false c k = cc
+    by false b c k = cc
 
-    by : (r : Result (List ℤ) BookError) → after r (in_range f.number f.range.low (limit f.range.high f.section t)) ≡ Err e → r ≡ Err e
-    by (Ok zs) k = absurd (tested (list_all (is_between f.range.low (limit f.range.high f.section t)) zs) zs k)
-    by (Err x) k = k
-
-record MissingAt (fs : List Line) (t : Members) (field : ℕ) : Type 0 where
+-- the field that has the first error
+record HasError (fs : List BookLine) (t : Members) (e : BookError) : Type 0 where
   pub before : ℕ
-  pub missing : Line
-  pub here : slice_get fs before ≡ Some missing
-  pub is : IsEmpty missing t field
-  pub earlier : (k : ℕ) (f : Line) → k < before → slice_get fs k ≡ Some f → (zs : List ℤ) × (field_numbers f t ≡ Ok zs)
+  pub field : BookLine
+  pub here : slice_get fs before ≡ Some field
+  pub is : field_error field t ≡ Some e
+  pub earlier : (k : ℕ) (f : BookLine) → k < before → slice_get fs k ≡ Some f → field_error f t ≡ None
 
-fields_missing : (fs : List Line) (t : Members) (field : ℕ) → numbers_from fs t ≡ Err (Missing field) → MissingAt fs t field
-fields_missing [] t field h = cc
-fields_missing (f ∷ fs) t field h = by (field_numbers f t) refl h (fields_missing fs t field)
+has_error : (fs : List BookLine) (t : Members) (e : BookError) → first_error fs t ≡ Some e → HasError fs t e
+has_error [] t e h = cc
+has_error (f ∷ fs) t e h = by (field_error f t) refl h (has_error fs t e)
   where
-    first : (zs : List ℤ) → field_numbers f t ≡ Ok zs → (rest : MissingAt fs t field) → (k : ℕ) (g : Line) → k < suc rest.before → slice_get (f ∷ fs) k ≡ Some g → (ys : List ℤ) × (field_numbers g t ≡ Ok ys)
-    first zs e rest zero g l is = let same : f ≡ g = cc in (zs, subst (λ (x : Line). field_numbers x t ≡ Ok zs) same e)
-    first zs e rest (suc k) g l is = rest.earlier k g (omega arith) is
+    first : field_error f t ≡ None → (rest : HasError fs t e) → (k : ℕ) (g : BookLine) → k < suc rest.before → slice_get (f ∷ fs) k ≡ Some g → field_error g t ≡ None
+    first none rest zero g l is = let same : f ≡ g = cc in subst (λ (x : BookLine). field_error x t ≡ None) same none
+    first none rest (suc k) g l is = rest.earlier k g (omega arith) is
 
-    others : (zs : List ℤ) → field_numbers f t ≡ Ok zs → (r : Result (List (List ℤ)) BookError) → after r (λ zss. Ok (zs ∷ zss)) ≡ Err (Missing field)
-        → (r ≡ Err (Missing field) → MissingAt fs t field) → MissingAt (f ∷ fs) t field
-    others zs e (Ok zss) k rest = cc
-    others zs e (Err x) k rest = let at = rest k in record { before = suc at.before; missing = at.missing; here = at.here; is = at.is; earlier = first zs e at }
-
-    by : (r : Result (List ℤ) BookError) → field_numbers f t ≡ r → after r (λ zs. after (numbers_from fs t) (λ zss. Ok (zs ∷ zss))) ≡ Err (Missing field)
-        → (numbers_from fs t ≡ Err (Missing field) → MissingAt fs t field) → MissingAt (f ∷ fs) t field
-    by (Ok zs) e k rest = others zs e (numbers_from fs t) k rest
-    by (Err x) e k rest =
-        let same : x ≡ Missing field = cc in
-        let was : field_numbers f t ≡ Err (Missing field) = e ∙ ap Err same in
-        record { before = zero; missing = f; here = refl; is = places_missing f t field (read_error f t (Missing field) (λ q. cc) was); earlier = λ n g l is. absurd (omega (arith, l)) }
+    by : (o : Option BookError) → field_error f t ≡ o → option_or o (first_error fs t) ≡ Some e → (first_error fs t ≡ Some e → HasError fs t e) → HasError (f ∷ fs) t e
+    by None none k rest = let at = rest k in record { before = suc at.before; field = at.field; here = at.here; is = at.is; earlier = first none at }
+    by (Some x) is k rest = record { before = zero; field = f; here = refl; is = is ∙ k; earlier = λ n g l at. absurd (omega (arith, l)) }
 
 -- the first error of a table is that of its fields, a row that fails, or an unknown key
 break_is : (a b c : Option ℕ) (e : BookError) → first_break a b c ≡ Some e → (table : ℕ) × (row : ℕ) × (e ≡ NotRising table row)
@@ -163,68 +149,48 @@ break_is None (Some x) c e h = (2, x, cc)
 break_is None None (Some x) e h = (3, x, cc)
 break_is None None None e h = cc
 
--- what comes after the fields is an error of a row or of a key
-unless_break : (t : Members) (lists : List (List ℤ)) (e : BookError)
-    → ((table row : ℕ) → NotRising table row ≢ e)
-    → unless (book_break lists) (unless (option_map Unknown (unknown_key t)) (Ok (flat lists))) ≡ Err e → (name : List ℕ) × (unknown_key t ≡ Some name) × (e ≡ Unknown name)
-unless_break t lists e other h = broken (book_break lists) refl h
+-- the first error of a table is that of its fields, or of its keys, unless it is of a row
+error_is : (t : Members) (e : BookError) → ((table row : ℕ) → NotRising table row ≢ e) → numbers_of_table t ≡ Err e
+    → (fields_error t ≡ Some e) ⊎ ((name : List ℕ) × (unknown_key t ≡ Some name) × (e ≡ Unknown name))
+error_is t e other h = fields (fields_error t) refl h
   where
-    known : (o : Option (List ℕ)) → unknown_key t ≡ o → unless (option_map Unknown o) (Ok (flat lists)) ≡ Err e → (name : List ℕ) × (unknown_key t ≡ Some name) × (e ≡ Unknown name)
+    known : (o : Option (List ℕ)) → unknown_key t ≡ o → unless (option_map Unknown o) (Ok (numbers_in t)) ≡ Err e → (name : List ℕ) × (unknown_key t ≡ Some name) × (e ≡ Unknown name)
     known None is k = cc
     known (Some name) is k = (name, is, cc)
 
-    broken : (o : Option BookError) → book_break lists ≡ o → unless o (unless (option_map Unknown (unknown_key t)) (Ok (flat lists))) ≡ Err e → (name : List ℕ) × (unknown_key t ≡ Some name) × (e ≡ Unknown name)
+    broken : (o : Option BookError) → book_break t ≡ o → unless o (unless (option_map Unknown (unknown_key t)) (Ok (numbers_in t))) ≡ Err e → (name : List ℕ) × (unknown_key t ≡ Some name) × (e ≡ Unknown name)
     broken None is k = known (unknown_key t) refl k
     broken (Some x) is k = let row = break_is _ _ _ x is in absurd (other row.0 row.1 (let same : x ≡ e = cc in sym row.2 ∙ same))
 
+    fields : (o : Option BookError) → fields_error t ≡ o → unless o (unless (book_break t) (unless (option_map Unknown (unknown_key t)) (Ok (numbers_in t)))) ≡ Err e
+        → (fields_error t ≡ Some e) ⊎ ((name : List ℕ) × (unknown_key t ≡ Some name) × (e ≡ Unknown name))
+    fields None is k = inr (broken (book_break t) refl k)
+    fields (Some x) is k = let same : x ≡ e = cc in inl (is ∙ ap Some same)
+
+fields_missing : (t : Members) (field : ℕ) → fields_error t ≡ Some (Missing field) → IsMissing t field
+unfolding fields_error
+fields_missing t field h =
+    let at = has_error table_fields t (Missing field) h in
+    let f = at.field in
+    let empty = missing_places f.number f.kind (range_named f.name).low (limit (range_named f.name).high f.section t) (places_of f.kind f.section f.key t) field at.is in
+    record { before = at.before; missing = f; here = at.here; number = empty.0; empty = empty.1; earlier = at.earlier }
+
+fields_known : (t : Members) (name : List ℕ) → fields_error t ≢ Some (Unknown name)
+unfolding fields_error
+fields_known t name h =
+    let at = has_error table_fields t (Unknown name) h in
+    let f = at.field in
+    known_places f.number f.kind (range_named f.name).low (limit (range_named f.name).high f.section t) (places_of f.kind f.section f.key t) name at.is
+
 table_missing : (t : Members) (field : ℕ) → numbers_of_table t ≡ Err (Missing field) → IsMissing t field
-table_missing t field h = by (numbers_in t) refl h
-  where
-    by : (r : Result (List (List ℤ)) BookError) → numbers_in t ≡ r
-        → after r (λ lists. unless (book_break lists) (unless (option_map Unknown (unknown_key t)) (Ok (flat lists)))) ≡ Err (Missing field) → IsMissing t field
-    by (Ok lists) e k = let key = unless_break t lists (Missing field) (λ table row q. cc) k in absurd (let q = key.2 in cc)
-    by (Err x) e k =
-        let same : x ≡ Missing field = cc in
-        let at = fields_missing table_fields t field (e ∙ ap Err same) in
-        record { before = at.before; missing = at.missing; here = at.here; number = at.is.number; empty = at.is.empty; earlier = at.earlier }
-
--- a field's error is no unknown key
-read_not_unknown : (f : Line) (t : Members) (name : List ℕ) → unranged f t ≡ Err (Unknown name) → ⊥
-read_not_unknown f t name h = by (list_all is_some (places_of f.kind f.section f.key t)) h
-  where
-    kinds : (o : Option (List ℤ)) → or_wrong_kind f.number o ≡ Err (Unknown name) → ⊥
-    kinds None e = cc
-    kinds (Some zs) e = cc
-
-    by : (b : Bool) → (if b then or_wrong_kind f.number (all_numbers f.kind (places_of f.kind f.section f.key t)) else Err (Missing f.number)) ≡ Err (Unknown name) → ⊥
-    by true k = kinds (all_numbers f.kind (places_of f.kind f.section f.key t)) k
-    by false k = cc
-
-fields_not_unknown : (fs : List Line) (t : Members) (name : List ℕ) → numbers_from fs t ≡ Err (Unknown name) → ⊥
-fields_not_unknown [] t name h = cc
-fields_not_unknown (f ∷ fs) t name h = by (field_numbers f t) refl h (fields_not_unknown fs t name)
-  where
-    others : (zs : List ℤ) (r : Result (List (List ℤ)) BookError) → after r (λ zss. Ok (zs ∷ zss)) ≡ Err (Unknown name) → (r ≡ Err (Unknown name) → ⊥) → ⊥
-    others zs (Ok zss) k rest = cc
-    others zs (Err x) k rest = rest k
-
-    by : (r : Result (List ℤ) BookError) → field_numbers f t ≡ r → after r (λ zs. after (numbers_from fs t) (λ zss. Ok (zs ∷ zss))) ≡ Err (Unknown name)
-        → (numbers_from fs t ≡ Err (Unknown name) → ⊥) → ⊥
-    by (Ok zs) e k rest = others zs (numbers_from fs t) k rest
-    by (Err x) e k rest =
-        let same : x ≡ Unknown name = cc in
-        read_not_unknown f t name (read_error f t (Unknown name) (λ q. cc) (e ∙ ap Err same))
+table_missing t field h = elim (error_is t (Missing field) (λ table row q. cc) h) [ inl e ↦ fields_missing t field e | inr key ↦ absurd (let q = key.2 in cc) ]
 
 table_unknown : (t : Members) (name : List ℕ) → numbers_of_table t ≡ Err (Unknown name) → IsLeastUnknown t name
-table_unknown t name h = by (numbers_in t) refl h
-  where
-    by : (r : Result (List (List ℤ)) BookError) → numbers_in t ≡ r
-        → after r (λ lists. unless (book_break lists) (unless (option_map Unknown (unknown_key t)) (Ok (flat lists)))) ≡ Err (Unknown name) → IsLeastUnknown t name
-    by (Ok lists) e k =
-        let key = unless_break t lists (Unknown name) (λ table row q. cc) k in
-        let same : key.0 ≡ name = let q = key.2 in cc in
-        least_unknown t name (key.1 ∙ ap Some same)
-    by (Err x) e k = let same : x ≡ Unknown name = cc in absurd (fields_not_unknown table_fields t name (e ∙ ap Err same))
+table_unknown t name h =
+    elim (error_is t (Unknown name) (λ table row q. cc) h) [
+      | inl e ↦ absurd (fields_known t name e)
+      | inr key ↦ let same : key.0 ≡ name = let q = key.2 in cc in least_unknown t name (key.1 ∙ ap Some same)
+    ]
 
 pub text_missing : (text : List ℕ) (field : ℕ) → numbers_of_text text ≡ Err (Missing field) → IsMissingIn text field
 text_missing text field h = by (table_of text) refl h

@@ -1,10 +1,8 @@
+pub mod RangeLemmas
 pub mod ReadingLemmas
 pub mod UnknownLemmas
 pub mod NumbersLemmas
-pub mod BookNumbers
-pub mod FieldLemmas
 pub mod TableLemmas
 pub mod BuildLemmas
-pub mod ByRows
+pub mod BookLemmas
 pub mod CauseLemmas
-pub mod FlatLemmas

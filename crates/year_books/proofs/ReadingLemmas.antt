@@ -1,15 +1,15 @@
 -- How values of the TOML crate stand for the data that the definitions go over.
-use Rattle.std.proofs.Common.{◌≡◌, ℕ, ℤ, List, [], ◌∷◌, ◌++◌, map, Option, None, Result, Ok, Bool, true, false, ◌&&◌, refl, ap}
+use Rattle.std.proofs.Common.{◌≡◌, ℕ, ℤ, List, [], ◌∷◌, map, Option, None, Bool, true, false, ◌&&◌, refl, ap}
 use Rattle.std.specs.List.{list_all}
 use Rattle.toml.specs.Data.{Data, get}
-use Rattle.year_books.specs.declared.error.BookError.{BookError}
 use Rattle.toml.specs.View.{items_view, view}
 use Rattle.toml.specs.declared.value.Value.{Value}
 use Rattle.std.specs.Prelude.{IsUtf8, is_some, if◌then◌else◌}
 use Rattle.std.specs.Str.{is_utf8}
 use Rattle.std.proofs.lemmas.Str.{IsUtf8-from_is_utf8}
 use Rattle.toml.specs.Parse.{parse_document}
-use Rattle.year_books.specs.Reading.{after, data_of, table_of}
+use Rattle.year_books.specs.Reading.{data_of, first_fault, has_kind, has_range, places_error, table_of}
+use Rattle.year_books.specs.declared.table.Holds.TheVariants.{Column}
 
 -- a text has no table where the grammar refuses it, if it is UTF-8 at all
 pub no_table : (text : List ℕ) → (IsUtf8 text → parse_document text ≡ None) → table_of text ≡ None
@@ -24,11 +24,15 @@ pub data_of-items_view : (vs : List Value) → data_of (items_view vs) ≡ map v
 data_of-items_view [] = refl
 data_of-items_view (v ∷ vs) = ap (λ ds. view v ∷ ds) (data_of-items_view vs)
 
--- a key that stands in each row, in the words of the values
-pub in_each_view : (key : List ℕ) (vs : List Value) → list_all {X = Option Data} is_some (map (get key) (map view vs)) ≡ list_all (λ v. is_some (get key (view v))) vs
-in_each_view key [] = refl
-in_each_view key (v ∷ vs) = ap (λ b. is_some (get key (view v)) && b) (in_each_view key vs)
+-- the places of a column, in the words of the rows
+column_places : (p : Option Data → Bool) (key : List ℕ) (rows : List Value) → list_all p (map (get key) (map view rows)) ≡ list_all (λ row. p (get key (view row))) rows
+column_places p key [] = refl
+column_places p key (row ∷ rows) = ap (λ b. p (get key (view row)) && b) (column_places p key rows)
 
--- the numbers of the fields that were gone over, and of those to come
-abbrev pub prefixed : List (List ℤ) → Result (List (List ℤ)) BookError → Result (List (List ℤ)) BookError
-prefixed done r = after r (λ zss. Ok (done ++ zss))
+pub column_error : (field : ℕ) (low high : ℤ) (key : List ℕ) (rows : List Value) → places_error field Column low high (map (get key) (map view rows))
+    ≡ first_fault field (list_all (λ row. is_some (get key (view row))) rows) (list_all (λ row. has_kind Column (get key (view row))) rows) (list_all (λ row. has_range low high Column (get key (view row))) rows)
+column_error field low high key rows =
+    let there = column_places is_some key rows in
+    let kind = column_places (has_kind Column) key rows in
+    let range = column_places (has_range low high Column) key rows in
+    λ i. first_fault field (there i) (kind i) (range i)

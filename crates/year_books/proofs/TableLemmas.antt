@@ -1,5 +1,5 @@
 -- The rows of tables, their columns, and what it says that no row fails.
-use Rattle.std.proofs.Common.{◌≡◌, ℕ, zero, suc, ◌≤◌, ℤ, pos, int_le, Bool, true, false, ◌&&◌, List, [], ◌∷◌, map, length, Option, Some, None, option_map, refl, ap, arith}
+use Rattle.std.proofs.Common.{◌≡◌, ℕ, zero, suc, ◌≤◌, ℤ, pos, int_le, Bool, true, false, ◌&&◌, List, [], ◌∷◌, codes, map, length, Option, Some, None, option_map, refl, ap, arith}
 use Rattle.std.specs.Prelude.{slice_get, if◌then◌else◌}
 use Rattle.std.specs.List.{All, list_all}
 use Rattle.std.specs.Ordering.{int_eq}
@@ -11,64 +11,14 @@ use Rattle.aid_books.specs.Ages.{IsAgeRow, is_by_age, rises_from}
 use Rattle.aid_books.specs.Marginal.{IsBracket, goes_on, is_marginal}
 use Rattle.aid_books.specs.declared.ages.AgeRow.{AgeRow}
 use Rattle.aid_books.specs.declared.marginal.Bracket.{Bracket}
-use Rattle.year_books.specs.Reading.{is_between}
-use Rattle.year_books.specs.Tables.{age_rows, begins_ages, begins_business, begins_schedule, bracket_rows, break_from, break_in, continues, first_break, is_older}
+use Rattle.filing_kinds.specs.Limits.{is_between}
+use Rattle.toml.specs.Data.{Data, get}
+use Rattle.year_books.specs.Reading.{has_range, integer_in}
+use Rattle.year_books.specs.declared.table.Holds.TheVariants.{Column}
+use Rattle.year_books.specs.Tables.{age_row_of, begins_ages, begins_business, begins_schedule, bracket_of, break_from, break_in, continues, first_break, is_older}
 use Rattle.aid_types.specs.Ranges.{IsWithin}
 
--- the columns of rows are those that they were made of
-pub length-bracket_rows : (overs bases rates : List ℤ) → length bases ≡ length overs → length rates ≡ length overs → length (bracket_rows overs bases rates) ≡ length overs
-length-bracket_rows [] bases rates b r = refl
-length-bracket_rows (o ∷ os) [] rates b r = absurd (omega (arith, b))
-length-bracket_rows (o ∷ os) (b ∷ bs) [] e r = absurd (omega (arith, r))
-length-bracket_rows (o ∷ os) (b ∷ bs) (r ∷ rs) e f = ap suc (length-bracket_rows os bs rs (omega (arith, e)) (omega (arith, f)))
-
-pub overs-bracket_rows : (overs bases rates : List ℤ) → length bases ≡ length overs → length rates ≡ length overs → map (λ row. row.over) (bracket_rows overs bases rates) ≡ overs
-overs-bracket_rows [] bases rates b r = refl
-overs-bracket_rows (o ∷ os) [] rates b r = absurd (omega (arith, b))
-overs-bracket_rows (o ∷ os) (b ∷ bs) [] e r = absurd (omega (arith, r))
-overs-bracket_rows (o ∷ os) (b ∷ bs) (r ∷ rs) e f = ap (λ xs. o ∷ xs) (overs-bracket_rows os bs rs (omega (arith, e)) (omega (arith, f)))
-
-pub bases-bracket_rows : (overs bases rates : List ℤ) → length bases ≡ length overs → length rates ≡ length overs → map (λ row. row.base) (bracket_rows overs bases rates) ≡ bases
-bases-bracket_rows [] [] rates b r = refl
-bases-bracket_rows [] (b ∷ bs) rates e r = absurd (omega (arith, e))
-bases-bracket_rows (o ∷ os) [] rates b r = absurd (omega (arith, b))
-bases-bracket_rows (o ∷ os) (b ∷ bs) [] e r = absurd (omega (arith, r))
-bases-bracket_rows (o ∷ os) (b ∷ bs) (r ∷ rs) e f = ap (λ xs. b ∷ xs) (bases-bracket_rows os bs rs (omega (arith, e)) (omega (arith, f)))
-
-pub rates-bracket_rows : (overs bases rates : List ℤ) → length bases ≡ length overs → length rates ≡ length overs → map (λ row. row.rate) (bracket_rows overs bases rates) ≡ rates
-rates-bracket_rows [] bases [] b r = refl
-rates-bracket_rows [] bases (r ∷ rs) b e = absurd (omega (arith, e))
-rates-bracket_rows (o ∷ os) [] rates b r = absurd (omega (arith, b))
-rates-bracket_rows (o ∷ os) (b ∷ bs) [] e r = absurd (omega (arith, r))
-rates-bracket_rows (o ∷ os) (b ∷ bs) (r ∷ rs) e f = ap (λ xs. r ∷ xs) (rates-bracket_rows os bs rs (omega (arith, e)) (omega (arith, f)))
-
-pub length-age_rows : (overs bases rates : List ℤ) → length bases ≡ length overs → length rates ≡ length overs → length (age_rows overs bases rates) ≡ length overs
-length-age_rows [] bases rates b r = refl
-length-age_rows (o ∷ os) [] rates b r = absurd (omega (arith, b))
-length-age_rows (o ∷ os) (b ∷ bs) [] e r = absurd (omega (arith, r))
-length-age_rows (o ∷ os) (b ∷ bs) (r ∷ rs) e f = ap suc (length-age_rows os bs rs (omega (arith, e)) (omega (arith, f)))
-
-pub starts-age_rows : (overs bases rates : List ℤ) → length bases ≡ length overs → length rates ≡ length overs → map (λ row. row.start) (age_rows overs bases rates) ≡ overs
-starts-age_rows [] bases rates b r = refl
-starts-age_rows (o ∷ os) [] rates b r = absurd (omega (arith, b))
-starts-age_rows (o ∷ os) (b ∷ bs) [] e r = absurd (omega (arith, r))
-starts-age_rows (o ∷ os) (b ∷ bs) (r ∷ rs) e f = ap (λ xs. o ∷ xs) (starts-age_rows os bs rs (omega (arith, e)) (omega (arith, f)))
-
-pub singles-age_rows : (overs bases rates : List ℤ) → length bases ≡ length overs → length rates ≡ length overs → map (λ row. row.single) (age_rows overs bases rates) ≡ bases
-singles-age_rows [] [] rates b r = refl
-singles-age_rows [] (b ∷ bs) rates e r = absurd (omega (arith, e))
-singles-age_rows (o ∷ os) [] rates b r = absurd (omega (arith, b))
-singles-age_rows (o ∷ os) (b ∷ bs) [] e r = absurd (omega (arith, r))
-singles-age_rows (o ∷ os) (b ∷ bs) (r ∷ rs) e f = ap (λ xs. b ∷ xs) (singles-age_rows os bs rs (omega (arith, e)) (omega (arith, f)))
-
-pub marrieds-age_rows : (overs bases rates : List ℤ) → length bases ≡ length overs → length rates ≡ length overs → map (λ row. row.married) (age_rows overs bases rates) ≡ rates
-marrieds-age_rows [] bases [] b r = refl
-marrieds-age_rows [] bases (r ∷ rs) b e = absurd (omega (arith, e))
-marrieds-age_rows (o ∷ os) [] rates b r = absurd (omega (arith, b))
-marrieds-age_rows (o ∷ os) (b ∷ bs) [] e r = absurd (omega (arith, r))
-marrieds-age_rows (o ∷ os) (b ∷ bs) (r ∷ rs) e f = ap (λ xs. r ∷ xs) (marrieds-age_rows os bs rs (omega (arith, e)) (omega (arith, f)))
-
-is_within : (low high z : ℤ) → is_between low high z ≡ true → IsWithin low high z
+pub is_within : (low high z : ℤ) → is_between low high z ≡ true → IsWithin low high z
 is_within low high z h =
     let both = and_parts (int_le low z) (int_le z high) h in
     (omega (arith, ints, both.0), omega (arith, ints, both.1))
@@ -78,31 +28,32 @@ all_cons P x xs first others zero d h = first
 all_cons P x xs first others (suc k) d h = others k d (omega (arith, h))
 
 -- rows whose columns are in range are in range
-pub brackets_in_range : (overs bases rates : List ℤ) → list_all (is_between (pos 0) (pos 99999999)) overs ≡ true → list_all (is_between (pos 0) (pos 99999999)) bases ≡ true
-    → list_all (is_between (pos 0) (pos 10000)) rates ≡ true → All IsBracket (bracket_rows overs bases rates)
-brackets_in_range [] bases rates x y z = λ k d h. absurd (omega (arith, h))
-brackets_in_range (o ∷ os) [] rates x y z = λ k d h. absurd (omega (arith, h))
-brackets_in_range (o ∷ os) (b ∷ bs) [] x y z = λ k d h. absurd (omega (arith, h))
-brackets_in_range (o ∷ os) (b ∷ bs) (r ∷ rs) x y z =
-    let a = and_parts (is_between (pos 0) (pos 99999999) o) (list_all (is_between (pos 0) (pos 99999999)) os) x in
-    let c = and_parts (is_between (pos 0) (pos 99999999) b) (list_all (is_between (pos 0) (pos 99999999)) bs) y in
-    let e = and_parts (is_between (pos 0) (pos 10000) r) (list_all (is_between (pos 0) (pos 10000)) rs) z in
-    all_cons IsBracket (record { over = o; base = b; rate = r }) (bracket_rows os bs rs)
-    (record { over = is_within (pos 0) (pos 99999999) o a.0; base = is_within (pos 0) (pos 99999999) b c.0; rate = is_within (pos 0) (pos 10000) r e.0 })
-    (brackets_in_range os bs rs a.1 c.1 e.1)
+abbrev are_between : ℤ → ℤ → List ℕ → List Data → Bool
+are_between low high key rows = list_all (has_range low high Column) (map (get key) rows)
 
-pub ages_in_range : (starts singles marrieds : List ℤ) → list_all (is_between (pos 0) (pos 120)) starts ≡ true → list_all (is_between (pos 0) (pos 99999999)) singles ≡ true
-    → list_all (is_between (pos 0) (pos 99999999)) marrieds ≡ true → All IsAgeRow (age_rows starts singles marrieds)
-ages_in_range [] singles marrieds x y z = λ k d h. absurd (omega (arith, h))
-ages_in_range (o ∷ os) [] marrieds x y z = λ k d h. absurd (omega (arith, h))
-ages_in_range (o ∷ os) (b ∷ bs) [] x y z = λ k d h. absurd (omega (arith, h))
-ages_in_range (o ∷ os) (b ∷ bs) (r ∷ rs) x y z =
-    let a = and_parts (is_between (pos 0) (pos 120) o) (list_all (is_between (pos 0) (pos 120)) os) x in
-    let c = and_parts (is_between (pos 0) (pos 99999999) b) (list_all (is_between (pos 0) (pos 99999999)) bs) y in
-    let e = and_parts (is_between (pos 0) (pos 99999999) r) (list_all (is_between (pos 0) (pos 99999999)) rs) z in
-    all_cons IsAgeRow (record { start = o; single = b; married = r }) (age_rows os bs rs)
-    (record { start = is_within (pos 0) (pos 120) o a.0; single = is_within (pos 0) (pos 99999999) b c.0; married = is_within (pos 0) (pos 99999999) r e.0 })
-    (ages_in_range os bs rs a.1 c.1 e.1)
+column_parts : (low high : ℤ) (key : List ℕ) (row : Data) (rows : List Data) → are_between low high key (row ∷ rows) ≡ true
+    → IsWithin low high (integer_in (get key row)) × (are_between low high key rows ≡ true)
+column_parts low high key row rows h =
+    let both = and_parts (has_range low high Column (get key row)) (are_between low high key rows) h in
+    (is_within low high (integer_in (get key row)) both.0, both.1)
+
+pub brackets_in_range : (rows : List Data) → are_between (pos 0) (pos 99999999) (codes "over") rows ≡ true → are_between (pos 0) (pos 99999999) (codes "base") rows ≡ true
+    → are_between (pos 0) (pos 10000) (codes "rate") rows ≡ true → All IsBracket (map bracket_of rows)
+brackets_in_range [] x y z = λ k d h. absurd (omega (arith, h))
+brackets_in_range (row ∷ rows) x y z =
+    let a = column_parts (pos 0) (pos 99999999) (codes "over") row rows x in
+    let b = column_parts (pos 0) (pos 99999999) (codes "base") row rows y in
+    let c = column_parts (pos 0) (pos 10000) (codes "rate") row rows z in
+    all_cons IsBracket (bracket_of row) (map bracket_of rows) (record { over = a.0; base = b.0; rate = c.0 }) (brackets_in_range rows a.1 b.1 c.1)
+
+pub ages_in_range : (rows : List Data) → are_between (pos 0) (pos 120) (codes "from") rows ≡ true → are_between (pos 0) (pos 99999999) (codes "single") rows ≡ true
+    → are_between (pos 0) (pos 99999999) (codes "married") rows ≡ true → All IsAgeRow (map age_row_of rows)
+ages_in_range [] x y z = λ k d h. absurd (omega (arith, h))
+ages_in_range (row ∷ rows) x y z =
+    let a = column_parts (pos 0) (pos 120) (codes "from") row rows x in
+    let b = column_parts (pos 0) (pos 99999999) (codes "single") row rows y in
+    let c = column_parts (pos 0) (pos 99999999) (codes "married") row rows z in
+    all_cons IsAgeRow (age_row_of row) (map age_row_of rows) (record { start = a.0; single = b.0; married = c.0 }) (ages_in_range rows a.1 b.1 c.1)
 
 -- no row fails
 pub record Begins {Row : Type 0} (begins : Row → Bool) (goes : Row → Row → Bool) (row : Row) (rows : List Row) : Type 0 where

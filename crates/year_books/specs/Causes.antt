@@ -1,22 +1,22 @@
 -- What the errors of a year book's text say of it.
-use Rattle.std.specs.Prelude.{◌≡◌, ◌≢◌, ℕ, ◌<◌, ℤ, List, Some, None, Ok, slice_get}
+use Rattle.std.specs.Prelude.{◌≡◌, ◌≢◌, ℕ, ◌<◌, List, Some, None, slice_get}
 use Rattle.std.specs.Cmp.Lexicographic.{slice_cmp}
 use Rattle.std.specs.List.{All, Contains}
 use Rattle.std.specs.Ordering.{nat_cmp}
 use Rattle.std.specs.declared.cmp.Ordering.TheVariants.{Less}
 use Rattle.toml.specs.Data.{Members}
-use Rattle.year_books.specs.Fields.{Line, table_fields}
-use Rattle.year_books.specs.Reading.{field_numbers, places_of, table_of}
+use Rattle.year_books.specs.Fields.{BookLine, table_fields}
+use Rattle.year_books.specs.Reading.{field_error, places_of, table_of}
 use Rattle.year_books.specs.Unknown.{unknown_names}
 
--- the field of this number has a place where nothing stands, and each field before it gives numbers in its range
+-- the field of this number has a place where nothing stands, and each field before it has numbers of its kind in its range
 pub record IsMissing (t : Members) (field : ℕ) : Type 0 where
   pub before : ℕ
-  pub missing : Line
+  pub missing : BookLine
   pub here : slice_get table_fields before ≡ Some missing
   pub number : missing.number ≡ field
   pub empty : Contains (places_of missing.kind missing.section missing.key t) None
-  pub earlier : (k : ℕ) (f : Line) → k < before → slice_get table_fields k ≡ Some f → (zs : List ℤ) × (field_numbers f t ≡ Ok zs)
+  pub earlier : (k : ℕ) (f : BookLine) → k < before → slice_get table_fields k ≡ Some f → field_error f t ≡ None
 
 -- this is the name of a key that a book doesn't have, and no other such name is less by its bytes
 pub record IsLeastUnknown (t : Members) (name : List ℕ) : Type 0 where

@@ -1,10 +1,10 @@
 pub mod Errors
 pub mod Fields
+pub mod Ranges
 pub mod Reading
 pub mod Tables
 pub mod Unknown
 pub mod Numbers
 pub mod Filed
-pub mod Flat
 pub mod Text
 pub mod Causes

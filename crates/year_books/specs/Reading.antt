@@ -1,10 +1,13 @@
--- What a text gives at the fields of a year book.
-use Rattle.std.specs.Prelude.{ℕ, ℤ, pos, List, [], ◌∷◌, ◌++◌, ◌==◌, ◌&&◌, map, length, int_le, Bool, Option, Some, None, Result, Ok, Err, is_some, option_map, option_and_then, unwrap_or, if◌then◌else◌}
+-- What a text gives at the fields of a year book, and the first error of its fields.
+use Rattle.std.specs.Prelude.{ℕ, ℤ, pos, List, [], ◌∷◌, ◌==◌, ◌&&◌, map, length, Bool, false, Option, Some, None, is_some, option_and_then, unwrap_or, if◌then◌else◌}
 use Rattle.std.specs.List.{list_all}
+use Rattle.std.specs.Option.{option_or}
 use Rattle.std.specs.Str.{is_utf8}
 use Rattle.toml.specs.Data.{Data, Items, no_items, item, Members, get, get_member, as_array, as_integer, as_table}
 use Rattle.toml.specs.Parse.{parse_document}
-use Rattle.year_books.specs.Fields.{Line, Greatest, up_to, number_at, table_fields}
+use Rattle.filing_kinds.specs.Limits.{is_between}
+use Rattle.year_books.specs.Fields.{BookLine, table_fields}
+use Rattle.year_books.specs.Ranges.{Greatest, Range, number_at, range_named, up_to}
 use Rattle.year_books.specs.declared.table.Holds.{Holds}
 use Rattle.year_books.specs.declared.table.Holds.TheVariants.{Integer, Integers, Tables, Column}
 use Rattle.year_books.specs.declared.error.BookError.{BookError}
@@ -23,80 +26,70 @@ abbrev pub listed : Option Items → List Data
 listed None = []
 listed (Some ds) = data_of ds
 
--- the items of the array at a key of the top
-abbrev pub rows_of : List ℕ → Members → List Data
-rows_of key t = listed (option_and_then as_array (get_member key t))
-
 -- what stands at a key of the top, or of a section; nothing does where the section is no table
-abbrev pub place : List ℕ → List ℕ → Members → Option Data
-place [] key t = get_member key t
-place (s ∷ section) key t = option_and_then (get key) (get_member (s ∷ section) t)
+abbrev pub member_at : List ℕ → List ℕ → Members → Option Data
+member_at [] key t = get_member key t
+member_at (s ∷ section) key t = option_and_then (get key) (get_member (s ∷ section) t)
+
+-- the integer at a place, or 0 where none stands there
+abbrev pub integer_in : Option Data → ℤ
+integer_in place = unwrap_or (option_and_then as_integer place) (pos 0)
+
+-- the items of the array at a place, or none where no array stands there
+abbrev pub items_in : Option Data → List Data
+items_in place = listed (option_and_then as_array place)
+
+-- the rows of the array at a key of the top
+abbrev pub rows_of : List ℕ → Members → List Data
+rows_of key t = items_in (get_member key t)
 
 -- the places of a field: one, or for a column one in each row
 abbrev pub places_of : Holds → List ℕ → List ℕ → Members → List (Option Data)
 places_of Column section key t = map (get key) (rows_of section t)
-places_of _ section key t = place section key t ∷ []
+places_of _ section key t = member_at section key t ∷ []
 
--- the integers that some data are, if they all are
-abbrev pub integers : List Data → Option (List ℤ)
-integers [] = Some []
-integers (d ∷ ds) = option_and_then (λ z. option_map (λ zs. z ∷ zs) (integers ds)) (as_integer d)
+-- what stands at a place is of the kind
+abbrev pub is_of_kind : Holds → Data → Bool
+is_of_kind Integer d = is_some (as_integer d)
+is_of_kind (Integers n) d = is_some (as_array d) && (length (listed (as_array d)) == n && list_all (λ item. is_some (as_integer item)) (listed (as_array d)))
+is_of_kind Tables d = is_some (as_array d) && list_all (λ item. is_some (as_table item)) (listed (as_array d))
+is_of_kind Column d = is_some (as_integer d)
 
-abbrev pub exactly : ℕ → Option (List ℤ) → Option (List ℤ)
-exactly n None = None
-exactly n (Some zs) = if length zs == n then Some zs else None
+abbrev pub has_kind : Holds → Option Data → Bool
+has_kind kind None = false
+has_kind kind (Some d) = is_of_kind kind d
 
-abbrev pub count_of_tables : List Data → Option (List ℤ)
-count_of_tables ds = if list_all (λ d. is_some (as_table d)) ds then Some (pos (length ds) ∷ []) else None
-
--- the numbers that stand at a place, if it is of the kind
-abbrev pub numbers_at : Holds → Data → Option (List ℤ)
-numbers_at Integer d = option_map (λ z. z ∷ []) (as_integer d)
-numbers_at (Integers n) d = option_and_then (λ ds. exactly n (integers (data_of ds))) (as_array d)
-numbers_at Tables d = option_and_then (λ ds. count_of_tables (data_of ds)) (as_array d)
-numbers_at Column d = option_map (λ z. z ∷ []) (as_integer d)
-
--- the numbers of all places
-abbrev pub all_numbers : Holds → List (Option Data) → Option (List ℤ)
-all_numbers kind [] = Some []
-all_numbers kind (o ∷ os) = option_and_then (λ zs. option_map (λ rest. zs ++ rest) (all_numbers kind os)) (option_and_then (numbers_at kind) o)
-
-abbrev pub or_wrong_kind : ℕ → Option (List ℤ) → Result (List ℤ) BookError
-or_wrong_kind number None = Err (WrongKind number)
-or_wrong_kind number (Some zs) = Ok zs
-
--- the numbers of a field, in range or not: what is missing comes before what is of the wrong kind
-abbrev pub read_places : Holds → ℕ → List (Option Data) → Result (List ℤ) BookError
-read_places kind number places = if list_all is_some places then or_wrong_kind number (all_numbers kind places) else Err (Missing number)
-
-abbrev pub unranged : Line → Members → Result (List ℤ) BookError
-unranged f t = read_places f.kind f.number (places_of f.kind f.section f.key t)
+-- the numbers at a place of the kind go from low to high: its integers, or how many tables there are
+abbrev pub has_range : ℤ → ℤ → Holds → Option Data → Bool
+has_range low high Integer place = is_between low high (integer_in place)
+has_range low high (Integers n) place = list_all (λ item. is_between low high (integer_in (Some item))) (items_in place)
+has_range low high Tables place = is_between low high (pos (length (items_in place)))
+has_range low high Column place = is_between low high (integer_in place)
 
 -- the greatest number of a field
 abbrev pub limit : Greatest → List ℕ → Members → ℤ
 limit (up_to z) section t = z
-limit (number_at key) section t = unwrap_or (option_and_then as_integer (place section key t)) (pos 0)
+limit (number_at key) section t = integer_in (member_at section key t)
 
--- what follows a value, or the error
-abbrev pub after : {A B : Type 0} → Result A BookError → (A → Result B BookError) → Result B BookError
-after (Ok x) more = more x
-after (Err e) more = Err e
+-- what is missing comes before what is of the wrong kind, and that before what is out of range
+abbrev pub first_fault : ℕ → Bool → Bool → Bool → Option BookError
+first_fault field there kind range = if there then (if kind then (if range then None else Some (OutOfRange field)) else Some (WrongKind field)) else Some (Missing field)
 
-abbrev pub is_between : ℤ → ℤ → ℤ → Bool
-is_between low high z = int_le low z && int_le z high
+abbrev pub places_error : ℕ → Holds → ℤ → ℤ → List (Option Data) → Option BookError
+places_error field kind low high places = first_fault field (list_all is_some places) (list_all (has_kind kind) places) (list_all (has_range low high kind) places)
 
-abbrev pub in_range : ℕ → ℤ → ℤ → List ℤ → Result (List ℤ) BookError
-in_range number low high zs = if list_all (is_between low high) zs then Ok zs else Err (OutOfRange number)
+-- what is wrong with a field of this range, if anything is
+abbrev pub error_in : Range → BookLine → Members → Option BookError
+error_in range f t = places_error f.number f.kind range.low (limit range.high f.section t) (places_of f.kind f.section f.key t)
 
--- the numbers of a field, or why it has none
-abbrev pub field_numbers : Line → Members → Result (List ℤ) BookError
-field_numbers f t = after (unranged f t) (in_range f.number f.range.low (limit f.range.high f.section t))
+abbrev pub field_error : BookLine → Members → Option BookError
+field_error f t = error_in (range_named f.name) f t
 
--- the numbers of each of some fields, or the first error
-abbrev pub numbers_from : List Line → Members → Result (List (List ℤ)) BookError
-numbers_from [] t = Ok []
-numbers_from (f ∷ fs) t = after (field_numbers f t) (λ zs. after (numbers_from fs t) (λ zss. Ok (zs ∷ zss)))
+-- the first error of some fields
+abbrev pub first_error : List BookLine → Members → Option BookError
+first_error [] t = None
+first_error (f ∷ fs) t = option_or (field_error f t) (first_error fs t)
 
--- the numbers of a table's fields 1 to 55, or the first error
-abbrev pub numbers_in : Members → Result (List (List ℤ)) BookError
-numbers_in t = numbers_from table_fields t
+-- the first error of a table's fields 1 to 55
+unfoldable pub fields_error : Members → Option BookError
+fields_error t = first_error table_fields t

@@ -1,37 +1,36 @@
 -- The tables of a book: their rows, and the first row that does not go on from the one before it. Each row of a table by
 -- amount begins with the value that the one before it has there (HEA 475(e), 477(d), 478(c)); a table by age rises (HEA 478(d)).
-use Rattle.std.specs.Prelude.{ℕ, suc, ◌+◌, ◌-◌, ℤ, pos, int_lt, Bool, ◌&&◌, List, [], ◌∷◌, Option, Some, None, slice_index_or, if◌then◌else◌}
+use Rattle.std.specs.Prelude.{ℕ, suc, ℤ, pos, codes, int_lt, Bool, ◌&&◌, List, [], ◌∷◌, map, Option, Some, None, if◌then◌else◌}
 use Rattle.std.specs.Ordering.{int_eq}
+use Rattle.toml.specs.Data.{Data, Members, get}
 use Rattle.aid_num.specs.Nearest.{share}
 use Rattle.aid_books.specs.Marginal.{row_value}
 use Rattle.aid_books.specs.declared.marginal.Bracket.{Bracket}
 use Rattle.aid_books.specs.declared.ages.AgeRow.{AgeRow}
+use Rattle.year_books.specs.Reading.{integer_in, member_at, rows_of}
 use Rattle.year_books.specs.declared.error.BookError.{BookError}
 use Rattle.year_books.specs.declared.error.BookError.TheVariants.{NotRising}
 
--- the numbers of a field, by its number
-abbrev pub numbers_at : ℕ → List (List ℤ) → List ℤ
-numbers_at field lists = slice_index_or lists (field - 1) []
+-- a row of a table by amount, and one of the table by age
+abbrev pub bracket_of : Data → Bracket
+bracket_of row = record { over = integer_in (get (codes "over") row); base = integer_in (get (codes "base") row); rate = integer_in (get (codes "rate") row) }
 
--- the number of a field that has one
-abbrev pub number_in : ℕ → List (List ℤ) → ℤ
-number_in field lists = slice_index_or (numbers_at field lists) 0 (pos 0)
+abbrev pub age_row_of : Data → AgeRow
+age_row_of row = record { start = integer_in (get (codes "from") row); single = integer_in (get (codes "single") row); married = integer_in (get (codes "married") row) }
 
--- the rows of three columns
-abbrev pub bracket_rows : List ℤ → List ℤ → List ℤ → List Bracket
-bracket_rows (over ∷ overs) (base ∷ bases) (rate ∷ rates) = record { over = over; base = base; rate = rate } ∷ bracket_rows overs bases rates
-bracket_rows _ _ _ = []
+-- the rows of the tables of a text
+abbrev pub business_rows : Members → List Bracket
+business_rows t = map bracket_of (rows_of (codes "business") t)
 
-abbrev pub age_rows : List ℤ → List ℤ → List ℤ → List AgeRow
-age_rows (start ∷ starts) (single ∷ singles) (married ∷ marrieds) = record { start = start; single = single; married = married } ∷ age_rows starts singles marrieds
-age_rows _ _ _ = []
+abbrev pub age_rows : Members → List AgeRow
+age_rows t = map age_row_of (rows_of (codes "age") t)
 
--- the rows of the table whose count is the field's
-abbrev pub brackets_at : ℕ → List (List ℤ) → List Bracket
-brackets_at field lists = bracket_rows (numbers_at (field + 1) lists) (numbers_at (field + 2) lists) (numbers_at (field + 3) lists)
+abbrev pub bracket_rows : Members → List Bracket
+bracket_rows t = map bracket_of (rows_of (codes "bracket") t)
 
-abbrev pub ages_at : ℕ → List (List ℤ) → List AgeRow
-ages_at field lists = age_rows (numbers_at (field + 1) lists) (numbers_at (field + 2) lists) (numbers_at (field + 3) lists)
+-- the schedule's first rate
+abbrev pub first_rate_of : Members → ℤ
+first_rate_of t = integer_in (member_at (codes "schedule") (codes "first_rate") t)
 
 -- a row begins above the one before it, with the value that the one before it has there
 abbrev pub continues : Bracket → Bracket → Bool
@@ -70,6 +69,6 @@ first_break None None None = None
 abbrev pub rising_error : ℤ → List Bracket → List AgeRow → List Bracket → Option BookError
 rising_error first_rate business age bracket = first_break (break_in begins_business continues business) (break_in begins_ages is_older age) (break_in (begins_schedule first_rate) continues bracket)
 
--- that of a book's numbers
-abbrev pub book_break : List (List ℤ) → Option BookError
-book_break lists = rising_error (number_in 49 lists) (brackets_at 39 lists) (ages_at 43 lists) (brackets_at 52 lists)
+-- that of a text's tables
+abbrev pub book_break : Members → Option BookError
+book_break t = rising_error (first_rate_of t) (business_rows t) (age_rows t) (bracket_rows t)

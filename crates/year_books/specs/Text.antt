@@ -1,8 +1,8 @@
 -- The book of a text: its numbers, or its first error.
 use Rattle.std.specs.Prelude.{ℕ, ℤ, List, Option, Some, None, Result, Ok, Err, option_map}
 use Rattle.toml.specs.Data.{Members}
-use Rattle.year_books.specs.Flat.{flat}
-use Rattle.year_books.specs.Reading.{after, numbers_in, table_of}
+use Rattle.year_books.specs.Numbers.{numbers_in}
+use Rattle.year_books.specs.Reading.{fields_error, table_of}
 use Rattle.year_books.specs.Tables.{book_break}
 use Rattle.year_books.specs.Unknown.{unknown_key}
 use Rattle.year_books.specs.declared.error.BookError.{BookError}
@@ -16,10 +16,10 @@ unless (Some e) r = Err e
 -- of a table: first its fields in order, then its rows that fail, then its unknown keys
 abbrev pub numbers_of_table : Members → Result (List ℤ) BookError
 numbers_of_table t =
-    after (numbers_in t) (λ lists.
-    unless (book_break lists) (
+    unless (fields_error t) (
+    unless (book_break t) (
     unless (option_map Unknown (unknown_key t)) (
-    Ok (flat lists))))
+    Ok (numbers_in t))))
 
 abbrev pub numbers_if : Option Members → Result (List ℤ) BookError
 numbers_if None = Err NotToml

@@ -3,7 +3,8 @@ ghost use Rattle.std.specs.Prelude.{◌≡◌};
 ghost use Rattle.year_books.specs.declared.error.BookError.TheVariants.{NoMemory};
 ghost use Rattle.year_books.specs.Errors.{error_number};
 
-use crate::table::{BookField, Highest, Holds, fields};
+use crate::ranges::{Highest, range};
+use crate::table::{BookField, Holds, fields};
 use aid_types::Name;
 use std::alloc::{AllocError, AllocFailed};
 use std::fmt;
@@ -17,13 +18,13 @@ pub enum BookError {
     #[error("the text is no TOML: write it as sections, keys and values")]
     NotToml,
     /// 2: a field, by its number, isn't there, or isn't there in some row.
-    #[error("field {0}, {key}, is missing: add it", key = Key(*.0))]
+    #[error("field {0}, {key}, is missing: add it", key = BookKey(*.0))]
     Missing(u16),
     /// 3: a field is not of its kind: an integer, a list of so many integers, an array of tables.
-    #[error("field {0}, {key}, is of the wrong kind: write {kind}", key = Key(*.0), kind = Wanted(*.0))]
+    #[error("field {0}, {key}, is of the wrong kind: write {kind}", key = BookKey(*.0), kind = Wanted(*.0))]
     WrongKind(u16),
     /// 4: a number of a field is out of its range, or an array has no table or too many.
-    #[error("field {0}, {key}, is out of range: {range}", key = Key(*.0), range = Range(*.0))]
+    #[error("field {0}, {key}, is out of range: {range}", key = BookKey(*.0), range = Range(*.0))]
     OutOfRange(u16),
     /// 5: a row, counted from 1, of a table, 1 `business`, 2 `age` or 3 `bracket`, does not begin the table as it must, or does
     /// not go on from the row before it.
@@ -77,18 +78,12 @@ fn field_of(number: u16) -> Option<&'static BookField> {
 
 // A field's key, behind its section.
 #[derive(Drop)]
-struct Key(u16);
+struct BookKey(u16);
 
-impl fmt::Display for Key {
+impl fmt::Display for BookKey {
     fn fmt<W: fmt::Write>(&self, f: &mut fmt::Formatter<W>) -> fmt::Result {
         match field_of(self.0) {
-            Some(field) => {
-                if field.section.is_empty() {
-                    write!(f, "{}", field.key)
-                } else {
-                    write!(f, "{}.{}", field.section, field.key)
-                }
-            }
+            Some(field) => write!(f, "{}", field.name),
             None => Ok(()),
         }
     }
@@ -119,15 +114,17 @@ struct Range(u16);
 impl fmt::Display for Range {
     fn fmt<W: fmt::Write>(&self, f: &mut fmt::Formatter<W>) -> fmt::Result {
         match field_of(self.0) {
-            Some(field) => match field.high {
-                Highest::Number(high) => match field.kind {
-                    Holds::Tables => write!(f, "it has {} to {high} rows", field.low),
-                    _ => write!(f, "it goes from {} to {high}", field.low),
-                },
-                Highest::Key(key) => {
-                    write!(f, "it goes from {} to {}.{key}", field.low, field.section)
+            Some(field) => {
+                let range = range(field.name);
+                let low = range.low;
+                match range.high {
+                    Highest::Number(high) => match field.kind {
+                        Holds::Tables => write!(f, "it has {low} to {high} rows"),
+                        _ => write!(f, "it goes from {low} to {high}"),
+                    },
+                    Highest::Key(key) => write!(f, "it goes from {low} to {}.{key}", field.section),
                 }
-            },
+            }
             None => Ok(()),
         }
     }

@@ -2,9 +2,9 @@
 #![tactic(auto)]
 
 mod error;
-mod flat;
+mod numbers;
+mod ranges;
 mod reading;
-mod rows;
 mod table;
 mod tables;
 mod unknown;
@@ -16,16 +16,17 @@ ghost use Rattle.book_numbers.specs.Book.{numbers_of};
 ghost use Rattle.year_books.specs.Causes.{IsLeastUnknownIn, IsMissingIn};
 ghost use Rattle.year_books.specs.Text.{numbers_of_table, numbers_of_text};
 
-use crate::flat::flat;
-use crate::reading::{numbers_in_table, table_in};
-use crate::rows::{break_of, rows_of};
+use crate::numbers::numbers_of_fields;
+use crate::reading::{error_of_fields, table_in};
+use crate::tables::break_of;
 use crate::unknown::least_unknown;
 use aid_books::Book;
 use aid_types::Name;
 use book_numbers::book_of_numbers;
 pub use error::BookError;
+pub use ranges::{Bounds, Highest, range};
 use std::alloc::Global;
-pub use table::{BookField, Highest, Holds, fields, fields_are_filed};
+pub use table::{BookField, Holds, fields, fields_are_filed};
 use toml::Table;
 
 // The book of a text's table.
@@ -33,16 +34,16 @@ fn book_of_table(alloc: Global, table: &Table) -> Result<Book, BookError>
     ensures ok { IfOk result (λ b. numbers_of_table (table_view table.now) ≡ Ok (numbers_of b)) }
     ensures err { IfErr result (λ e. e ≢ BookError.NoMemory → numbers_of_table (table_view table.now) ≡ Err e) }
 {
-    let lists = numbers_in_table(alloc, table)?;
-    let rows = rows_of(alloc, &lists)?;
-    if let Some(error) = break_of(&lists, &rows) {
+    if let Some(error) = error_of_fields(table) {
+        return Err(error);
+    }
+    if let Some(error) = break_of(alloc, table)? {
         return Err(error);
     }
     if let Some(key) = least_unknown(alloc, table)? {
         return Err(BookError::Unknown(Name::new(key)));
     }
-    let numbers = flat(alloc, &lists)?;
-    Ok(book_of_numbers(&numbers))
+    Ok(book_of_numbers(&numbers_of_fields(table)))
 }
 
 /// The book that a text gives, or the first thing that is wrong with the text: that it is no TOML, then the fields 1 to 55

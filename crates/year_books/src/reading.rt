@@ -1,15 +1,17 @@
-//! The numbers that a text gives at the fields of a book.
-ghost use Rattle.std.specs.Prelude.{◌≡◌, ◌≢◌, ◌⊎◌, [], ◌∷◌, Some, None, Ok, Err, IfOk, IfErr, is_some, map, option_map, option_and_then, length};
+//! What a text gives at the fields of a book, and the first error of its fields.
+ghost use Rattle.std.specs.Prelude.{◌≡◌, ◌⊎◌, ◌∷◌, [], None, Some, IfErr, IfOk, is_some, length, map, option_map, pos};
 ghost use Rattle.std.specs.List.{list_all};
-ghost use Rattle.toml.specs.Data.{as_array, as_table, get, get_member};
-ghost use Rattle.toml.specs.View.{array_view, table_view, view};
-ghost use Rattle.year_books.specs.Fields.{field_line, greatest};
-ghost use Rattle.year_books.specs.Reading.{all_numbers, count_of_tables, data_of, exactly, field_numbers, integers, is_between, limit, numbers_at, numbers_in, place, read_places, rows_of, table_of, unranged};
+ghost use Rattle.toml.specs.Data.{as_integer, as_table, get, get_member};
+ghost use Rattle.toml.specs.View.{table_view, view};
+ghost use Rattle.filing_kinds.specs.Limits.{is_between as goes_between};
+ghost use Rattle.year_books.specs.Fields.{field_line};
+ghost use Rattle.year_books.specs.Ranges.{greatest};
+ghost use Rattle.year_books.specs.Reading.{field_error, fields_error, first_fault, has_kind, has_range, integer_in as integer_of, items_in as items_of, limit, member_at, places_error, rows_of, table_of};
 
 use crate::error::BookError;
-use crate::table::{BookField, Highest, Holds, fields};
-use std::alloc::{AllocError, Global};
-use toml::value::Array;
+use crate::ranges::{Highest, range};
+use crate::table::{BookField, Holds, fields};
+use std::alloc::Global;
 use toml::{Table, Value};
 
 /// The text's TOML table.
@@ -36,9 +38,9 @@ fn member<'t>(table: &'t Table, key: &str) -> Option<&'t Value>
     table.get(key)
 }
 
-// What stands at a key of the top, or of a section.
-fn value_at<'t>(table: &'t Table, section: &str, key: &str) -> Option<&'t Value>
-    ensures { option_map (λ v. view v.now) result ≡ place section.now key.now (table_view table.now) }
+/// What stands at a key of the top, or of a section.
+pub fn value_at<'t>(table: &'t Table, section: &str, key: &str) -> Option<&'t Value>
+    ensures { option_map (λ v. view v.now) result ≡ member_at section.now key.now (table_view table.now) }
 {
     if section.is_empty() {
         return member(table, key);
@@ -49,41 +51,117 @@ fn value_at<'t>(table: &'t Table, section: &str, key: &str) -> Option<&'t Value>
     }
 }
 
-/// The items of an array.
-pub fn items_of<'v>(value: &'v Value) -> Option<&'v [Value]>
-    ensures { option_map (λ items. map view items.now) result ≡ option_map data_of (as_array (view value.now)) }
+/// The items of the array at a place, or none where no array stands there.
+pub fn items_in<'v>(place: Option<&'v Value>) -> &'v [Value]
+    ensures { map view result.now ≡ items_of (option_map (λ v. view v.now) place.entry) }
 {
-    match value.as_array() {
-        Some(array) => Some(array.as_slice()),
-        None => None,
-    }
-}
-
-// The items of the array at a key of the top.
-fn rows<'t>(table: &'t Table, key: &str) -> &'t [Value]
-    ensures { map view result.now ≡ rows_of key.now (table_view table.now) }
-{
-    let Some(value) = member(table, key) else {
+    let Some(value) = place else {
         return &[];
     };
-    match items_of(value) {
-        Some(items) => items,
+    match value.as_array() {
+        Some(array) => array.as_slice(),
         None => &[],
     }
 }
 
-// The integers that some values are, if they all are.
-fn integers_of(alloc: Global, values: &[Value]) -> Result<Option<Vec<i64>>, AllocError>
-    ensures { IfOk result (λ o. option_map (λ v. v.items) o ≡ integers (map view values.now)) }
+/// The rows of the array at a key of the top.
+pub fn rows<'t>(table: &'t Table, key: &str) -> &'t [Value]
+    ensures { map view result.now ≡ rows_of key.now (table_view table.now) }
 {
-    let mut numbers = Vec::new(alloc);
-    for value in values {
-        match value.as_integer() {
-            Some(number) => numbers.push(number)?,
-            None => return Ok(None),
-        }
+    items_in(member(table, key))
+}
+
+/// The integer at a place, or 0 where none stands there.
+pub fn integer_in(place: Option<&Value>) -> i64
+    ensures { result ≡ integer_of (option_map (λ v. view v.now) place.entry) }
+{
+    match place {
+        Some(value) => value.as_integer().unwrap_or(0),
+        None => 0,
     }
-    Ok(Some(numbers))
+}
+
+// Whether some values are all integers.
+fn are_integers(items: &[Value]) -> bool
+    ensures { result ≡ list_all (λ v. is_some (as_integer (view v))) items.now }
+{
+    items.iter().all(|item| item.as_integer().is_some())
+}
+
+// Whether they are all tables.
+fn are_tables(items: &[Value]) -> bool
+    ensures { result ≡ list_all (λ v. is_some (as_table (view v))) items.now }
+{
+    items.iter().all(|item| item.as_table().is_some())
+}
+
+// Whether what stands at a place is of the kind.
+fn is_of_kind(kind: Holds, place: Option<&Value>) -> bool
+    ensures { result ≡ has_kind kind (option_map (λ v. view v.now) place.entry) }
+{
+    let Some(value) = place else {
+        return false;
+    };
+    let items = items_in(Some(value));
+    match kind {
+        Holds::Integer | Holds::Column => value.as_integer().is_some(),
+        Holds::Integers(count) => {
+            value.as_array().is_some() && (items.len() == count && are_integers(items))
+        }
+        Holds::Tables => value.as_array().is_some() && are_tables(items),
+    }
+}
+
+// Whether a number goes from low to high.
+fn is_between(low: i64, high: i64, number: i64) -> bool
+    ensures { result ≡ goes_between low high number }
+{
+    low <= number && number <= high
+}
+
+// Whether all of some integers do.
+fn are_between(low: i64, high: i64, items: &[Value]) -> bool
+    ensures { result ≡ list_all (λ v. goes_between low high (integer_of (Some (view v)))) items.now }
+{
+    items
+        .iter()
+        .all(|item| is_between(low, high, integer_in(Some(item))))
+}
+
+// Whether the numbers at a place of the kind do.
+fn is_in_range(low: i64, high: i64, kind: Holds, place: Option<&Value>) -> bool
+    ensures { result ≡ has_range low high kind (option_map (λ v. view v.now) place.entry) }
+{
+    match kind {
+        Holds::Integer | Holds::Column => is_between(low, high, integer_in(place)),
+        Holds::Integers(_) => are_between(low, high, items_in(place)),
+        Holds::Tables => is_between(low, high, items_in(place).len() as i64),
+    }
+}
+
+// The greatest number of a field in a section.
+fn greatest_in(table: &Table, section: &str, high: Highest) -> i64
+    ensures { result ≡ limit (greatest high) section.now (table_view table.now) }
+{
+    match high {
+        Highest::Number(number) => number,
+        Highest::Key(key) => integer_in(value_at(table, section, key)),
+    }
+}
+
+// The error of a field, by whether it is there, of its kind and in its range.
+fn fault(field: u16, is_there: bool, is_of_kind: bool, is_in_range: bool) -> Option<BookError>
+    ensures { result ≡ first_fault field is_there is_of_kind is_in_range }
+{
+    if !is_there {
+        Some(BookError::Missing(field))
+    } else if !is_of_kind {
+        Some(BookError::WrongKind(field))
+    } else if !is_in_range {
+        Some(BookError::OutOfRange(field))
+    } else {
+        None
+    }
 }
 
 // Whether a key stands in each row.
@@ -93,171 +171,73 @@ fn in_each(rows: &[Value], key: &str) -> bool
     rows.iter().all(|row| row.get(key).is_some())
 }
 
-// The integers at a key of some rows, if they all are.
-fn column(alloc: Global, rows: &[Value], key: &str) -> Result<Option<Vec<i64>>, AllocError>
-    ensures { IfOk result (λ o. option_map (λ v. v.items) o ≡ all_numbers Holds.Column (map (get key.now) (map view rows.now))) }
+// Whether an integer stands at it in each row.
+fn is_column(rows: &[Value], key: &str) -> bool
+    ensures { result ≡ list_all (λ v. has_kind Holds.Column (get key.now (view v))) rows.now }
 {
-    let mut numbers = Vec::new(alloc);
-    for row in rows {
-        match row.get(key).and_then(Value::as_integer) {
-            Some(number) => numbers.push(number)?,
-            None => return Ok(None),
-        }
-    }
-    Ok(Some(numbers))
+    rows.iter()
+        .all(|row| is_of_kind(Holds::Column, row.get(key)))
 }
 
-// Whether each item is a table.
-fn all_tables(items: &[Value]) -> bool
-    ensures { result ≡ list_all (λ v. is_some (as_table (view v))) items.now }
+// Whether each of these goes from low to high.
+fn column_goes_between(low: i64, high: i64, rows: &[Value], key: &str) -> bool
+    ensures { result ≡ list_all (λ v. has_range low high Holds.Column (get key.now (view v))) rows.now }
 {
-    items.iter().all(|item| item.as_table().is_some())
+    rows.iter()
+        .all(|row| is_in_range(low, high, Holds::Column, row.get(key)))
 }
 
-// A list of one number.
-fn one(alloc: Global, number: i64) -> Result<Vec<i64>, AllocError>
-    ensures { IfOk result (λ v. v.items ≡ number ∷ []) }
+// The error of a column whose numbers go from low to high.
+fn error_of_column(rows: &[Value], field: &BookField, low: i64, high: i64) -> Option<BookError>
+    ensures { result ≡ places_error field.now.number Holds.Column low high (map (get field.now.key.now) (map view rows.now)) }
 {
-    let mut numbers = Vec::new(alloc);
-    numbers.push(number)?;
-    Ok(numbers)
+    fault(
+        field.number,
+        in_each(rows, field.key),
+        is_column(rows, field.key),
+        column_goes_between(low, high, rows, field.key),
+    )
 }
 
-// The integers that an array's items are, if they all are and are so many.
-fn so_many(alloc: Global, items: &[Value], count: usize) -> Result<Option<Vec<i64>>, AllocError>
-    ensures { IfOk result (λ o. option_map (λ v. v.items) o ≡ exactly count (integers (map view items.now))) }
-{
-    match integers_of(alloc, items)? {
-        Some(numbers) => {
-            if numbers.len() == count {
-                Ok(Some(numbers))
-            } else {
-                Ok(None)
-            }
-        }
-        None => Ok(None),
-    }
-}
-
-// The count of an array's tables, if its items all are.
-fn count_of(alloc: Global, items: &[Value]) -> Result<Option<Vec<i64>>, AllocError>
-    ensures { IfOk result (λ o. option_map (λ v. v.items) o ≡ count_of_tables (map view items.now)) }
-{
-    if all_tables(items) {
-        Ok(Some(one(alloc, items.len() as i64)?))
-    } else {
-        Ok(None)
-    }
-}
-
-// The numbers that stand at a place, if it is of the kind.
-fn numbers_of(alloc: Global, kind: Holds, value: &Value) -> Result<Option<Vec<i64>>, AllocError>
-    ensures { IfOk result (λ o. option_map (λ v. v.items) o ≡ numbers_at kind (view value.now)) }
-{
-    match kind {
-        Holds::Integer | Holds::Column => match value.as_integer() {
-            Some(number) => Ok(Some(one(alloc, number)?)),
-            None => Ok(None),
-        },
-        Holds::Integers(count) => match items_of(value) {
-            Some(items) => so_many(alloc, items, count),
-            None => Ok(None),
-        },
-        Holds::Tables => match items_of(value) {
-            Some(items) => count_of(alloc, items),
-            None => Ok(None),
-        },
-    }
-}
-
-// The numbers of a column, in range or not.
-fn read_column(alloc: Global, rows: &[Value], field: &BookField) -> Result<Vec<i64>, BookError>
-    ensures ok { IfOk result (λ v. read_places Holds.Column field.now.number (map (get field.now.key.now) (map view rows.now)) ≡ Ok v.items) }
-    ensures err { IfErr result (λ e. e ≢ BookError.NoMemory → read_places Holds.Column field.now.number (map (get field.now.key.now) (map view rows.now)) ≡ Err e) }
-{
-    if !in_each(rows, field.key) {
-        return Err(BookError::Missing(field.number));
-    }
-    match column(alloc, rows, field.key)? {
-        Some(numbers) => Ok(numbers),
-        None => Err(BookError::WrongKind(field.number)),
-    }
-}
-
-// The numbers of what stands at one place, in range or not.
-fn read_value(
-    alloc: Global,
-    value: Option<&Value>,
+// The error of what stands at one place.
+fn error_of_place(
+    place: Option<&Value>,
     field: &BookField,
-) -> Result<Vec<i64>, BookError>
-    ensures ok { IfOk result (λ v. read_places field.now.kind field.now.number (option_map (λ v. view v.now) value.entry ∷ []) ≡ Ok v.items) }
-    ensures err { IfErr result (λ e. e ≢ BookError.NoMemory → read_places field.now.kind field.now.number (option_map (λ v. view v.now) value.entry ∷ []) ≡ Err e) }
+    low: i64,
+    high: i64,
+) -> Option<BookError>
+    ensures { result ≡ places_error field.now.number field.now.kind low high (option_map (λ v. view v.now) place.entry ∷ []) }
 {
-    let Some(value) = value else {
-        return Err(BookError::Missing(field.number));
-    };
-    match numbers_of(alloc, field.kind, value)? {
-        Some(numbers) => Ok(numbers),
-        None => Err(BookError::WrongKind(field.number)),
-    }
+    fault(
+        field.number,
+        place.is_some(),
+        is_of_kind(field.kind, place),
+        is_in_range(low, high, field.kind, place),
+    )
 }
 
-// The numbers of a field, in range or not.
-fn unranged_numbers(alloc: Global, table: &Table, field: &BookField) -> Result<Vec<i64>, BookError>
-    ensures ok { IfOk result (λ v. unranged (field_line field.now) (table_view table.now) ≡ Ok v.items) }
-    ensures err { IfErr result (λ e. e ≢ BookError.NoMemory → unranged (field_line field.now) (table_view table.now) ≡ Err e) }
+// What is wrong with a field, if anything is.
+fn error_of_field(table: &Table, field: &BookField) -> Option<BookError>
+    ensures { result ≡ field_error (field_line field.now) (table_view table.now) }
 {
+    let range = range(field.name);
+    let low = range.low;
+    let high = greatest_in(table, field.section, range.high);
     match field.kind {
-        Holds::Column => read_column(alloc, rows(table, field.section), field),
-        _ => read_value(alloc, value_at(table, field.section, field.key), field),
+        Holds::Column => error_of_column(rows(table, field.section), field, low, high),
+        _ => error_of_place(value_at(table, field.section, field.key), field, low, high),
     }
 }
 
-// The greatest number of a field.
-fn greatest_of(table: &Table, field: &BookField) -> i64
-    ensures { result ≡ limit (greatest field.now.high) field.now.section.now (table_view table.now) }
+/// The first error of a table's fields 1 to 55.
+pub fn error_of_fields(table: &Table) -> Option<BookError>
+    ensures { result ≡ fields_error (table_view table.now) }
 {
-    match field.high {
-        Highest::Number(number) => number,
-        Highest::Key(key) => match value_at(table, field.section, key) {
-            Some(value) => value.as_integer().unwrap_or(0),
-            None => 0,
-        },
-    }
-}
-
-// Whether some numbers are all from a least to a greatest one.
-fn all_between(numbers: &[i64], low: i64, high: i64) -> bool
-    ensures { result ≡ list_all (is_between low high) numbers.now }
-{
-    numbers
-        .iter()
-        .all(|number| low <= *number && *number <= high)
-}
-
-// The numbers of a field.
-fn numbers_of_field(alloc: Global, table: &Table, field: &BookField) -> Result<Vec<i64>, BookError>
-    ensures ok { IfOk result (λ v. field_numbers (field_line field.now) (table_view table.now) ≡ Ok v.items) }
-    ensures err { IfErr result (λ e. e ≢ BookError.NoMemory → field_numbers (field_line field.now) (table_view table.now) ≡ Err e) }
-{
-    let numbers = unranged_numbers(alloc, table, field)?;
-    if all_between(&numbers, field.low, greatest_of(table, field)) {
-        Ok(numbers)
-    } else {
-        Err(BookError::OutOfRange(field.number))
-    }
-}
-
-/// The numbers of a table's fields 1 to 55, a list for each field.
-pub fn numbers_in_table(alloc: Global, table: &Table) -> Result<Vec<Vec<i64>>, BookError>
-    ensures ok { IfOk result (λ v. numbers_in (table_view table.now) ≡ Ok (map (λ n. n.items) v.items)) }
-    ensures err { IfErr result (λ e. e ≢ BookError.NoMemory → numbers_in (table_view table.now) ≡ Err e) }
-{
-    let mut lists = Vec::new(alloc);
     let fields = fields();
     for field in fields {
-        let numbers = numbers_of_field(alloc, table, field)?;
-        lists.push(numbers)?;
+        if let Some(error) = error_of_field(table, field) {
+            return Some(error);
+        }
     }
-    Ok(lists)
+    None
 }

@@ -16,16 +16,7 @@ pub enum Holds {
     Column,
 }
 
-/// The greatest number of a field.
-#[derive(Clone, Copy, Debug)]
-pub enum Highest {
-    /// This one.
-    Number(i64),
-    /// The number at this key of the same section.
-    Key(&'static str),
-}
-
-/// A field: its number, where it stands, what stands there, and the range of its numbers.
+/// A field: its number, where it stands, and what stands there.
 #[derive(Clone, Copy, Debug)]
 pub struct BookField {
     /// 1 to 55.
@@ -34,86 +25,96 @@ pub struct BookField {
     pub section: &'static str,
     /// The key in it.
     pub key: &'static str,
+    /// Its name in the table of kinds: the key behind its section.
+    pub name: &'static str,
     /// What stands there.
     pub kind: Holds,
-    /// The least of its numbers.
-    pub low: i64,
-    /// The greatest of its numbers.
-    pub high: Highest,
 }
 
-macro_rules! field {
-    ($number:literal, $section:literal, $key:literal: $kind:expr, $low:literal to $high:expr) => {
+// A field at the top.
+macro_rules! top {
+    ($number:literal, $key:literal: $kind:expr) => {
         BookField {
             number: $number,
-            section: $section,
+            section: "",
             key: $key,
+            name: $key,
             kind: $kind,
-            low: $low,
-            high: $high,
         }
     };
 }
 
-use Highest::{Key, Number};
+// A field in a section, or a column.
+macro_rules! field {
+    ($number:literal, $section:literal, $key:literal: $kind:expr) => {
+        BookField {
+            number: $number,
+            section: $section,
+            key: $key,
+            name: concat!($section, ".", $key),
+            kind: $kind,
+        }
+    };
+}
+
 use Holds::{Column, Integer, Integers, Tables};
 
 static FIELDS: [BookField; 55] = [
-    field!(1, "", "form": Integer, 1 to Number(1)),
-    field!(2, "", "year": Integer, 2_000 to Number(2_099)),
-    field!(3, "pell", "maximum": Integer, 1 to Number(99_999)),
-    field!(4, "pell", "minimum": Integer, 1 to Key("maximum")),
-    field!(5, "percent", "maximum_single": Integer, 1 to Number(9_999)),
-    field!(6, "percent", "maximum_other": Integer, 1 to Number(9_999)),
-    field!(7, "percent", "minimum_dependent_single": Integer, 1 to Number(9_999)),
-    field!(8, "percent", "minimum_dependent_other": Integer, 1 to Number(9_999)),
-    field!(9, "percent", "minimum_single_parent": Integer, 1 to Number(9_999)),
-    field!(10, "percent", "minimum_parent": Integer, 1 to Number(9_999)),
-    field!(11, "percent", "minimum_no_dependents": Integer, 1 to Number(9_999)),
-    field!(12, "poverty", "contiguous": Integers(8), 0 to Number(99_999_999)),
-    field!(13, "poverty", "contiguous_extra": Integer, 0 to Number(99_999_999)),
-    field!(14, "poverty", "alaska": Integers(8), 0 to Number(99_999_999)),
-    field!(15, "poverty", "alaska_extra": Integer, 0 to Number(99_999_999)),
-    field!(16, "poverty", "hawaii": Integers(8), 0 to Number(99_999_999)),
-    field!(17, "poverty", "hawaii_extra": Integer, 0 to Number(99_999_999)),
-    field!(18, "payroll", "oasdi_cap": Integer, 0 to Number(99_999_999)),
-    field!(19, "payroll", "oasdi_rate": Integer, 0 to Number(10_000)),
-    field!(20, "payroll", "medicare_rate": Integer, 0 to Number(10_000)),
-    field!(21, "payroll", "medicare_high": Integer, 0 to Number(10_000)),
-    field!(22, "payroll", "threshold_single": Integer, 0 to Number(99_999_999)),
-    field!(23, "payroll", "threshold_married": Integer, 0 to Number(99_999_999)),
-    field!(24, "protection", "parents": Integers(5), 0 to Number(99_999_999)),
-    field!(25, "protection", "parents_extra": Integer, 0 to Number(99_999_999)),
-    field!(26, "protection", "dependent_student": Integer, 0 to Number(99_999_999)),
-    field!(27, "protection", "single_student": Integer, 0 to Number(99_999_999)),
-    field!(28, "protection", "married_student": Integer, 0 to Number(99_999_999)),
-    field!(29, "protection", "single_parent": Integers(5), 0 to Number(99_999_999)),
-    field!(30, "protection", "single_parent_extra": Integer, 0 to Number(99_999_999)),
-    field!(31, "protection", "married_parent": Integers(5), 0 to Number(99_999_999)),
-    field!(32, "protection", "married_parent_extra": Integer, 0 to Number(99_999_999)),
-    field!(33, "employment", "cap": Integer, 0 to Number(99_999_999)),
-    field!(34, "employment", "rate": Integer, 0 to Number(10_000)),
-    field!(35, "assets", "parents_rate": Integer, 0 to Number(10_000)),
-    field!(36, "assets", "dependent_rate": Integer, 0 to Number(10_000)),
-    field!(37, "assets", "no_dependents_rate": Integer, 0 to Number(10_000)),
-    field!(38, "assets", "with_dependents_rate": Integer, 0 to Number(10_000)),
-    field!(39, "", "business": Tables, 1 to Number(16)),
-    field!(40, "business", "over": Column, 0 to Number(99_999_999)),
-    field!(41, "business", "base": Column, 0 to Number(99_999_999)),
-    field!(42, "business", "rate": Column, 0 to Number(10_000)),
-    field!(43, "", "age": Tables, 1 to Number(64)),
-    field!(44, "age", "from": Column, 0 to Number(120)),
-    field!(45, "age", "single": Column, 0 to Number(99_999_999)),
-    field!(46, "age", "married": Column, 0 to Number(99_999_999)),
-    field!(47, "schedule", "low_at": Integer, -999_999 to Number(0)),
-    field!(48, "schedule", "low": Integer, -999_999 to Number(0)),
-    field!(49, "schedule", "first_rate": Integer, 0 to Number(10_000)),
-    field!(50, "schedule", "student_rate": Integer, 0 to Number(10_000)),
-    field!(51, "schedule", "lowest_student": Integer, -999_999 to Number(0)),
-    field!(52, "", "bracket": Tables, 1 to Number(16)),
-    field!(53, "bracket", "over": Column, 0 to Number(99_999_999)),
-    field!(54, "bracket", "base": Column, 0 to Number(99_999_999)),
-    field!(55, "bracket", "rate": Column, 0 to Number(10_000)),
+    top!(1, "form": Integer),
+    top!(2, "year": Integer),
+    field!(3, "pell", "maximum": Integer),
+    field!(4, "pell", "minimum": Integer),
+    field!(5, "percent", "maximum_single": Integer),
+    field!(6, "percent", "maximum_other": Integer),
+    field!(7, "percent", "minimum_dependent_single": Integer),
+    field!(8, "percent", "minimum_dependent_other": Integer),
+    field!(9, "percent", "minimum_single_parent": Integer),
+    field!(10, "percent", "minimum_parent": Integer),
+    field!(11, "percent", "minimum_no_dependents": Integer),
+    field!(12, "poverty", "contiguous": Integers(8)),
+    field!(13, "poverty", "contiguous_extra": Integer),
+    field!(14, "poverty", "alaska": Integers(8)),
+    field!(15, "poverty", "alaska_extra": Integer),
+    field!(16, "poverty", "hawaii": Integers(8)),
+    field!(17, "poverty", "hawaii_extra": Integer),
+    field!(18, "payroll", "oasdi_cap": Integer),
+    field!(19, "payroll", "oasdi_rate": Integer),
+    field!(20, "payroll", "medicare_rate": Integer),
+    field!(21, "payroll", "medicare_high": Integer),
+    field!(22, "payroll", "threshold_single": Integer),
+    field!(23, "payroll", "threshold_married": Integer),
+    field!(24, "protection", "parents": Integers(5)),
+    field!(25, "protection", "parents_extra": Integer),
+    field!(26, "protection", "dependent_student": Integer),
+    field!(27, "protection", "single_student": Integer),
+    field!(28, "protection", "married_student": Integer),
+    field!(29, "protection", "single_parent": Integers(5)),
+    field!(30, "protection", "single_parent_extra": Integer),
+    field!(31, "protection", "married_parent": Integers(5)),
+    field!(32, "protection", "married_parent_extra": Integer),
+    field!(33, "employment", "cap": Integer),
+    field!(34, "employment", "rate": Integer),
+    field!(35, "assets", "parents_rate": Integer),
+    field!(36, "assets", "dependent_rate": Integer),
+    field!(37, "assets", "no_dependents_rate": Integer),
+    field!(38, "assets", "with_dependents_rate": Integer),
+    top!(39, "business": Tables),
+    field!(40, "business", "over": Column),
+    field!(41, "business", "base": Column),
+    field!(42, "business", "rate": Column),
+    top!(43, "age": Tables),
+    field!(44, "age", "from": Column),
+    field!(45, "age", "single": Column),
+    field!(46, "age", "married": Column),
+    field!(47, "schedule", "low_at": Integer),
+    field!(48, "schedule", "low": Integer),
+    field!(49, "schedule", "first_rate": Integer),
+    field!(50, "schedule", "student_rate": Integer),
+    field!(51, "schedule", "lowest_student": Integer),
+    top!(52, "bracket": Tables),
+    field!(53, "bracket", "over": Column),
+    field!(54, "bracket", "base": Column),
+    field!(55, "bracket", "rate": Column),
 ];
 
 /// The fields 1 to 55, in order.

@@ -1,57 +1,60 @@
 //! The tables of a book: their rows, and the first row that does not go on from the one before it.
-ghost use Rattle.std.specs.Prelude.{◌≡◌, ◌≤◌, ◌<◌, ◌≤ℤ◌, All, IfOk, length, pos};
-ghost use Rattle.aid_books.specs.Ages.{IsAgeRow};
+ghost use Rattle.std.specs.Prelude.{◌≡◌, ◌≤◌, ◌<◌, ◌≤ℤ◌, All, None, IfOk, length, map, pos};
+ghost use Rattle.toml.specs.View.{table_view, view};
 ghost use Rattle.aid_books.specs.Marginal.{IsBracket, row_value};
 ghost use Rattle.aid_types.specs.Ranges.{IsRate};
-ghost use Rattle.year_books.specs.Tables.{age_rows, begins_ages, begins_business, begins_schedule, bracket_rows, break_from, break_in, continues, is_older, rising_error};
+ghost use Rattle.year_books.specs.Reading.{fields_error};
+ghost use Rattle.year_books.specs.Tables.{age_row_of, begins_ages, begins_business, begins_schedule, book_break, bracket_of, break_from, break_in, continues, first_rate_of, is_older, rising_error};
 
 use crate::error::BookError;
+use crate::reading::{integer_in, rows, value_at};
 use aid_books::{AgeRow, Bracket};
 use aid_num::share;
 use std::alloc::{AllocError, Global};
+use toml::{Table, Value};
 
-/// The rows of three columns of a table that goes by an amount.
-pub fn bracket_rows_of(
-    alloc: Global,
-    overs: &[i64],
-    bases: &[i64],
-    rates: &[i64],
-) -> Result<Vec<Bracket>, AllocError>
-    requires bases { length bases.now ≡ length overs.now }
-    requires rates { length rates.now ≡ length overs.now }
-    ensures { IfOk result (λ v. v.items ≡ bracket_rows overs.now bases.now rates.now) }
+// A row of a table that goes by an amount.
+fn bracket(row: &Value) -> Bracket
+    ensures { result ≡ bracket_of (view row.now) }
 {
-    let mut rows = Vec::new(alloc);
-    for (index, over) in overs.iter().enumerate() {
-        rows.push(Bracket {
-            over: *over,
-            base: bases[index],
-            rate: rates[index],
-        })?;
+    Bracket {
+        over: integer_in(row.get("over")),
+        base: integer_in(row.get("base")),
+        rate: integer_in(row.get("rate")),
     }
-    Ok(rows)
 }
 
-/// The rows of three columns of the table that goes by age.
-pub fn age_rows_of(
-    alloc: Global,
-    starts: &[i64],
-    singles: &[i64],
-    marrieds: &[i64],
-) -> Result<Vec<AgeRow>, AllocError>
-    requires singles { length singles.now ≡ length starts.now }
-    requires marrieds { length marrieds.now ≡ length starts.now }
-    ensures { IfOk result (λ v. v.items ≡ age_rows starts.now singles.now marrieds.now) }
+// A row of the table that goes by age.
+fn age_row(row: &Value) -> AgeRow
+    ensures { result ≡ age_row_of (view row.now) }
 {
-    let mut rows = Vec::new(alloc);
-    for (index, start) in starts.iter().enumerate() {
-        rows.push(AgeRow {
-            start: *start,
-            single: singles[index],
-            married: marrieds[index],
-        })?;
+    AgeRow {
+        start: integer_in(row.get("from")),
+        single: integer_in(row.get("single")),
+        married: integer_in(row.get("married")),
     }
-    Ok(rows)
+}
+
+// The rows of a table that goes by an amount.
+fn brackets(alloc: Global, rows: &[Value]) -> Result<Vec<Bracket>, AllocError>
+    ensures { IfOk result (λ v. v.items ≡ map bracket_of (map view rows.now)) }
+{
+    let mut brackets = Vec::new(alloc);
+    for row in rows {
+        brackets.push(bracket(row))?;
+    }
+    Ok(brackets)
+}
+
+// The rows of the table that goes by age.
+fn ages(alloc: Global, rows: &[Value]) -> Result<Vec<AgeRow>, AllocError>
+    ensures { IfOk result (λ v. v.items ≡ map age_row_of (map view rows.now)) }
+{
+    let mut ages = Vec::new(alloc);
+    for row in rows {
+        ages.push(age_row(row))?;
+    }
+    Ok(ages)
 }
 
 // The value that a row has at an amount above where it begins.
@@ -162,8 +165,8 @@ fn bracket_break(first_rate: i64, rows: &[Bracket]) -> Option<u16>
     }
 }
 
-/// The first row of the tables, in their order, that does not go on from the one before it.
-pub fn not_rising(
+// The first row of the tables, in their order, that does not go on from the one before it.
+fn not_rising(
     first_rate: i64,
     business: &[Bracket],
     age: &[AgeRow],
@@ -184,4 +187,24 @@ pub fn not_rising(
         return Some(BookError::NotRising(2, row));
     }
     bracket_break(first_rate, bracket).map(|row| BookError::NotRising(3, row))
+}
+
+// The schedule's first rate.
+fn first_rate(table: &Table) -> i64
+    requires { fields_error (table_view table.now) ≡ None }
+    ensures value { result ≡ first_rate_of (table_view table.now) }
+    ensures in_range { IsRate result }
+{
+    integer_in(value_at(table, "schedule", "first_rate"))
+}
+
+/// The first row of a text's tables, whose fields are in their ranges, that does not go on from the one before it.
+pub fn break_of(alloc: Global, table: &Table) -> Result<Option<BookError>, AllocError>
+    requires { fields_error (table_view table.now) ≡ None }
+    ensures { IfOk result (λ o. o ≡ book_break (table_view table.now)) }
+{
+    let business = brackets(alloc, rows(table, "business"))?;
+    let age = ages(alloc, rows(table, "age"))?;
+    let bracket = brackets(alloc, rows(table, "bracket"))?;
+    Ok(not_rising(first_rate(table), &business, &age, &bracket))
 }

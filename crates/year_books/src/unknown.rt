@@ -4,7 +4,7 @@ ghost use Rattle.std.specs.List.{list_any};
 ghost use Rattle.toml.specs.View.{table_view, view};
 ghost use Rattle.year_books.specs.Unknown.{dotted, is_key, is_section, keep_lesser, lesser, names_of, unknown_at, unknown_in, unknown_inside, unknown_key, unknown_keys, unknown_names};
 
-use crate::reading::items_of;
+use crate::reading::items_in;
 use crate::table::{BookField, fields};
 use std::alloc::{AllocError, Global};
 use std::cmp::Ordering;
@@ -144,10 +144,7 @@ fn least_inside(
     ensures { IfOk result (λ o. option_map (λ v. v.items) o ≡ fold keep_lesser (option_map (λ v. v.items) before) (unknown_inside section.now (view value.now))) }
 {
     let least = least_in_value(alloc, section, value, before)?;
-    match items_of(value) {
-        Some(rows) => least_in_rows(alloc, section, rows, least),
-        None => Ok(least),
-    }
+    least_in_rows(alloc, section, items_in(Some(value)), least)
 }
 
 // The least name so far, with the unknown keys at a name of the top.
