@@ -72,7 +72,7 @@ impl Source for MemorySource {
         ensures failed { OnErr result (self.new.left ≡ self.old.left) }
         ensures later { self.old.faults ≤ self.new.faults }
         ensures cause { OnErr result (Rose self.old.faults self.new.faults) }
-        ensures uncounted { OnOk result (self.new.faults ≡ self.old.faults) }
+        ensures unmoved { OnOk result (self.new.faults ≡ self.old.faults) }
         ensures fails { IsErr result ↔ Contains self.old.failing self.new.calls }
         ensures counted { self.new.calls ≡ next_count self.old.calls }
         ensures failing { self.new.failing ≡ self.old.failing }
@@ -190,7 +190,7 @@ impl Sink for MemorySink {
         ensures failed { OnErr result (self.new.text ≡ self.old.text) }
         ensures later { self.old.faults ≤ self.new.faults }
         ensures cause { OnErr result (Rose self.old.faults self.new.faults) }
-        ensures uncounted { OnOk result (self.new.faults ≡ self.old.faults) }
+        ensures unmoved { OnOk result (self.new.faults ≡ self.old.faults) }
         ensures fails { Contains self.old.failing self.new.calls → IsErr result }
         ensures counted { self.new.calls ≡ next_count self.old.calls }
         ensures failing { self.new.failing ≡ self.old.failing }

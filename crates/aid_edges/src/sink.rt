@@ -1,5 +1,5 @@
 //! What takes bytes.
-ghost use Rattle.std.specs.Prelude.{◌≡◌, ◌<◌, ◌≤◌, ◌++◌, ℕ, List, Bool, IsTrue, IfOk, OnErr, length, take};
+ghost use Rattle.std.specs.Prelude.{◌≡◌, ◌<◌, ◌≤◌, ◌++◌, ℕ, List, Bool, IsTrue, IfOk, OnOk, OnErr, length, take};
 ghost use Rattle.aid_edges.specs.Faults.{Rose};
 
 use crate::Failed;
@@ -24,5 +24,6 @@ pub trait Sink {
             → IfOk result (λ n. text self.new ≡ text self.old ++ take n bytes.now) }
         ensures failed { IsTrue (honest self.old) → OnErr result (text self.new ≡ text self.old) }
         ensures later { faults self.old ≤ faults self.new }
-        ensures cause { OnErr result (Rose (faults self.old) (faults self.new)) };
+        ensures cause { OnErr result (Rose (faults self.old) (faults self.new)) }
+        ensures unmoved { OnOk result (faults self.new ≡ faults self.old) };
 }

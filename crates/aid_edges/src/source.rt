@@ -1,5 +1,5 @@
 //! What gives bytes.
-ghost use Rattle.std.specs.Prelude.{◌≡◌, ◌<◌, ◌≤◌, ◌↔◌, ℕ, List, [], Bool, IsTrue, IfOk, OnErr, length};
+ghost use Rattle.std.specs.Prelude.{◌≡◌, ◌<◌, ◌≤◌, ◌↔◌, ℕ, List, [], Bool, IsTrue, IfOk, OnOk, OnErr, length};
 ghost use Rattle.aid_edges.specs.Faults.{Rose};
 ghost use Rattle.aid_edges.specs.Moved.{IsFrontRead};
 
@@ -27,5 +27,6 @@ pub trait Source {
             → IfOk result (λ n. (n ≡ 0) ↔ (left self.old ≡ [])) }
         ensures failed { IsTrue (honest self.old) → OnErr result (left self.new ≡ left self.old) }
         ensures later { faults self.old ≤ faults self.new }
-        ensures cause { OnErr result (Rose (faults self.old) (faults self.new)) };
+        ensures cause { OnErr result (Rose (faults self.old) (faults self.new)) }
+        ensures unmoved { OnOk result (faults self.new ≡ faults self.old) };
 }

@@ -20,6 +20,7 @@ pub enum ReadError {
 const PIECE: usize = 4096;
 
 /// Reads a source to its end, where it has at most `limit` bytes, and one byte more than that where it has more.
+/// After an error what was read is lost.
 pub fn read_to_limit<S: Source>(
     alloc: Global,
     source: &mut S,
@@ -35,8 +36,13 @@ pub fn read_to_limit<S: Source>(
     ensures within { IsTrue (S.honest source.old) → result ≡ Err ReadError.Failed
         → length (S.left source.old) ≤ limit + length (S.left source.new) }
     ensures taken { IsTrue (S.honest source.old) → IsTaken (S.left source.old) (S.left source.new) }
+    ensures no_further { IsTrue (S.honest source.old)
+        → length (S.left source.old) ≤ limit + 1 + length (S.left source.new) }
     ensures later { S.faults source.old ≤ S.faults source.new }
     ensures cause { result ≡ Err ReadError.Failed → Rose (S.faults source.old) (S.faults source.new) }
+    ensures unmoved { OnOk result (S.faults source.new ≡ S.faults source.old) }
+    ensures unmoved_too_long { result ≡ Err ReadError.TooLong → S.faults source.new ≡ S.faults source.old }
+    ensures unmoved_no_memory { result ≡ Err ReadError.NoMemory → S.faults source.new ≡ S.faults source.old }
 {
     let mut bytes = Vec::new(alloc);
     let mut piece = [0; PIECE];
@@ -62,6 +68,7 @@ pub fn write_whole<K: Sink>(sink: &mut K, bytes: &[u8]) -> Result<(), Failed>
     ensures failed { IsTrue (K.honest sink.old) → OnErr result (IsCutShort bytes.now (K.text sink.old) (K.text sink.new)) }
     ensures later { K.faults sink.old ≤ K.faults sink.new }
     ensures cause { OnErr result (Rose (K.faults sink.old) (K.faults sink.new)) }
+    ensures unmoved { OnOk result (K.faults sink.new ≡ K.faults sink.old) }
 {
     let mut done = 0;
     while done < bytes.len() {

@@ -24,7 +24,8 @@ pub trait Disk {
         ensures told { IsHonest (tells self.old) → IsRead (tells self.old) (tells self.new) }
         ensures length { IsHonest (tells self.old) → IfOk result (λ n. n ≡ length (tells self.old).reads) }
         ensures later { faults self.old ≤ faults self.new }
-        ensures cause { OnErr result (Rose (faults self.old) (faults self.new)) };
+        ensures cause { OnErr result (Rose (faults self.old) (faults self.new)) }
+        ensures unmoved { OnOk result (faults self.new ≡ faults self.old) };
 
     /// Fills the front of the buffer with the bytes from `at` on, as many as there are and as fit.
     fn read_at(&mut self, at: u64, buf: &mut [u8]) -> Result<usize, Failed>
@@ -33,7 +34,8 @@ pub trait Disk {
         ensures fits { IfOk result (λ n. n ≤ length buf.old) }
         ensures bytes { IsHonest (tells self.old) → IfOk result (λ n. Fronts (tells self.old).reads at n buf.old buf.new) }
         ensures later { faults self.old ≤ faults self.new }
-        ensures cause { OnErr result (Rose (faults self.old) (faults self.new)) };
+        ensures cause { OnErr result (Rose (faults self.old) (faults self.new)) }
+        ensures unmoved { OnOk result (faults self.new ≡ faults self.old) };
 
     /// Writes over what is there, and past the end. A failed write counts as a write of its range.
     /// All that a crash may leave of a write that succeeded is among the images.
@@ -45,7 +47,8 @@ pub trait Disk {
             → OnOk result (Allow (Torn at (length bytes.now)) (tells self.old).image (tells self.new).image) }
         ensures done { IsHonest (tells self.old) → OnOk result ((tells self.new).reads ≡ overwrite at bytes.now (tells self.old).reads) }
         ensures later { faults self.old ≤ faults self.new }
-        ensures cause { OnErr result (Rose (faults self.old) (faults self.new)) };
+        ensures cause { OnErr result (Rose (faults self.old) (faults self.new)) }
+        ensures unmoved { OnOk result (faults self.new ≡ faults self.old) };
 
     /// Cuts the file to a length. A failed cut counts as a cut. All that a crash may leave of a cut that succeeded is
     /// among the images.
@@ -57,7 +60,8 @@ pub trait Disk {
             → OnOk result (Allow (Cut len) (tells self.old).image (tells self.new).image) }
         ensures done { IsHonest (tells self.old) → OnOk result ((tells self.new).reads ≡ take len (tells self.old).reads) }
         ensures later { faults self.old ≤ faults self.new }
-        ensures cause { OnErr result (Rose (faults self.old) (faults self.new)) };
+        ensures cause { OnErr result (Rose (faults self.old) (faults self.new)) }
+        ensures unmoved { OnOk result (faults self.new ≡ faults self.old) };
 
     /// Where it succeeds, a crash leaves what a read gives. A failed sync takes away nothing that a crash may leave.
     fn sync(&mut self) -> Result<(), Failed>
@@ -66,7 +70,8 @@ pub trait Disk {
         ensures durable { IsHonest (tells self.old) → OnOk result (IsQuiet (tells self.new)) }
         ensures failed { IsHonest (tells self.old) → OnErr result ((c : List ℕ) → (tells self.old).image c → (tells self.new).image c) }
         ensures later { faults self.old ≤ faults self.new }
-        ensures cause { OnErr result (Rose (faults self.old) (faults self.new)) };
+        ensures cause { OnErr result (Rose (faults self.old) (faults self.new)) }
+        ensures unmoved { OnOk result (faults self.new ≡ faults self.old) };
 
     /// A disk as it reads is one of its images.
     ghost reads_as_image: { (disk : Self) → IsHonest (tells disk) → (tells disk).image (tells disk).reads };

@@ -13,6 +13,7 @@ pub fn sync_kept<D: Disk>(disk: &mut D) -> Result<(), Failed>
         → OnOk result (IsKept (D.tells disk.old).reads (D.tells disk.new)) }
     ensures later { D.faults disk.old ≤ D.faults disk.new }
     ensures cause { OnErr result (Rose (D.faults disk.old) (D.faults disk.new)) }
+    ensures unmoved { OnOk result (D.faults disk.new ≡ D.faults disk.old) }
 {
     disk.sync()
 }
@@ -27,6 +28,7 @@ pub fn write_kept<D: Disk>(disk: &mut D, at: u64, bytes: &[u8]) -> Result<(), Fa
         → OnOk result (IsKept (overwrite at bytes.now (D.tells disk.old).reads) (D.tells disk.new)) }
     ensures later { D.faults disk.old ≤ D.faults disk.new }
     ensures cause { OnErr result (Rose (D.faults disk.old) (D.faults disk.new)) }
+    ensures unmoved { OnOk result (D.faults disk.new ≡ D.faults disk.old) }
 {
     disk.write_at(at, bytes)?;
     disk.sync()
@@ -42,6 +44,7 @@ pub fn trim<D: Disk>(disk: &mut D, end: u64) -> Result<(), Failed>
         → OnOk result (IsKept (take end (D.tells disk.old).reads) (D.tells disk.new)) }
     ensures later { D.faults disk.old ≤ D.faults disk.new }
     ensures cause { OnErr result (Rose (D.faults disk.old) (D.faults disk.new)) }
+    ensures unmoved { OnOk result (D.faults disk.new ≡ D.faults disk.old) }
 {
     let len = disk.len()?;
     if end < len {
@@ -61,6 +64,7 @@ pub fn cut_kept<D: Disk>(disk: &mut D, len: u64) -> Result<(), Failed>
         → OnOk result (IsKept (take len (D.tells disk.old).reads) (D.tells disk.new)) }
     ensures later { D.faults disk.old ≤ D.faults disk.new }
     ensures cause { OnErr result (Rose (D.faults disk.old) (D.faults disk.new)) }
+    ensures unmoved { OnOk result (D.faults disk.new ≡ D.faults disk.old) }
 {
     disk.cut(len)?;
     disk.sync()

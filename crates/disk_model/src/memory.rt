@@ -1,8 +1,8 @@
 // A disk in memory. It keeps what it began with and a record of its calls, and so tells what a crash may leave.
-ghost use Rattle.std.specs.Prelude.{◌≡◌, ◌≤◌, ◌+◌, ◌++◌, [], ◌∷◌, ℕ, List, length, OnOk, OnErr, IfOk, take};
+ghost use Rattle.std.specs.Prelude.{◌≡◌, ◌≤◌, ◌+◌, ◌++◌, [], ◌∷◌, ℕ, List, length, OnOk, OnErr, IfOk, max, take};
 ghost use Rattle.disk_model.specs.Faults.{Rose, next_count};
 ghost use Rattle.disk_model.specs.Telling.{IsHonest, IsQuiet, IsRead, IsWrite, IsCut, IsSync, Torn, Cut, Allow, Fronts, overwrite};
-ghost use Rattle.disk_model.specs.Calls.{telling, reads_after, reads_by, IsLook};
+ghost use Rattle.disk_model.specs.Calls.{telling, reads_after, reads_by, buffer_of, IsLook};
 ghost use Rattle.disk_model.specs.Laws.{reads_are_image, now_counts, now_only, length-bytes-lt};
 
 use crate::stop::{Turn, turn_with_stop, turn_without_stop};
@@ -98,6 +98,8 @@ impl MemoryDisk {
         requires { reads_by call self.old.bytes.items ≡ self.old.bytes.items }
         ensures calls { OnOk result (self.new.calls.items ≡ self.old.calls.items ++ call ∷ []) }
         ensures calls_err { OnErr result (self.new.calls.items ≡ self.old.calls.items) }
+        ensures longest { OnOk result (memory_longest_read self.new ≡ max (memory_longest_read self.old) (buffer_of call)) }
+        ensures longest_err { OnErr result (memory_longest_read self.new ≡ memory_longest_read self.old) }
         ensures start { self.new.start ≡ self.old.start }
         ensures bytes { self.new.bytes ≡ self.old.bytes }
         ensures faults { self.new.faults ≡ self.old.faults }
@@ -108,11 +110,13 @@ impl MemoryDisk {
 
     // Records a call, after which these bytes are there.
     fn commit(&mut self, call: Call, next: Vec<u8>) -> Result<(), AllocError>
-        requires { next.items ≡ reads_by call self.old.bytes.items }
+        requires next { next.items ≡ reads_by call self.old.bytes.items }
+        requires no_read { buffer_of call ≡ 0 }
         ensures calls { OnOk result (self.new.calls.items ≡ self.old.calls.items ++ call ∷ []) }
         ensures bytes { OnOk result (self.new.bytes.items ≡ next.items) }
         ensures calls_err { OnErr result (self.new.calls.items ≡ self.old.calls.items) }
         ensures bytes_err { OnErr result (self.new.bytes.items ≡ self.old.bytes.items) }
+        ensures longest { memory_longest_read self.new ≡ memory_longest_read self.old }
         ensures start { self.new.start ≡ self.old.start }
         ensures faults { self.new.faults ≡ self.old.faults }
     {
@@ -126,6 +130,9 @@ impl MemoryDisk {
         requires { IsLook call }
         ensures told { IsRead (memory_tells self.old) (memory_tells self.new) }
         ensures bytes { self.new.bytes ≡ self.old.bytes }
+        ensures longest { result ≡ Turn.Works → memory_longest_read self.new ≡ max (memory_longest_read self.old) (buffer_of call) }
+        ensures no_less { memory_longest_read self.old ≤ memory_longest_read self.new }
+        ensures no_more { memory_longest_read self.new ≤ max (memory_longest_read self.old) (buffer_of call) }
         ensures faults { self.new.faults ≡ self.old.faults }
     {
         let turn = self.turn();
@@ -142,6 +149,7 @@ impl MemoryDisk {
         ensures told { IsWrite at n (memory_tells self.old) (memory_tells self.new) }
         ensures torn { OnOk result (Allow (Torn at n) (memory_tells self.old).image (memory_tells self.new).image) }
         ensures done { OnOk result (self.new.bytes.items ≡ overwrite at left.now self.old.bytes.items) }
+        ensures longest { memory_longest_read self.new ≡ memory_longest_read self.old }
         ensures faults { self.new.faults ≡ self.old.faults }
     {
         let next = with_bytes(self.alloc, &self.bytes, at as usize, left)?;
@@ -157,6 +165,7 @@ impl MemoryDisk {
         ensures told { IsCut len (memory_tells self.old) (memory_tells self.new) }
         ensures torn { OnOk result (Allow (Cut len) (memory_tells self.old).image (memory_tells self.new).image) }
         ensures done { OnOk result (self.new.bytes.items ≡ take len self.old.bytes.items ++ left.now) }
+        ensures longest { memory_longest_read self.new ≡ memory_longest_read self.old }
         ensures faults { self.new.faults ≡ self.old.faults }
     {
         let mut next = self.bytes[..len as usize].to_vec(self.alloc)?;
@@ -170,6 +179,7 @@ impl MemoryDisk {
     fn fail_write(&mut self, at: u64, bytes: &[u8], fill: Fill) -> Result<(), AllocError>
         requires inside { at ≤ length self.old.bytes.items }
         ensures told { IsWrite at (length bytes.now) (memory_tells self.old) (memory_tells self.new) }
+        ensures longest { memory_longest_read self.new ≡ memory_longest_read self.old }
         ensures faults { self.new.faults ≡ self.old.faults }
     {
         let left = filling(self.alloc, fill, bytes)?;
@@ -180,6 +190,7 @@ impl MemoryDisk {
     fn fail_cut(&mut self, len: u64, fill: Fill) -> Result<(), AllocError>
         requires inside { len ≤ length self.old.bytes.items }
         ensures told { IsCut len (memory_tells self.old) (memory_tells self.new) }
+        ensures longest { memory_longest_read self.new ≡ memory_longest_read self.old }
         ensures faults { self.new.faults ≡ self.old.faults }
     {
         let left = remains(self.alloc, fill, &self.bytes[len as usize..])?;
@@ -187,10 +198,11 @@ impl MemoryDisk {
     }
 
     // Records a sync that succeeds.
-    fn settle(&mut self) -> Result<(), AllocError>
+    fn record_sync(&mut self) -> Result<(), AllocError>
         ensures told { IsSync (memory_tells self.old) (memory_tells self.new) }
         ensures done { OnOk result (IsQuiet (memory_tells self.new)) }
         ensures failed { OnErr result ((c : List ℕ) → (memory_tells self.old).image c → (memory_tells self.new).image c) }
+        ensures longest { memory_longest_read self.new ≡ memory_longest_read self.old }
         ensures faults { self.new.faults ≡ self.old.faults }
     {
         self.note(Call::Sync)
@@ -200,6 +212,7 @@ impl MemoryDisk {
     fn fail_sync(&mut self)
         ensures told { IsSync (memory_tells self.old) (memory_tells self.new) }
         ensures failed { (c : List ℕ) → (memory_tells self.old).image c → (memory_tells self.new).image c }
+        ensures longest { memory_longest_read self.new ≡ memory_longest_read self.old }
         ensures faults { self.new.faults ≡ self.old.faults }
     {
         let _ = self.note(Call::FailedSync);
@@ -230,26 +243,58 @@ fn filling(alloc: Global, fill: Fill, bytes: &[u8]) -> Result<Vec<u8>, AllocErro
     }
 }
 
+// Each call has the trait's clauses, and says what becomes of the longest read.
 impl Disk for MemoryDisk {
+    ghost use Rattle.disk_model.specs.Memory.{memory_bytes, memory_tells, memory_faults, memory_longest_read};
+
     ghost tells = { λ d. telling d.start.items d.bytes.items d.calls.items };
 
     ghost faults = { λ d. d.faults };
 
-    fn len(&mut self) -> Result<u64, Failed> {
+    fn len(&mut self) -> Result<u64, Failed>
+        ensures honest { (memory_tells self.new).honest ≡ (memory_tells self.old).honest }
+        ensures told { IsRead (memory_tells self.old) (memory_tells self.new) }
+        ensures length { IfOk result (λ n. n ≡ length (memory_bytes self.old)) }
+        ensures later { memory_faults self.old ≤ memory_faults self.new }
+        ensures cause { OnErr result (Rose (memory_faults self.old) (memory_faults self.new)) }
+        ensures unmoved { OnOk result (memory_faults self.new ≡ memory_faults self.old) }
+        ensures longest { memory_longest_read self.new ≡ memory_longest_read self.old }
+    {
         match self.look(Call::Len) {
             Turn::Works => Ok(self.bytes.len() as u64),
             Turn::Fails(_) => Err(self.fault()),
         }
     }
 
-    fn read_at(&mut self, at: u64, buf: &mut [u8]) -> Result<usize, Failed> {
+    fn read_at(&mut self, at: u64, buf: &mut [u8]) -> Result<usize, Failed>
+        ensures honest { (memory_tells self.new).honest ≡ (memory_tells self.old).honest }
+        ensures told { IsRead (memory_tells self.old) (memory_tells self.new) }
+        ensures fits { IfOk result (λ n. n ≤ length buf.old) }
+        ensures bytes { IfOk result (λ n. Fronts (memory_bytes self.old) at n buf.old buf.new) }
+        ensures later { memory_faults self.old ≤ memory_faults self.new }
+        ensures cause { OnErr result (Rose (memory_faults self.old) (memory_faults self.new)) }
+        ensures unmoved { OnOk result (memory_faults self.new ≡ memory_faults self.old) }
+        ensures longest { OnOk result (memory_longest_read self.new ≡ max (memory_longest_read self.old) (length buf.old)) }
+        ensures no_less { memory_longest_read self.old ≤ memory_longest_read self.new }
+        ensures no_more { memory_longest_read self.new ≤ max (memory_longest_read self.old) (length buf.old) }
+    {
         match self.look(Call::Read { buffer: buf.len() }) {
             Turn::Works => Ok(copy_from(&self.bytes, at, buf)),
             Turn::Fails(_) => Err(self.fault()),
         }
     }
 
-    fn write_at(&mut self, at: u64, bytes: &[u8]) -> Result<(), Failed> {
+    fn write_at(&mut self, at: u64, bytes: &[u8]) -> Result<(), Failed>
+        requires { at ≤ length (memory_bytes self.old) }
+        ensures honest { (memory_tells self.new).honest ≡ (memory_tells self.old).honest }
+        ensures told { IsWrite at (length bytes.now) (memory_tells self.old) (memory_tells self.new) }
+        ensures torn { OnOk result (Allow (Torn at (length bytes.now)) (memory_tells self.old).image (memory_tells self.new).image) }
+        ensures done { OnOk result (memory_bytes self.new ≡ overwrite at bytes.now (memory_bytes self.old)) }
+        ensures later { memory_faults self.old ≤ memory_faults self.new }
+        ensures cause { OnErr result (Rose (memory_faults self.old) (memory_faults self.new)) }
+        ensures unmoved { OnOk result (memory_faults self.new ≡ memory_faults self.old) }
+        ensures longest { memory_longest_read self.new ≡ memory_longest_read self.old }
+    {
         match self.turn() {
             Turn::Works => match self.write(at, bytes.len(), bytes) {
                 Ok(()) => Ok(()),
@@ -262,7 +307,17 @@ impl Disk for MemoryDisk {
         }
     }
 
-    fn cut(&mut self, len: u64) -> Result<(), Failed> {
+    fn cut(&mut self, len: u64) -> Result<(), Failed>
+        requires { len ≤ length (memory_bytes self.old) }
+        ensures honest { (memory_tells self.new).honest ≡ (memory_tells self.old).honest }
+        ensures told { IsCut len (memory_tells self.old) (memory_tells self.new) }
+        ensures torn { OnOk result (Allow (Cut len) (memory_tells self.old).image (memory_tells self.new).image) }
+        ensures done { OnOk result (memory_bytes self.new ≡ take len (memory_bytes self.old)) }
+        ensures later { memory_faults self.old ≤ memory_faults self.new }
+        ensures cause { OnErr result (Rose (memory_faults self.old) (memory_faults self.new)) }
+        ensures unmoved { OnOk result (memory_faults self.new ≡ memory_faults self.old) }
+        ensures longest { memory_longest_read self.new ≡ memory_longest_read self.old }
+    {
         match self.turn() {
             Turn::Works => match self.cut_to(len, &[]) {
                 Ok(()) => Ok(()),
@@ -275,9 +330,18 @@ impl Disk for MemoryDisk {
         }
     }
 
-    fn sync(&mut self) -> Result<(), Failed> {
+    fn sync(&mut self) -> Result<(), Failed>
+        ensures honest { (memory_tells self.new).honest ≡ (memory_tells self.old).honest }
+        ensures told { IsSync (memory_tells self.old) (memory_tells self.new) }
+        ensures durable { OnOk result (IsQuiet (memory_tells self.new)) }
+        ensures failed { OnErr result ((c : List ℕ) → (memory_tells self.old).image c → (memory_tells self.new).image c) }
+        ensures later { memory_faults self.old ≤ memory_faults self.new }
+        ensures cause { OnErr result (Rose (memory_faults self.old) (memory_faults self.new)) }
+        ensures unmoved { OnOk result (memory_faults self.new ≡ memory_faults self.old) }
+        ensures longest { memory_longest_read self.new ≡ memory_longest_read self.old }
+    {
         match self.turn() {
-            Turn::Works => match self.settle() {
+            Turn::Works => match self.record_sync() {
                 Ok(()) => Ok(()),
                 Err(_) => Err(self.fault()),
             },

@@ -1,5 +1,5 @@
 -- Lists of bytes: what a torn write, a write and a set byte leave of a front and of what follows it.
-use Rattle.std.proofs.Common.{◌≡◌, ℕ, zero, suc, ◌+◌, ◌<◌, ◌≤◌, List, [], ◌∷◌, ◌++◌, length, take, drop, get_or, refl, sym, ◌∙◌, ap, arith, append_assoc, take-append-drop}
+use Rattle.std.proofs.Common.{◌≡◌, ℕ, zero, suc, ◌+◌, ◌<◌, ◌≤◌, List, [], ◌∷◌, ◌++◌, length, take, drop, get_or, refl, sym, ◌∙◌, ap, arith, append_assoc, length-append, length-drop, take-append-drop}
 use Rattle.std.proofs.lemmas.List.{take_at, drop_at, drop_more}
 use Rattle.std.specs.Prelude.{slice_set}
 use Rattle.disk_model.specs.Telling.{Torn, Cut, overwrite}
@@ -57,6 +57,20 @@ torn_set d c k v lt torn =
 -- a write of one byte sets it
 pub overwrite_set : (c : List ℕ) (k v : ℕ) → k < length c → overwrite k (v ∷ []) c ≡ slice_set c k v
 overwrite_set c k v lt = append_assoc (take k c) (v ∷ []) (drop (k + 1) c) ∙ sym (set_split c k v lt)
+
+-- a torn write inside a file leaves its length
+pub torn_length : (d c : List ℕ) (k n : ℕ) → k + n ≤ length d → Torn k n d c → length c ≡ length d
+torn_length d c k n le torn = omega (arith, torn.no_shorter, ap length torn.behind, length-drop (k + n) c, length-drop (k + n) d)
+
+-- so does a write of one byte
+pub length-overwrite_one : (c : List ℕ) (k v : ℕ) → k < length c → length (overwrite k (v ∷ []) c) ≡ length c
+length-overwrite_one c k v lt = ap length (overwrite_set c k v lt) ∙ length-slice_set c k v
+
+-- a write at the end of a file makes it longer by what is written
+pub length-overwrite_end : (c bytes : List ℕ) → length (overwrite (length c) bytes c) ≡ length c + length bytes
+length-overwrite_end c bytes =
+    let k = length c in
+    omega (arith, length-append (take k c ++ bytes) (drop (k + length bytes) c), length-append (take k c) bytes, length-take k c (omega arith), length-drop (k + length bytes) c)
 
 -- two lists with fronts of one length are equal part by part
 pub same_front : (xs xs' ys ys' : List ℕ) → length xs ≡ length xs' → xs ++ ys ≡ xs' ++ ys' → xs ≡ xs'

@@ -32,3 +32,12 @@ same_value w v is = cc
 pub at_some : {T : Type 0} (o : Option T) (v : T) (P : Type 0) (Q : T → Type 0) → o ≡ Some v → MatchOption o P Q → Q v
 at_some None v P Q is on = absurd (let bad : ⊥ = cc in bad)
 at_some (Some w) v P Q is on = subst Q (same_value w v is) on
+
+-- what holds at each outcome
+pub ok_any : {T E : Type 0} (r : Result T E) (P : Type 0) → P → OnOk r P
+ok_any (Ok v) P is = is
+ok_any (Err e) P is = tt
+
+pub err_any : {T E : Type 0} (r : Result T E) (Q : E → Type 0) → ((e : E) → Q e) → IfErr r Q
+err_any (Ok v) Q is = tt
+err_any (Err e) Q is = is e

@@ -4,15 +4,18 @@ use Rattle.std.proofs.lemmas.Bool.{cases_eq}
 use Rattle.std.proofs.lemmas.List.{append-nil}
 use Rattle.std.specs.Prelude.{slice_set}
 use Rattle.disk_model.specs.Telling.{Telling, Torn, Cut, IsKept, EachImage, overwrite}
-use Rattle.filing_journal.specs.Stands.{Payloads, StandsFor, BeforeOrWith, WithGateOpen, gate_place, front, records, header, body_of, ArePayloads, IsPayload}
-use Rattle.filing_journal.proofs.Bytes.{torn_front, cut_front, overwrite_front, split_at, set_split, length-slice_set, length-take_le, torn_set, overwrite_set, same_front}
+use Rattle.filing_journal.specs.Stands.{Payloads, StandsFor, BeforeOrWith, WithGateOpen, EndsBehind, gate_place, front_of, records, body_of, ArePayloads, IsPayload}
+use Rattle.filing_journal.specs.Header.{header_bytes}
+use Rattle.filing_journal.specs.declared.header.Header.{Header}
+use Rattle.filing_journal.proofs.Headers.{length-front_of}
+use Rattle.filing_journal.proofs.Bytes.{torn_front, cut_front, overwrite_front, split_at, set_split, length-slice_set, length-take_le, torn_set, torn_length, overwrite_set, length-overwrite_end, same_front}
 
 records-push : (h : Payloads) (p : List ℕ) → records (h ++ p ∷ []) ≡ records h ++ 1 ∷ body_of p
 records-push [] p = ap (λ (l : List ℕ). 1 ∷ l) (append-nil (body_of p))
 records-push (q ∷ h) p = ap (λ (l : List ℕ). 1 ∷ (body_of q ++ l)) (records-push h p) ∙ ap (λ (l : List ℕ). 1 ∷ l) (sym (append_assoc (body_of q) (records h) (1 ∷ body_of p)))
 
-pub front-push : (h : Payloads) (p : List ℕ) → front (h ++ p ∷ []) ≡ front h ++ 1 ∷ body_of p
-front-push h p = ap (λ (l : List ℕ). header ++ l) (records-push h p) ∙ sym (append_assoc header (records h) (1 ∷ body_of p))
+pub front_of-push : (header : Header) (h : Payloads) (p : List ℕ) → front_of header (h ++ p ∷ []) ≡ front_of header h ++ 1 ∷ body_of p
+front_of-push header h p = ap (λ (l : List ℕ). header_bytes header ++ l) (records-push h p) ∙ sym (append_assoc (header_bytes header) (records h) (1 ∷ body_of p))
 
 pub payloads-push : (h : Payloads) (p : List ℕ) → ArePayloads h → IsPayload p → ArePayloads (h ++ p ∷ [])
 payloads-push [] p are is = (is, tt)
@@ -24,46 +27,46 @@ payloads-front (q ∷ h) p are = (are.0, payloads-front h p are.1)
 
 -- the place behind one more payload
 pub gate_place-push : (h : Payloads) (p : List ℕ) → gate_place (h ++ p ∷ []) ≡ gate_place h + (length p + 5)
-gate_place-push h p = omega (arith, ap length (front-push h p), length-append (front h) (1 ∷ body_of p))
+gate_place-push h p = omega (arith, ap length (records-push h p), length-append (records h) (1 ∷ body_of p))
 
 -- the file goes on behind its gate
-pub gate_in : (file : List ℕ) (h : Payloads) → StandsFor file h → gate_place h + 1 ≤ length file
-gate_in file h s = omega (arith, ap length s.whole, length-append (front h) (s.gate ∷ s.free))
+pub gate_in : (header : Header) (file : List ℕ) (h : Payloads) → StandsFor header file h → gate_place h + 1 ≤ length file
+gate_in header file h s = omega (arith, length-front_of header h, ap length s.whole, length-append (front_of header h) (s.gate ∷ s.free))
 
 -- what is written behind the gate leaves what the file stands for
-pub stage_keeps : (d c : List ℕ) (h : Payloads) (n : ℕ) → StandsFor d h → Torn (gate_place h + 1) n d c → StandsFor c h
-stage_keeps d c h n s torn =
-    let whole : d ≡ (front h ++ s.gate ∷ []) ++ s.free = s.whole ∙ sym (append_assoc (front h) (s.gate ∷ []) s.free) in
-    let place : gate_place h + 1 ≡ length (front h ++ s.gate ∷ []) = omega (arith, length-append (front h) (s.gate ∷ [])) in
+pub stage_keeps : (header : Header) (d c : List ℕ) (h : Payloads) (n : ℕ) → StandsFor header d h → Torn (gate_place h + 1) n d c → StandsFor header c h
+stage_keeps header d c h n s torn =
+    let whole : d ≡ (front_of header h ++ s.gate ∷ []) ++ s.free = s.whole ∙ sym (append_assoc (front_of header h) (s.gate ∷ []) s.free) in
+    let place : gate_place h + 1 ≡ length (front_of header h ++ s.gate ∷ []) = omega (arith, length-front_of header h, length-append (front_of header h) (s.gate ∷ [])) in
     let torn' = subst (λ (l : List ℕ). Torn (gate_place h + 1) n l c) whole torn in
-    let is = torn_front (front h ++ s.gate ∷ []) s.free c (gate_place h + 1) n place torn' in
-    record { gate = s.gate; free = drop (gate_place h + 1) c; closed = s.closed; whole = is ∙ append_assoc (front h) (s.gate ∷ []) (drop (gate_place h + 1) c); sizes = s.sizes }
+    let is = torn_front (front_of header h ++ s.gate ∷ []) s.free c (gate_place h + 1) n place torn' in
+    record { gate = s.gate; free = drop (gate_place h + 1) c; closed = s.closed; whole = is ∙ append_assoc (front_of header h) (s.gate ∷ []) (drop (gate_place h + 1) c); sizes = s.sizes }
 
 -- so does a cut behind it
-pub cut_keeps : (d c : List ℕ) (h : Payloads) → StandsFor d h → Cut (gate_place h + 1) d c → StandsFor c h
-cut_keeps d c h s cut =
-    let whole : d ≡ (front h ++ s.gate ∷ []) ++ s.free = s.whole ∙ sym (append_assoc (front h) (s.gate ∷ []) s.free) in
-    let place : gate_place h + 1 ≡ length (front h ++ s.gate ∷ []) = omega (arith, length-append (front h) (s.gate ∷ [])) in
+pub cut_keeps : (header : Header) (d c : List ℕ) (h : Payloads) → StandsFor header d h → Cut (gate_place h + 1) d c → StandsFor header c h
+cut_keeps header d c h s cut =
+    let whole : d ≡ (front_of header h ++ s.gate ∷ []) ++ s.free = s.whole ∙ sym (append_assoc (front_of header h) (s.gate ∷ []) s.free) in
+    let place : gate_place h + 1 ≡ length (front_of header h ++ s.gate ∷ []) = omega (arith, length-front_of header h, length-append (front_of header h) (s.gate ∷ [])) in
     let cut' = subst (λ (l : List ℕ). Cut (gate_place h + 1) l c) whole cut in
-    let is = cut_front (front h ++ s.gate ∷ []) s.free c (gate_place h + 1) place cut' in
-    record { gate = s.gate; free = drop (gate_place h + 1) c; closed = s.closed; whole = is ∙ append_assoc (front h) (s.gate ∷ []) (drop (gate_place h + 1) c); sizes = s.sizes }
+    let is = cut_front (front_of header h ++ s.gate ∷ []) s.free c (gate_place h + 1) place cut' in
+    record { gate = s.gate; free = drop (gate_place h + 1) c; closed = s.closed; whole = is ∙ append_assoc (front_of header h) (s.gate ∷ []) (drop (gate_place h + 1) c); sizes = s.sizes }
 
 -- once it is written whole, the file with its gate open stands for the payloads with it
-pub staged : (d c : List ℕ) (h : Payloads) (p : List ℕ) → IsPayload p → StandsFor d h → c ≡ overwrite (gate_place h + 1) (body_of p ++ 0 ∷ []) d → WithGateOpen h p c
-staged d c h p payload s is =
+pub staged : (header : Header) (d c : List ℕ) (h : Payloads) (p : List ℕ) → IsPayload p → StandsFor header d h → c ≡ overwrite (gate_place h + 1) (body_of p ++ 0 ∷ []) d → WithGateOpen header h p c
+staged header d c h p payload s is =
     let k = gate_place h in
     let block = body_of p ++ 0 ∷ [] in
-    let whole : d ≡ (front h ++ s.gate ∷ []) ++ s.free = s.whole ∙ sym (append_assoc (front h) (s.gate ∷ []) s.free) in
-    let place : k + 1 ≡ length (front h ++ s.gate ∷ []) = omega (arith, length-append (front h) (s.gate ∷ [])) in
-    let rest = drop (k + 1 + length block) ((front h ++ s.gate ∷ []) ++ s.free) in
-    let c_is : c ≡ front h ++ s.gate ∷ (block ++ rest) = is ∙ ap (λ (l : List ℕ). overwrite (k + 1) block l) whole ∙ overwrite_front (front h ++ s.gate ∷ []) s.free block (k + 1) place ∙ append_assoc (front h) (s.gate ∷ []) (block ++ rest) in
-    let set_is : slice_set c k 1 ≡ front h ++ 1 ∷ (block ++ rest) = ap (λ (l : List ℕ). slice_set l k 1) c_is ∙ set_behind (front h) s.gate (block ++ rest) k refl in
+    let whole : d ≡ (front_of header h ++ s.gate ∷ []) ++ s.free = s.whole ∙ sym (append_assoc (front_of header h) (s.gate ∷ []) s.free) in
+    let place : k + 1 ≡ length (front_of header h ++ s.gate ∷ []) = omega (arith, length-front_of header h, length-append (front_of header h) (s.gate ∷ [])) in
+    let rest = drop (k + 1 + length block) ((front_of header h ++ s.gate ∷ []) ++ s.free) in
+    let c_is : c ≡ front_of header h ++ s.gate ∷ (block ++ rest) = is ∙ ap (λ (l : List ℕ). overwrite (k + 1) block l) whole ∙ overwrite_front (front_of header h ++ s.gate ∷ []) s.free block (k + 1) place ∙ append_assoc (front_of header h) (s.gate ∷ []) (block ++ rest) in
+    let set_is : slice_set c k 1 ≡ front_of header h ++ 1 ∷ (block ++ rest) = ap (λ (l : List ℕ). slice_set l k 1) c_is ∙ set_behind (front_of header h) s.gate (block ++ rest) k (sym (length-front_of header h)) in
     record {
       gate = 0;
       free = rest;
       closed = omega arith;
-      whole = set_is ∙ ap (λ (l : List ℕ). front h ++ 1 ∷ l) (append_assoc (body_of p) (0 ∷ []) rest)
-          ∙ sym (append_assoc (front h) (1 ∷ body_of p) (0 ∷ rest)) ∙ ap (λ (l : List ℕ). l ++ 0 ∷ rest) (sym (front-push h p));
+      whole = set_is ∙ ap (λ (l : List ℕ). front_of header h ++ 1 ∷ l) (append_assoc (body_of p) (0 ∷ []) rest)
+          ∙ sym (append_assoc (front_of header h) (1 ∷ body_of p) (0 ∷ rest)) ∙ ap (λ (l : List ℕ). l ++ 0 ∷ rest) (sym (front_of-push header h p));
       sizes = payloads-push h p s.sizes payload;
     }
   where
@@ -74,13 +77,13 @@ staged d c h p payload s is =
     set_behind (a ∷ xs) x ys (suc k) is = ap (λ (l : List ℕ). a ∷ l) (set_behind xs x ys k (omega arith))
 
 -- the gate lies in such a file
-pub gate_inside : (c : List ℕ) (h : Payloads) (p : List ℕ) → WithGateOpen h p c → gate_place h < length c
-gate_inside c h p s = omega (arith, ap length s.whole, length-append (front (h ++ p ∷ [])) (s.gate ∷ s.free), gate_place-push h p, length-slice_set c (gate_place h) 1)
+pub gate_inside : (header : Header) (c : List ℕ) (h : Payloads) (p : List ℕ) → WithGateOpen header h p c → gate_place h < length c
+gate_inside header c h p s = omega (arith, ap length s.whole, length-append (front_of header (h ++ p ∷ [])) (s.gate ∷ s.free), length-front_of header (h ++ p ∷ []), gate_place-push h p, length-slice_set c (gate_place h) 1)
 
 -- such a file stands for the payloads, or for them with it
-pub either : (c : List ℕ) (h : Payloads) (p : List ℕ) → WithGateOpen h p c → BeforeOrWith h p c
-either c h p s = elim (cases_eq (get_or c k 0) 1) [
-  | inl is_open ↦ inr (subst (λ (l : List ℕ). StandsFor l (h ++ p ∷ [])) (set_split c k 1 inside ∙ sym (split_at c k inside ∙ ap (λ (x : ℕ). take k c ++ x ∷ drop (k + 1) c) is_open)) s)
+pub either : (header : Header) (c : List ℕ) (h : Payloads) (p : List ℕ) → WithGateOpen header h p c → BeforeOrWith header h p c
+either header c h p s = elim (cases_eq (get_or c k 0) 1) [
+  | inl is_open ↦ inr (subst (λ (l : List ℕ). StandsFor header l (h ++ p ∷ [])) (set_split c k 1 inside ∙ sym (split_at c k inside ∙ ap (λ (x : ℕ). take k c ++ x ∷ drop (k + 1) c) is_open)) s)
   | inr shut ↦ inl (record {
     gate = get_or c k 0;
     free = drop (k + 1) c;
@@ -94,30 +97,42 @@ either c h p s = elim (cases_eq (get_or c k 0) 1) [
     k = gate_place h
 
     inside : gate_place h < length c
-    inside = gate_inside c h p s
+    inside = gate_inside header c h p s
 
-    parts : take (gate_place h) c ++ 1 ∷ drop (gate_place h + 1) c ≡ front h ++ 1 ∷ (body_of p ++ s.gate ∷ s.free)
-    parts = sym (set_split c (gate_place h) 1 inside) ∙ s.whole ∙ ap (λ (l : List ℕ). l ++ s.gate ∷ s.free) (front-push h p) ∙ append_assoc (front h) (1 ∷ body_of p) (s.gate ∷ s.free)
+    parts : take (gate_place h) c ++ 1 ∷ drop (gate_place h + 1) c ≡ front_of header h ++ 1 ∷ (body_of p ++ s.gate ∷ s.free)
+    parts = sym (set_split c (gate_place h) 1 inside) ∙ s.whole ∙ ap (λ (l : List ℕ). l ++ s.gate ∷ s.free) (front_of-push header h p) ∙ append_assoc (front_of header h) (1 ∷ body_of p) (s.gate ∷ s.free)
 
-    before : take (gate_place h) c ≡ front h
-    before = same_front (take (gate_place h) c) (front h) (1 ∷ drop (gate_place h + 1) c) (1 ∷ (body_of p ++ s.gate ∷ s.free)) (length-take_le (gate_place h) c (omega (arith, inside))) parts
+    before : take (gate_place h) c ≡ front_of header h
+    before = same_front (take (gate_place h) c) (front_of header h) (1 ∷ drop (gate_place h + 1) c) (1 ∷ (body_of p ++ s.gate ∷ s.free)) (length-take_le (gate_place h) c (omega (arith, inside)) ∙ sym (length-front_of header h)) parts
 
 -- a torn write of the gate leaves such a file
-pub gate_torn : (d c : List ℕ) (h : Payloads) (p : List ℕ) → WithGateOpen h p d → Torn (gate_place h) 1 d c → WithGateOpen h p c
-gate_torn d c h p s torn = subst (λ (l : List ℕ). StandsFor l (h ++ p ∷ [])) (sym (torn_set d c (gate_place h) 1 (gate_inside d h p s) torn)) s
+pub gate_torn : (header : Header) (d c : List ℕ) (h : Payloads) (p : List ℕ) → WithGateOpen header h p d → Torn (gate_place h) 1 d c → WithGateOpen header h p c
+gate_torn header d c h p s torn = subst (λ (l : List ℕ). StandsFor header l (h ++ p ∷ [])) (sym (torn_set d c (gate_place h) 1 (gate_inside header d h p s) torn)) s
 
 -- and a whole one opens it
-pub gate_written : (d c : List ℕ) (h : Payloads) (p : List ℕ) → WithGateOpen h p d → c ≡ overwrite (gate_place h) (1 ∷ []) d → StandsFor c (h ++ p ∷ [])
-gate_written d c h p s is = subst (λ (l : List ℕ). StandsFor l (h ++ p ∷ [])) (sym (is ∙ overwrite_set d (gate_place h) 1 (gate_inside d h p s))) s
+pub gate_written : (header : Header) (d c : List ℕ) (h : Payloads) (p : List ℕ) → WithGateOpen header h p d → c ≡ overwrite (gate_place h) (1 ∷ []) d → StandsFor header c (h ++ p ∷ [])
+gate_written header d c h p s is = subst (λ (l : List ℕ). StandsFor header l (h ++ p ∷ [])) (sym (is ∙ overwrite_set d (gate_place h) 1 (gate_inside header d h p s))) s
 
 -- once a payload is written behind the gate for good, each image with its gate open stands for it too
-pub staged_images : (old new : Telling) (gate : ℕ) (h : Payloads) (p : List ℕ) → gate ≡ gate_place h → IsPayload p → StandsFor old.reads h → IsKept (overwrite (gate + 1) (body_of p ++ 0 ∷ []) old.reads) new → EachImage new (WithGateOpen h p)
-staged_images old new gate h p place payload s kept x now =
-    staged old.reads x h p payload s (kept.quiet x now ∙ kept.reads ∙ ap (λ (k : ℕ). overwrite (k + 1) (body_of p ++ 0 ∷ []) old.reads) place)
+pub staged_images : (header : Header) (old new : Telling) (gate : ℕ) (h : Payloads) (p : List ℕ) → gate ≡ gate_place h → IsPayload p → StandsFor header old.reads h → IsKept (overwrite (gate + 1) (body_of p ++ 0 ∷ []) old.reads) new → EachImage new (WithGateOpen header h p)
+staged_images header old new gate h p place payload s kept x now =
+    staged header old.reads x h p payload s (kept.quiet x now ∙ kept.reads ∙ ap (λ (k : ℕ). overwrite (k + 1) (body_of p ++ 0 ∷ []) old.reads) place)
+
+-- and where the file ended right behind its gate, each image ends right behind the next
+pub staged_ends : (old new : Telling) (gate : ℕ) (h : Payloads) (p : List ℕ) → gate ≡ gate_place h → EndsBehind h old.reads → IsKept (overwrite (gate + 1) (body_of p ++ 0 ∷ []) old.reads) new → EachImage new (EndsBehind (h ++ p ∷ []))
+staged_ends old new gate h p place ends kept x now =
+    let block = body_of p ++ 0 ∷ [] in
+    let at : gate + 1 ≡ length old.reads = omega (arith, place, ends) in
+    ap length (kept.quiet x now ∙ kept.reads ∙ ap (λ (k : ℕ). overwrite k block old.reads) at) ∙ length-overwrite_end old.reads block
+    ∙ (let size : length old.reads + length block ≡ gate_place (h ++ p ∷ []) + 1 = omega (arith, ends, length-append (body_of p) (0 ∷ []), gate_place-push h p) in size)
+
+-- a torn write of the gate leaves the length of such a file
+pub gate_length : (header : Header) (d c : List ℕ) (h : Payloads) (p : List ℕ) → WithGateOpen header h p d → Torn (gate_place h) 1 d c → length c ≡ length d
+gate_length header d c h p s torn = torn_length d c (gate_place h) 1 (omega (arith, gate_inside header d h p s)) torn
 
 -- the file cut behind its gate
-pub cut_done : (d : List ℕ) (h : Payloads) → StandsFor d h → StandsFor (take (gate_place h + 1) d) h
-cut_done d h s = cut_keeps d (take (gate_place h + 1) d) h s (record { before = again (gate_place h + 1) d; no_longer = shorter (gate_place h + 1) d })
+pub cut_done : (header : Header) (d : List ℕ) (h : Payloads) → StandsFor header d h → StandsFor header (take (gate_place h + 1) d) h
+cut_done header d h s = cut_keeps header d (take (gate_place h + 1) d) h s (record { before = again (gate_place h + 1) d; no_longer = shorter (gate_place h + 1) d })
   where
     again : (n : ℕ) (l : List ℕ) → take n (take n l) ≡ take n l
     again zero l = refl

@@ -1,15 +1,16 @@
 -- What was read, and what stands there.
-use Rattle.std.proofs.Common.{Bool, true, false, ◌-◌, length-drop, ◌≡◌, inr, ℕ, zero, suc, ◌+◌, ◌^◌, ◌<◌, ◌≤◌, List, [], ◌∷◌, ◌++◌, length, take, drop, get_or, refl, sym, ◌∙◌, ap, subst, arith, append_assoc, length-append, take-append-drop}
-use Rattle.std.proofs.lemmas.List.{take_at, drop_at, drop_all}
+use Rattle.std.proofs.Common.{◌≡◌, inr, ℕ, zero, suc, ◌+◌, ◌^◌, ◌<◌, ◌≤◌, List, [], ◌∷◌, ◌++◌, length, take, drop, get_or, refl, sym, ◌∙◌, ap, subst, arith, append_assoc, length-append, take-append-drop}
+use Rattle.std.proofs.lemmas.List.{take_at, drop_at}
 use Rattle.std.proofs.lemmas.Nat.{le_bytes_4, from_le_bytes-to_le_bytes_4}
-use Rattle.std.proofs.Math.Seq.{take-add}
 use Rattle.std.specs.Int.{to_le_bytes, from_le_bytes, w32}
-use Rattle.std.specs.Prelude.{min, MatchBool}
+use Rattle.std.specs.Prelude.{min}
 use Rattle.disk_model.specs.Telling.{Fronts}
-use Rattle.filing_journal.specs.Stands.{front, gate_place, body_of, IsPayload}
-use Rattle.filing_journal.specs.Record.{IsBroken, StartsWith, RecordAt}
+use Rattle.filing_journal.specs.Stands.{front_of, gate_place, body_of, IsPayload}
+use Rattle.filing_journal.specs.Record.{IsNoRecord, StartsWith, RecordAt}
 use Rattle.filing_journal.specs.declared.record.Start.TheVariants.{Size}
 use Rattle.filing_journal.specs.declared.record.Record.TheVariants.{Whole}
+use Rattle.filing_journal.specs.declared.header.Header.{Header}
+use Rattle.filing_journal.proofs.Headers.{length-front_of}
 use Rattle.filing_journal.proofs.Bytes.{length-take_le, same_front, same_back}
 
 take-min : (n : ℕ) (s : List ℕ) → take (min (length s) n) s ≡ take n s
@@ -23,17 +24,6 @@ came bytes at n old new f =
     let size : length (take n (drop at bytes)) ≡ n = length-take_le n (drop at bytes) (omega (arith, f.count)) in
     ap (λ (l : List ℕ). take n l) f.filled ∙ take_at (take n (drop at bytes)) (drop n old) n size
     ∙ ap (λ (k : ℕ). take k (drop at bytes)) f.count ∙ take-min (length old) (drop at bytes)
-
--- all of them, where as many came as fit
-pub filled_whole : (bytes : List ℕ) (at n : ℕ) (old new : List ℕ) → Fronts bytes at n old new → length old ≤ n → (new ≡ take (length old) (drop at bytes)) × (length old ≤ length (drop at bytes))
-filled_whole bytes at n old new f all =
-    let full : n ≡ length old = omega (arith, f.count) in
-    let long : length old ≤ length (drop at bytes) = omega (arith, f.count) in
-    (f.filled ∙ ap (λ (k : ℕ). take k (drop at bytes) ++ drop k old) full ∙ ap (λ (l : List ℕ). take (length old) (drop at bytes) ++ l) (drop_all (length old) old (omega arith)) ∙ append-nil' (take (length old) (drop at bytes)), long)
-  where
-    append-nil' : (l : List ℕ) → l ++ [] ≡ l
-    append-nil' [] = refl
-    append-nil' (x ∷ l) = ap (λ (m : List ℕ). x ∷ m) (append-nil' l)
 
 -- a gate that is open, and a length
 pub sized : (got file : List ℕ) (n : ℕ) → 5 ≤ length got → get_or got 0 0 ≡ 1 → ((i : ℕ) → get_or got i 0 < 256)
@@ -54,8 +44,8 @@ sized got (a ∷ b ∷ c ∷ d ∷ e ∷ rest) n long one fits is same =
     front_of i = refl
 
 -- what follows a front
-pub behind : (file rest : List ℕ) (h : List (List ℕ)) (gate : ℕ) → file ≡ front h ++ rest → gate ≡ gate_place h → drop gate file ≡ rest
-behind file rest h gate whole place = ap (λ (l : List ℕ). drop gate l) whole ∙ drop_at (front h) rest gate (sym place)
+pub behind : (header : Header) (file rest : List ℕ) (h : List (List ℕ)) (gate : ℕ) → file ≡ front_of header h ++ rest → gate ≡ gate_place h → drop gate file ≡ rest
+behind header file rest h gate whole place = ap (λ (l : List ℕ). drop gate l) whole ∙ drop_at (front_of header h) rest gate (length-front_of header h ∙ sym place)
 
 pub drop-past : (at n : ℕ) (s : List ℕ) → drop (at + n) s ≡ drop n (drop at s)
 drop-past zero n s = ap (λ (k : ℕ). drop k s) (let e : 0 + n ≡ n = omega arith in e)
@@ -93,7 +83,7 @@ whole_record rest room n start is long =
       sym size,
     )
 
-pub short_record : (rest : List ℕ) (n : ℕ) → StartsWith rest (Size n) → length (drop 5 rest) < n → IsBroken rest
+pub short_record : (rest : List ℕ) (n : ℕ) → StartsWith rest (Size n) → length (drop 5 rest) < n → IsNoRecord rest
 short_record rest n start short =
     let after = start.0 in
     let five : drop 5 rest ≡ after = ap (λ (l : List ℕ). drop 5 l) start.3 in
@@ -101,21 +91,3 @@ short_record rest n start short =
   where
     ends : (p behind after : List ℕ) → (n ≡ length p) × (after ≡ p ++ behind) → length (drop 5 rest) ≡ length after → length (drop 5 rest) < n → ⊥
     ends p behind after same long less = omega (arith, same.0, ap length same.1, length-append p behind)
-
--- a payload longer than a piece, read in two
-pub two_pieces : (whole : Bool) (first both s s' : List ℕ) (at size k : ℕ) → k ≤ size → s' ≡ s → first ≡ take k (drop at s) → k ≤ length (drop at s)
-    → MatchBool whole ((both ≡ first ++ take (size - k) (drop (at + k) s')) × (size - k ≤ length (drop (at + k) s'))) (length (drop (at + k) s') < size - k)
-    → MatchBool whole ((both ≡ take size (drop at s)) × (size ≤ length (drop at s))) (length (drop at s) < size)
-two_pieces whole first both s s' at size k le same is long rest =
-    let behind : drop (at + k) s' ≡ drop k (drop at s) = ap (λ (l : List ℕ). drop (at + k) l) same ∙ drop-past at k s in
-    split whole (length-drop k (drop at s)) (subst (λ (l : List ℕ). MatchBool whole ((both ≡ first ++ take (size - k) l) × (size - k ≤ length l)) (length l < size - k)) behind rest)
-  where
-    split : (whole : Bool) → length (drop k (drop at s)) ≡ length (drop at s) - k
-        → MatchBool whole ((both ≡ first ++ take (size - k) (drop k (drop at s))) × (size - k ≤ length (drop k (drop at s)))) (length (drop k (drop at s)) < size - k)
-        → MatchBool whole ((both ≡ take size (drop at s)) × (size ≤ length (drop at s))) (length (drop at s) < size)
-    split true len rest = (
-      rest.0 ∙ ap (λ (l : List ℕ). l ++ take (size - k) (drop k (drop at s))) is ∙ sym (take-add k (size - k) (drop at s))
-          ∙ ap (λ (n : ℕ). take n (drop at s)) (let e : k + (size - k) ≡ size = omega arith in e),
-      (let e : size ≤ length (drop at s) = omega (arith, rest.1) in e),
-    )
-    split false len rest = omega arith

@@ -4,6 +4,8 @@ pub mod Fates
 pub mod Fills
 pub mod Gates
 pub mod Gathered
+pub mod Headers
+pub mod Pieces
 pub mod States
 pub mod Steps
 pub mod Unique

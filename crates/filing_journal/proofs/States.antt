@@ -6,8 +6,9 @@ use Rattle.disk_model.specs.declared.disk.Disk.{Ghosts}
 use Rattle.disk_model.proofs.Moments.{each_if_quiet}
 use Rattle.filing_journal.specs.Stands.{Payloads, StandsFor, BeforeOrWith, IsUnborn}
 use Rattle.filing_journal.specs.Founded.{UnbornOrEmpty}
-use Rattle.filing_journal.specs.Journal.{MayKeep, IsUndecided}
+use Rattle.filing_journal.specs.Journal.{MayKeep, HasUndecided}
 use Rattle.filing_journal.specs.Opening.{HasGiven, HasAll}
+use Rattle.filing_journal.specs.declared.header.Header.{Header}
 use Rattle.filing_journal.specs.declared.journal.Journal.{Journal}
 use Rattle.filing_journal.specs.declared.opening.Opening.{Opening}
 
@@ -15,12 +16,12 @@ is_some : {T : Type 0} (o : Option T) (v : T) → o ≡ Some v → IsSome o
 is_some o v is = subst IsSome (sym is) refl
 
 -- with a payload undecided something is undecided
-pub is_undecided : {D : Type 0} (disk : Ghosts D) (journal : Journal D disk) (payloads : Payloads) (payload : List ℕ) → MayKeep disk journal payloads payload → IsUndecided journal
-is_undecided disk journal payloads payload may = is_some journal.undecided (length payload) may.undecided
+pub has_undecided : {D : Type 0} (disk : Ghosts D) (header : Header) (journal : Journal D disk) (payloads : Payloads) (payload : List ℕ) → MayKeep disk header journal payloads payload → HasUndecided journal
+has_undecided disk header journal payloads payload may = is_some journal.undecided (length payload) may.undecided
 
 -- who was given all was given these
-pub given_all : {D : Type 0} (disk : Ghosts D) (opening : Opening D disk) (payloads : Payloads) → HasAll disk opening payloads → HasGiven disk opening payloads
-given_all disk opening payloads all = record {
+pub given_all : {D : Type 0} (disk : Ghosts D) (header : Header) (opening : Opening D disk) (payloads : Payloads) → HasAll disk header opening payloads → HasGiven disk header opening payloads
+given_all disk header opening payloads all = record {
   rest = all.stands.gate ∷ all.stands.free;
   whole = all.stands.whole;
   sizes = all.stands.sizes;
@@ -29,13 +30,13 @@ given_all disk opening payloads all = record {
 }
 
 -- a quiet disk on which nothing was founded
-pub quiet_unborn : {D : Type 0} (disk : Ghosts D) (d : D) → IsQuiet (disk.tells d) → IsUnborn (disk.tells d).reads → EachImage (disk.tells d) UnbornOrEmpty
-quiet_unborn disk d quiet unborn = each_if_quiet (disk.tells d) UnbornOrEmpty quiet (inl unborn)
+pub quiet_unborn : {D : Type 0} (disk : Ghosts D) (header : Header) (d : D) → IsQuiet (disk.tells d) → IsUnborn (disk.tells d).reads → EachImage (disk.tells d) (UnbornOrEmpty header)
+quiet_unborn disk header d quiet unborn = each_if_quiet (disk.tells d) (UnbornOrEmpty header) quiet (inl unborn)
 
 -- a quiet disk that stands for payloads
-pub quiet_stands : {D : Type 0} (disk : Ghosts D) (d : D) (payloads : Payloads) → IsQuiet (disk.tells d) → StandsFor (disk.tells d).reads payloads → EachImage (disk.tells d) (λ file. StandsFor file payloads)
-quiet_stands disk d payloads quiet stands = each_if_quiet (disk.tells d) (λ file. StandsFor file payloads) quiet stands
+pub quiet_stands : {D : Type 0} (disk : Ghosts D) (header : Header) (d : D) (payloads : Payloads) → IsQuiet (disk.tells d) → StandsFor header (disk.tells d).reads payloads → EachImage (disk.tells d) (λ file. StandsFor header file payloads)
+quiet_stands disk header d payloads quiet stands = each_if_quiet (disk.tells d) (λ file. StandsFor header file payloads) quiet stands
 
 -- where nothing is undecided, the payloads stand before any put
-pub before_put : (payloads : Payloads) (payload file : List ℕ) → StandsFor file payloads → BeforeOrWith payloads payload file
-before_put payloads payload file stands = inl stands
+pub before_put : (header : Header) (payloads : Payloads) (payload file : List ℕ) → StandsFor header file payloads → BeforeOrWith header payloads payload file
+before_put header payloads payload file stands = inl stands

@@ -1,23 +1,31 @@
 -- What the images of the three steps of a founding stand for.
-use Rattle.std.proofs.Common.{◌≡◌, ◌⊎◌, inl, inr, ℕ, suc, ◌+◌, ◌<◌, ◌≤◌, List, [], ◌∷◌, ◌++◌, length, drop, sym, ◌∙◌, ap, arith, length-drop}
+use Rattle.std.proofs.Common.{◌≡◌, ◌⊎◌, inl, inr, ℕ, suc, ◌+◌, ◌<◌, ◌≤◌, List, [], ◌∷◌, ◌++◌, length, take, drop, sym, ◌∙◌, ap, arith, length-append, length-drop}
 use Rattle.std.proofs.lemmas.Bool.{cases_eq}
-use Rattle.std.proofs.lemmas.List.{drop_all}
+use Rattle.std.proofs.lemmas.List.{append-nil, take_all, drop_all}
 use Rattle.std.specs.Prelude.{slice_index}
 use Rattle.disk_model.specs.Telling.{Torn, overwrite}
-use Rattle.filing_journal.specs.Stands.{header}
+use Rattle.filing_journal.specs.Header.{header_bytes}
+use Rattle.filing_journal.specs.declared.header.Header.{Header}
 use Rattle.filing_journal.specs.Founded.{UnbornOrEmpty, IsStarted}
+use Rattle.filing_journal.proofs.Headers.{length-header_bytes, empty_stands}
 
 -- the name, the version, three zeros and a closed gate
-abbrev pub rest : List ℕ
-rest = 65 ∷ 73 ∷ 68 ∷ 80 ∷ 69 ∷ 76 ∷ 76 ∷ 49 ∷ 1 ∷ 0 ∷ 0 ∷ 0 ∷ 0 ∷ 0 ∷ 0 ∷ 0 ∷ []
+abbrev pub rest_of : Header → List ℕ
+rest_of header = drop 1 (header_bytes header ++ 0 ∷ [])
+
+pub length-rest_of : (header : Header) → length (rest_of header) ≡ 16
+length-rest_of header = omega (arith, length-header_bytes header, length-append (header_bytes header) (0 ∷ []))
+
+pub rest_is : (header : Header) (file : List ℕ) → file ≡ header_bytes header ++ 0 ∷ [] → take 16 (drop 1 file) ≡ rest_of header
+rest_is header file is = ap (λ (l : List ℕ). take 16 (drop 1 l)) is ∙ take_all 16 (rest_of header) (omega (arith, length-rest_of header))
 
 -- a torn write of n bytes at `at` makes a file that ends by then no longer than that
 torn_length : (at n : ℕ) (d c : List ℕ) → length d ≤ at + n → Torn at n d c → length c ≤ at + n
 torn_length at n d c le torn = omega (arith, length-drop (at + n) c, ap length (torn.behind ∙ drop_all (at + n) d le))
 
 -- the first step
-pub emptied : (d c : List ℕ) → length d < 17 → Torn 0 1 d c → UnbornOrEmpty c
-emptied d c short torn = inl (inl (omega (arith, length-drop 1 c, length-drop 1 d, ap length torn.behind)))
+pub emptied : (header : Header) (d c : List ℕ) → length d < 17 → Torn 0 1 d c → UnbornOrEmpty header c
+emptied header d c short torn = inl (inl (omega (arith, length-drop 1 c, length-drop 1 d, ap length torn.behind)))
 
 pub emptied_started : (d c : List ℕ) → length d < 17 → c ≡ overwrite 0 (0 ∷ []) d → IsStarted c
 emptied_started d c short is =
@@ -29,10 +37,10 @@ emptied_started d c short is =
     }
 
 -- the second step
-pub named : (d c : List ℕ) → IsStarted d → Torn 1 16 d c → UnbornOrEmpty c
-named [] c s torn = absurd (omega (arith, s.some))
-named (x ∷ d) [] s torn = absurd (omega (arith, torn.no_shorter))
-named (x ∷ d) (y ∷ c) s torn = elim (lt_or (length (y ∷ c)) (torn_length 1 16 (x ∷ d) (y ∷ c) s.short torn)) [
+pub named : (header : Header) (d c : List ℕ) → IsStarted d → Torn 1 16 d c → UnbornOrEmpty header c
+named header [] c s torn = absurd (omega (arith, s.some))
+named header (x ∷ d) [] s torn = absurd (omega (arith, torn.no_shorter))
+named header (x ∷ d) (y ∷ c) s torn = elim (lt_or (length (y ∷ c)) (torn_length 1 16 (x ∷ d) (y ∷ c) s.short torn)) [
   | inl less ↦ inl (inl less)
   | inr all ↦ inl (inr (all, λ one. s.first (sym same ∙ one)))
 ]
@@ -44,24 +52,24 @@ named (x ∷ d) (y ∷ c) s torn = elim (lt_or (length (y ∷ c)) (torn_length 1
     lt_or n le = elim (cases_eq n 17) [ inl is ↦ inr is | inr not ↦ inl (omega arith) ]
 
 -- the file once the second step is on the disk
-pub record IsNamed (file : List ℕ) : Type 0 where
+pub record IsNamed (header : Header) (file : List ℕ) : Type 0 where
   pub first : ℕ
-  pub whole : file ≡ first ∷ rest
+  pub whole : file ≡ first ∷ rest_of header
 
-pub named_done : (d c : List ℕ) → IsStarted d → c ≡ overwrite 1 rest d → IsNamed c
-named_done [] c s is = absurd (omega (arith, s.some))
-named_done (x ∷ d) c s is = record { first = x; whole = is ∙ ap (λ (l : List ℕ). x ∷ (rest ++ l)) (drop_all 17 (x ∷ d) s.short) }
+pub named_done : (header : Header) (d c : List ℕ) → IsStarted d → c ≡ overwrite 1 (rest_of header) d → IsNamed header c
+named_done header [] c s is = absurd (omega (arith, s.some))
+named_done header (x ∷ d) c s is = record { first = x; whole = is ∙ ap (λ (l : List ℕ). x ∷ (rest_of header ++ l)) (drop_all (1 + length (rest_of header)) (x ∷ d) (omega (arith, length-rest_of header, s.short))) ∙ ap (λ (l : List ℕ). x ∷ l) (append-nil (rest_of header)) }
 
 -- the third step
-pub born : (d c : List ℕ) → IsNamed d → Torn 0 1 d c → UnbornOrEmpty c
-born d [] s torn = absurd (omega (arith, torn.no_shorter, ap length s.whole))
-born d (y ∷ c) s torn = elim (cases_eq y 1) [
-  | inl one ↦ inr (record { gate = 0; free = []; closed = omega arith; whole = ap (λ (x : ℕ). x ∷ c) one ∙ ap (λ (l : List ℕ). 1 ∷ l) tail; sizes = tt })
-  | inr not ↦ inl (inr (ap (λ (l : List ℕ). suc (length l)) tail, not))
+pub born : (header : Header) (d c : List ℕ) → IsNamed header d → Torn 0 1 d c → UnbornOrEmpty header c
+born header d [] s torn = absurd (omega (arith, torn.no_shorter, ap length s.whole))
+born header d (y ∷ c) s torn = elim (cases_eq y 1) [
+  | inl one ↦ inr (empty_stands header (y ∷ c) (ap (λ (x : ℕ). x ∷ c) one ∙ ap (λ (l : List ℕ). 1 ∷ l) tail))
+  | inr not ↦ inl (inr (omega (arith, ap length tail, length-rest_of header), not))
 ]
   where
-    tail : c ≡ rest
+    tail : c ≡ rest_of header
     tail = torn.behind ∙ ap (λ (l : List ℕ). drop 1 l) s.whole
 
-pub born_done : (d c : List ℕ) → IsNamed d → c ≡ overwrite 0 (1 ∷ []) d → c ≡ header ++ 0 ∷ []
-born_done d c s is = is ∙ ap (λ (l : List ℕ). overwrite 0 (1 ∷ []) l) s.whole
+pub born_done : (header : Header) (d c : List ℕ) → IsNamed header d → c ≡ overwrite 0 (1 ∷ []) d → c ≡ header_bytes header ++ 0 ∷ []
+born_done header d c s is = is ∙ ap (λ (l : List ℕ). overwrite 0 (1 ∷ []) l) s.whole

@@ -2,10 +2,13 @@
 use Rattle.std.proofs.Common.{◌≡◌, ◌≢◌, ◌⊎◌, inl, inr, ⊎_elim, ℕ, List, [], ◌∷◌, ◌++◌, length, take, refl, sym, ◌∙◌, ap, append_assoc, arith, length-append}
 use Rattle.std.proofs.lemmas.List.{take_at}
 use Rattle.std.specs.Int.{to_le_bytes, w32}
-use Rattle.filing_journal.specs.Stands.{Payloads, StandsFor, header, front, records, body_of, IsPayload, ArePayloads, IsUnborn}
+use Rattle.filing_journal.specs.Stands.{Payloads, StandsFor, front_of, records, body_of, IsPayload, ArePayloads, IsUnborn}
 use Rattle.filing_journal.specs.Head.{IsBorn}
-use Rattle.filing_journal.specs.Record.{IsBroken}
+use Rattle.filing_journal.specs.Header.{header_bytes}
+use Rattle.filing_journal.specs.Record.{IsNoRecord}
 use Rattle.filing_journal.specs.Opening.{IsDamagedAt}
+use Rattle.filing_journal.specs.declared.header.Header.{Header}
+use Rattle.filing_journal.proofs.Headers.{length-header_bytes}
 use Rattle.filing_journal.proofs.Bytes.{same_back}
 use Rattle.filing_journal.proofs.Gathered.{body_same}
 
@@ -32,11 +35,11 @@ once_behind (p ∷ h) (q ∷ k) g g' f f' ng ng' ph pk is =
     let both = first_same p q (records h ++ g ∷ f) (records k ++ g' ∷ f') ph.0 pk.0 (sym (append_assoc (body_of p) (records h) (g ∷ f)) ∙ tails 1 1 _ _ is ∙ append_assoc (body_of q) (records k) (g' ∷ f')) in
     ap (λ (x : List ℕ). x ∷ h) both.0 ∙ ap (λ (l : Payloads). q ∷ l) (once_behind h k g g' f f' ng ng' ph.1 pk.1 both.1)
 
-pub once : (file : List ℕ) (h k : Payloads) → StandsFor file h → StandsFor file k → h ≡ k
-once file h k s t = once_behind h k s.gate t.gate s.free t.free s.closed t.closed s.sizes t.sizes
-    (same_back header header (records h ++ s.gate ∷ s.free) (records k ++ t.gate ∷ t.free) refl (sym (append_assoc header (records h) (s.gate ∷ s.free)) ∙ sym s.whole ∙ t.whole ∙ append_assoc header (records k) (t.gate ∷ t.free)))
+pub once : (header : Header) (file : List ℕ) (h k : Payloads) → StandsFor header file h → StandsFor header file k → h ≡ k
+once header file h k s t = once_behind h k s.gate t.gate s.free t.free s.closed t.closed s.sizes t.sizes
+    (same_back (header_bytes header) (header_bytes header) (records h ++ s.gate ∷ s.free) (records k ++ t.gate ∷ t.free) refl (sym (append_assoc (header_bytes header) (records h) (s.gate ∷ s.free)) ∙ sym s.whole ∙ t.whole ∙ append_assoc (header_bytes header) (records k) (t.gate ∷ t.free)))
 
-unbroken_behind : (h k : Payloads) (g : ℕ) (f rest : List ℕ) → g ≢ 1 → ArePayloads h → ArePayloads k → IsBroken rest → records h ++ rest ≡ records k ++ g ∷ f → ⊥
+unbroken_behind : (h k : Payloads) (g : ℕ) (f rest : List ℕ) → g ≢ 1 → ArePayloads h → ArePayloads k → IsNoRecord rest → records h ++ rest ≡ records k ++ g ∷ f → ⊥
 unbroken_behind [] [] g f rest ng ph pk broken is = ⊎_elim (λ none. let bad : ⊥ = cc (none, is) in bad) (λ open_gate. ng (sym (heads 1 g open_gate.0 f (sym open_gate.1 ∙ is)))) broken
 unbroken_behind [] (q ∷ k) g f rest ng ph pk broken is =
     ⊎_elim (λ none. let bad : ⊥ = cc (none, is) in bad)
@@ -46,9 +49,9 @@ unbroken_behind (p ∷ h) (q ∷ k) g f rest ng ph pk broken is =
     let both = first_same p q (records h ++ rest) (records k ++ g ∷ f) ph.0 pk.0 (sym (append_assoc (body_of p) (records h) rest) ∙ tails 1 1 _ _ is ∙ append_assoc (body_of q) (records k) (g ∷ f)) in
     unbroken_behind h k g f rest ng ph.1 pk.1 broken both.1
 
-pub undamaged : (file : List ℕ) (h k : Payloads) (place : ℕ) → StandsFor file k → IsDamagedAt place file h → ⊥
-undamaged file h k place t d = unbroken_behind h k t.gate t.free d.rest t.closed d.sizes t.sizes d.broken
-    (same_back header header (records h ++ d.rest) (records k ++ t.gate ∷ t.free) refl (sym (append_assoc header (records h) d.rest) ∙ sym d.whole ∙ t.whole ∙ append_assoc header (records k) (t.gate ∷ t.free)))
+pub undamaged : (header : Header) (file : List ℕ) (h k : Payloads) (place : ℕ) → StandsFor header file k → IsDamagedAt header place file h → ⊥
+undamaged header file h k place t d = unbroken_behind h k t.gate t.free d.rest t.closed d.sizes t.sizes d.no_record
+    (same_back (header_bytes header) (header_bytes header) (records h ++ d.rest) (records k ++ t.gate ∷ t.free) refl (sym (append_assoc (header_bytes header) (records h) d.rest) ∙ sym d.whole ∙ t.whole ∙ append_assoc (header_bytes header) (records k) (t.gate ∷ t.free)))
 
 begins_behind : (h k : Payloads) (g : ℕ) (f rest : List ℕ) → g ≢ 1 → ArePayloads h → ArePayloads k → records h ++ rest ≡ records k ++ g ∷ f → (more : Payloads) × (k ≡ h ++ more)
 begins_behind [] k g f rest ng ph pk is = (k, refl)
@@ -59,9 +62,9 @@ begins_behind (p ∷ h) (q ∷ k) g f rest ng ph pk is =
     (behind.0, ap (λ (x : List ℕ). x ∷ k) (sym both.0) ∙ ap (λ (l : Payloads). p ∷ l) behind.1)
 
 -- a file that begins with the records of some payloads and stands for others has them first
-pub begins : (file rest : List ℕ) (h k : Payloads) → file ≡ front h ++ rest → ArePayloads h → StandsFor file k → (more : Payloads) × (k ≡ h ++ more)
-begins file rest h k whole sizes t = begins_behind h k t.gate t.free rest t.closed sizes t.sizes
-    (same_back header header (records h ++ rest) (records k ++ t.gate ∷ t.free) refl (sym (append_assoc header (records h) rest) ∙ sym whole ∙ t.whole ∙ append_assoc header (records k) (t.gate ∷ t.free)))
+pub begins : (header : Header) (file rest : List ℕ) (h k : Payloads) → file ≡ front_of header h ++ rest → ArePayloads h → StandsFor header file k → (more : Payloads) × (k ≡ h ++ more)
+begins header file rest h k whole sizes t = begins_behind h k t.gate t.free rest t.closed sizes t.sizes
+    (same_back (header_bytes header) (header_bytes header) (records h ++ rest) (records k ++ t.gate ∷ t.free) refl (sym (append_assoc (header_bytes header) (records h) rest) ∙ sym whole ∙ t.whole ∙ append_assoc (header_bytes header) (records k) (t.gate ∷ t.free)))
 
 -- of two lists of payloads whose records begin one list, one comes first in the other
 meets_behind : (h k : Payloads) (r s : List ℕ) → ArePayloads h → ArePayloads k → records h ++ r ≡ records k ++ s →
@@ -79,12 +82,12 @@ meets_behind (p ∷ h) (q ∷ k) r s ph pk is = go (meets_behind h k r s ph.1 pk
     go (inr first) = inr (first.0, ap (λ (x : List ℕ). x ∷ h) both.0 ∙ ap (λ (l : Payloads). q ∷ l) first.1)
 
 -- of two lists of payloads with whose records a file begins, one comes first in the other
-pub meets : (file r s : List ℕ) (h k : Payloads) → file ≡ front h ++ r → file ≡ front k ++ s → ArePayloads h → ArePayloads k →
+pub meets : (header : Header) (file r s : List ℕ) (h k : Payloads) → file ≡ front_of header h ++ r → file ≡ front_of header k ++ s → ArePayloads h → ArePayloads k →
     ((more : Payloads) × (k ≡ h ++ more)) ⊎ ((more : Payloads) × (h ≡ k ++ more))
-meets file r s h k one other ph pk = meets_behind h k r s ph pk
-    (same_back header header (records h ++ r) (records k ++ s) refl (sym (append_assoc header (records h) r) ∙ sym one ∙ other ∙ append_assoc header (records k) s))
+meets header file r s h k one other ph pk = meets_behind h k r s ph pk
+    (same_back (header_bytes header) (header_bytes header) (records h ++ r) (records k ++ s) refl (sym (append_assoc (header_bytes header) (records h) r) ∙ sym one ∙ other ∙ append_assoc (header_bytes header) (records k) s))
 
-unended_behind : (h more : Payloads) (x rest s : List ℕ) → ArePayloads (h ++ x ∷ more) → IsBroken rest → records h ++ rest ≡ records (h ++ x ∷ more) ++ s → ⊥
+unended_behind : (h more : Payloads) (x rest s : List ℕ) → ArePayloads (h ++ x ∷ more) → IsNoRecord rest → records h ++ rest ≡ records (h ++ x ∷ more) ++ s → ⊥
 unended_behind [] more x rest s are broken is =
     ⊎_elim (λ none. let bad : ⊥ = cc (none, is) in bad)
     (λ open_gate. open_gate.2 x (records more ++ s) are.0 (tails 1 1 _ _ (sym open_gate.1 ∙ is) ∙ append_assoc (body_of x) (records more) s)) broken
@@ -93,21 +96,22 @@ unended_behind (p ∷ h) more x rest s are broken is =
     unended_behind h more x rest s are.1 broken both.1
 
 -- a file isn't damaged behind payloads where the record of one more stands
-pub unended : (file s : List ℕ) (h more : Payloads) (x : List ℕ) (place : ℕ) → file ≡ front (h ++ x ∷ more) ++ s → ArePayloads (h ++ x ∷ more) → IsDamagedAt place file h → ⊥
-unended file s h more x place whole are d = unended_behind h more x d.rest s are d.broken
-    (same_back header header (records h ++ d.rest) (records (h ++ x ∷ more) ++ s) refl (sym (append_assoc header (records h) d.rest) ∙ sym d.whole ∙ whole ∙ append_assoc header (records (h ++ x ∷ more)) s))
+pub unended : (header : Header) (file s : List ℕ) (h more : Payloads) (x : List ℕ) (place : ℕ) → file ≡ front_of header (h ++ x ∷ more) ++ s → ArePayloads (h ++ x ∷ more) → IsDamagedAt header place file h → ⊥
+unended header file s h more x place whole are d = unended_behind h more x d.rest s are d.no_record
+    (same_back (header_bytes header) (header_bytes header) (records h ++ d.rest) (records (h ++ x ∷ more) ++ s) refl (sym (append_assoc (header_bytes header) (records h) d.rest) ∙ sym d.whole ∙ whole ∙ append_assoc (header_bytes header) (records (h ++ x ∷ more)) s))
 
 -- a file that stands for payloads is born
-pub born : (file : List ℕ) (h : Payloads) → StandsFor file h → IsBorn file
-born file h t =
-    let whole : file ≡ header ++ (records h ++ t.gate ∷ t.free) = t.whole ∙ append_assoc header (records h) (t.gate ∷ t.free) in
+pub born : (header : Header) (file : List ℕ) (h : Payloads) → StandsFor header file h → IsBorn header file
+born header file h t =
+    let size = length-header_bytes header in
+    let whole : file ≡ header_bytes header ++ (records h ++ t.gate ∷ t.free) = t.whole ∙ append_assoc (header_bytes header) (records h) (t.gate ∷ t.free) in
     record {
-      long = omega (arith, ap length whole, length-append header (records h ++ t.gate ∷ t.free), length-append (records h) (t.gate ∷ t.free));
-      header = ap (λ (l : List ℕ). take 16 l) whole ∙ take_at header (records h ++ t.gate ∷ t.free) 16 refl;
+      long = omega (arith, ap length whole, size, length-append (header_bytes header) (records h ++ t.gate ∷ t.free), length-append (records h) (t.gate ∷ t.free));
+      starts = ap (λ (l : List ℕ). take 16 l) whole ∙ take_at (header_bytes header) (records h ++ t.gate ∷ t.free) 16 size;
     }
 
 -- and then it isn't unborn
-pub not_unborn : (file : List ℕ) → IsBorn file → IsUnborn file → ⊥
-not_unborn file is (inl short) = omega (arith, is.long, short)
-not_unborn [] is (inr unfinished) = let long = is.long in omega (arith, long)
-not_unborn (x ∷ file) is (inr unfinished) = unfinished.1 (heads x 1 (take 15 file) _ is.header)
+pub not_unborn : (header : Header) (file : List ℕ) → IsBorn header file → IsUnborn file → ⊥
+not_unborn header file is (inl short) = omega (arith, is.long, short)
+not_unborn header [] is (inr unfinished) = let long = is.long in omega (arith, long)
+not_unborn header (x ∷ file) is (inr unfinished) = unfinished.1 (heads x 1 (take 15 file) _ is.starts)

@@ -3,6 +3,7 @@ use Rattle.std.specs.Prelude.{◌≡◌, ℕ, List, length, Some, None, IsSome}
 use Rattle.disk_model.specs.Telling.{EachImage}
 use Rattle.disk_model.specs.declared.disk.Disk.{Ghosts}
 use Rattle.filing_journal.specs.Stands.{Payloads, StandsFor, BeforeOrWith, WithGateOpen, gate_place}
+use Rattle.filing_journal.specs.declared.header.Header.{Header}
 use Rattle.filing_journal.specs.declared.journal.Journal.{Journal}
 
 -- its disk
@@ -18,21 +19,21 @@ abbrev pub IsDecided : {D : Type 0} {disk : Ghosts D} → Journal D disk → Typ
 IsDecided journal = journal.undecided ≡ None
 
 -- a payload is undecided
-abbrev pub IsUndecided : {D : Type 0} {disk : Ghosts D} → Journal D disk → Type 0
-IsUndecided journal = IsSome journal.undecided
+abbrev pub HasUndecided : {D : Type 0} {disk : Ghosts D} → Journal D disk → Type 0
+HasUndecided journal = IsSome journal.undecided
 
 -- nothing is undecided: each image stands for the payloads
-pub record Keeps {D : Type 0} (disk : Ghosts D) (journal : Journal D disk) (payloads : Payloads) : Type 0 where
-  pub each : EachImage (disk.tells journal.disk) (λ file. StandsFor file payloads)
+pub record Keeps {D : Type 0} (disk : Ghosts D) (header : Header) (journal : Journal D disk) (payloads : Payloads) : Type 0 where
+  pub each : EachImage (disk.tells journal.disk) (λ file. StandsFor header file payloads)
   pub decided : journal.undecided ≡ None
   pub gate : journal.gate ≡ gate_place payloads
   pub count : journal.count ≡ length payloads
 
 -- One payload is undecided: each image stands for the payloads or for them with it, and for them with it
 -- once its gate byte is set to 1.
-pub record MayKeep {D : Type 0} (disk : Ghosts D) (journal : Journal D disk) (payloads : Payloads) (payload : List ℕ) : Type 0 where
-  pub each : EachImage (disk.tells journal.disk) (BeforeOrWith payloads payload)
-  pub gate_open : EachImage (disk.tells journal.disk) (WithGateOpen payloads payload)
+pub record MayKeep {D : Type 0} (disk : Ghosts D) (header : Header) (journal : Journal D disk) (payloads : Payloads) (payload : List ℕ) : Type 0 where
+  pub each : EachImage (disk.tells journal.disk) (BeforeOrWith header payloads payload)
+  pub gate_open : EachImage (disk.tells journal.disk) (WithGateOpen header payloads payload)
   pub undecided : journal.undecided ≡ Some (length payload)
   pub gate : journal.gate ≡ gate_place payloads
   pub count : journal.count ≡ length payloads

@@ -2,8 +2,10 @@ pub use Rattle.disk_model.specs.Faults
 pub use Rattle.disk_model.specs.Telling
 pub mod Founded
 pub mod Head
+pub mod Header
 pub mod Journal
 pub mod Lives
 pub mod Opening
+pub mod Piece
 pub mod Record
 pub mod Stands

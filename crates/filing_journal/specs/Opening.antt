@@ -1,8 +1,9 @@
 -- How far a journal was read.
 use Rattle.std.specs.Prelude.{◌≡◌, ℕ, List, ◌++◌, length, Option, IsTrue}
 use Rattle.disk_model.specs.declared.disk.Disk.{Ghosts}
-use Rattle.filing_journal.specs.Stands.{Payloads, StandsFor, front, gate_place, ArePayloads}
-use Rattle.filing_journal.specs.Record.{IsBroken}
+use Rattle.filing_journal.specs.Stands.{Payloads, StandsFor, front_of, gate_place, ArePayloads}
+use Rattle.filing_journal.specs.Record.{IsNoRecord}
+use Rattle.filing_journal.specs.declared.header.Header.{Header}
 use Rattle.filing_journal.specs.declared.opening.OpenError.{OpenError}
 use Rattle.filing_journal.specs.declared.opening.OpenError.TheVariants.{NoOffice, NotJournal, Damaged, DiskFault}
 use Rattle.filing_journal.specs.declared.opening.Opening.{Opening}
@@ -24,26 +25,26 @@ abbrev pub HasEnded : {D : Type 0} {disk : Ghosts D} → Opening D disk → Type
 HasEnded opening = IsTrue opening.ended
 
 -- these payloads were given: the file begins with their records, and the next gate stands behind them
-pub record HasGiven {D : Type 0} (disk : Ghosts D) (opening : Opening D disk) (payloads : Payloads) : Type 0 where
+pub record HasGiven {D : Type 0} (disk : Ghosts D) (header : Header) (opening : Opening D disk) (payloads : Payloads) : Type 0 where
   pub rest : List ℕ
-  pub whole : (disk.tells opening.disk).reads ≡ front payloads ++ rest
+  pub whole : (disk.tells opening.disk).reads ≡ front_of header payloads ++ rest
   pub sizes : ArePayloads payloads
   pub gate : opening.gate ≡ gate_place payloads
   pub count : opening.count ≡ length payloads
 
 -- all were given: the file stands for these payloads
-pub record HasAll {D : Type 0} (disk : Ghosts D) (opening : Opening D disk) (payloads : Payloads) : Type 0 where
-  pub stands : StandsFor (disk.tells opening.disk).reads payloads
+pub record HasAll {D : Type 0} (disk : Ghosts D) (header : Header) (opening : Opening D disk) (payloads : Payloads) : Type 0 where
+  pub stands : StandsFor header (disk.tells opening.disk).reads payloads
   pub ended : IsTrue opening.ended
   pub gate : opening.gate ≡ gate_place payloads
   pub count : opening.count ≡ length payloads
 
 -- behind these payloads no record stands, and no closed gate
-pub record IsDamagedAt (at : ℕ) (file : List ℕ) (payloads : Payloads) : Type 0 where
+pub record IsDamagedAt (header : Header) (at : ℕ) (file : List ℕ) (payloads : Payloads) : Type 0 where
   pub rest : List ℕ
-  pub whole : file ≡ front payloads ++ rest
+  pub whole : file ≡ front_of header payloads ++ rest
   pub sizes : ArePayloads payloads
-  pub broken : IsBroken rest
+  pub no_record : IsNoRecord rest
   pub place : at ≡ gate_place payloads
 
 -- a refusal of the front of a file

@@ -8,8 +8,8 @@ use Rattle.filing_journal.specs.declared.record.Record.{Record}
 use Rattle.filing_journal.specs.declared.record.Record.TheVariants.{Closed, Broken, Whole}
 
 -- the file ends where a gate should stand, or no payload stands behind an open one
-abbrev pub IsBroken : List ℕ → Type 0
-IsBroken file = (file ≡ []) ⊎ ((behind : List ℕ) × (file ≡ 1 ∷ behind)
+abbrev pub IsNoRecord : List ℕ → Type 0
+IsNoRecord file = (file ≡ []) ⊎ ((behind : List ℕ) × (file ≡ 1 ∷ behind)
     × ((payload after : List ℕ) → IsPayload payload → behind ≡ body_of payload ++ after → ⊥))
 
 -- a gate that isn't open
@@ -23,13 +23,13 @@ Begins payload file = (after : List ℕ) × IsPayload payload × (file ≡ 1 ∷
 -- what a file that goes on from a gate has there; `payload` is that of a whole record
 abbrev pub RecordAt : List ℕ → Record → List ℕ → Type 0
 RecordAt file Closed payload = IsClosed file
-RecordAt file Broken payload = IsBroken file
+RecordAt file Broken payload = IsNoRecord file
 RecordAt file (Whole size) payload = Begins payload file × (size ≡ length payload)
 
 -- the same for the gate and the length alone
 abbrev pub StartsWith : List ℕ → Start → Type 0
 StartsWith file Shut = IsClosed file
-StartsWith file Bad = IsBroken file
+StartsWith file Bad = IsNoRecord file
 StartsWith file (Size n) = (after : List ℕ) × (1 ≤ n) × (n ≤ 8192) × (file ≡ 1 ∷ (to_le_bytes w32 n ++ after))
 
 abbrev pub IfSize : Start → (ℕ → Type 0) → Type 0

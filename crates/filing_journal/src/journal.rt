@@ -2,8 +2,9 @@
 ghost use Rattle.std.specs.Prelude.{◌≡◌, ◌+◌, ◌*◌, ◌<◌, ◌≤◌, ◌^◌, ◌++◌, [], ◌∷◌, List, ℕ, true, false, length, None, OnOk, OnErr, IfErr};
 ghost use Rattle.std.specs.Option.{ForSome};
 ghost use Rattle.disk_model.specs.Faults.{Rose};
-ghost use Rattle.disk_model.specs.Telling.{IsHonest, EachMoment, IsKept, IsKeptWrite, overwrite};
-ghost use Rattle.filing_journal.specs.Stands.{Payloads, IsPayload, BeforeOrWith, body_of};
+ghost use Rattle.disk_model.specs.Telling.{IsHonest, EachMoment, EachImage, IsKept, IsKeptWrite, overwrite};
+ghost use Rattle.filing_journal.specs.Stands.{Payloads, IsPayload, BeforeOrWith, EndsBehind, body_of};
+ghost use Rattle.filing_journal.specs.declared.header.Header.{Header};
 
 use disk_model::{Disk, Failed, write_kept};
 use payload::CAPACITY;
@@ -56,6 +57,7 @@ fn stage<D: Disk>(disk: &mut D, gate: u64, payload: &[u8]) -> Result<(), Failed>
         → OnOk result (IsKept (overwrite (gate + 1) (body_of payload.now ++ 0 ∷ []) (D.tells disk.old).reads) (D.tells disk.new)) }
     ensures later { D.faults disk.old ≤ D.faults disk.new }
     ensures cause { OnErr result (Rose (D.faults disk.old) (D.faults disk.new)) }
+    ensures unmoved { OnOk result (D.faults disk.new ≡ D.faults disk.old) }
 {
     let size = payload.len() + 5;
     let mut block = [0; CAPACITY + 5];
@@ -64,7 +66,7 @@ fn stage<D: Disk>(disk: &mut D, gate: u64, payload: &[u8]) -> Result<(), Failed>
 }
 
 impl<D: Disk> Journal<D> {
-    ghost use Rattle.filing_journal.specs.Journal.{Keeps, MayKeep, IsDecided, IsUndecided, journal_disk, journal_count};
+    ghost use Rattle.filing_journal.specs.Journal.{Keeps, MayKeep, IsDecided, HasUndecided, journal_disk, journal_count};
 
     // A journal whose gate stands at that place, behind so many payloads.
     pub(crate) fn at(disk: D, gate: u64, count: u64) -> Self
@@ -88,27 +90,44 @@ impl<D: Disk> Journal<D> {
         requires decided { IsDecided self.old }
         requires payload { IsPayload payload.now }
         requires room { journal_count self.old < 2 ^ 32 }
-        requires stands { IsHonest (D.tells (journal_disk self.old)) → (before : Payloads) × Keeps D.Disk self.old before }
+        requires stands { IsHonest (D.tells (journal_disk self.old))
+            → (header : Header) × ((before : Payloads) × Keeps D.Disk header self.old before) }
 
         ensures honest { (D.tells (journal_disk self.new)).honest ≡ (D.tells (journal_disk self.old)).honest }
-        ensures kept { IsHonest (D.tells (journal_disk self.old)) → (before : Payloads) → Keeps D.Disk self.old before
-            → OnOk result (Keeps D.Disk self.new (before ++ payload.now ∷ [])) }
-        ensures before { IsHonest (D.tells (journal_disk self.old)) → (before : Payloads) → Keeps D.Disk self.old before
-            → IfErr result (λ e. e ≡ PutError.DiskFault false → Keeps D.Disk self.new before) }
-        ensures undecided { IsHonest (D.tells (journal_disk self.old)) → (before : Payloads) → Keeps D.Disk self.old before
-            → IfErr result (λ e. e ≡ PutError.DiskFault true → MayKeep D.Disk self.new before payload.now) }
+        ensures kept { IsHonest (D.tells (journal_disk self.old))
+            → (header : Header) (before : Payloads) → Keeps D.Disk header self.old before
+            → OnOk result (Keeps D.Disk header self.new (before ++ payload.now ∷ [])) }
+        ensures before { IsHonest (D.tells (journal_disk self.old))
+            → (header : Header) (before : Payloads) → Keeps D.Disk header self.old before
+            → IfErr result (λ e. e ≡ PutError.DiskFault false → Keeps D.Disk header self.new before) }
+        ensures undecided { IsHonest (D.tells (journal_disk self.old))
+            → (header : Header) (before : Payloads) → Keeps D.Disk header self.old before
+            → IfErr result (λ e. e ≡ PutError.DiskFault true → MayKeep D.Disk header self.new before payload.now) }
 
         // At every moment of the call every image stands for the payloads before, or for them with this one.
-        ensures moments { IsHonest (D.tells (journal_disk self.old)) → (before : Payloads) → Keeps D.Disk self.old before
-            → EachMoment (D.tells (journal_disk self.old)) (D.tells (journal_disk self.new)) (BeforeOrWith before payload.now) }
+        ensures moments { IsHonest (D.tells (journal_disk self.old))
+            → (header : Header) (before : Payloads) → Keeps D.Disk header self.old before
+            → EachMoment (D.tells (journal_disk self.old)) (D.tells (journal_disk self.new)) (BeforeOrWith header before payload.now) }
+
+        // Where the file ends right behind the closed gate, so does every image once the payload is on the disk.
+        ensures ends { IsHonest (D.tells (journal_disk self.old))
+            → (header : Header) (before : Payloads) → Keeps D.Disk header self.old before
+            → EndsBehind before (D.tells (journal_disk self.old)).reads
+            → OnOk result (EachImage (D.tells (journal_disk self.new)) (EndsBehind (before ++ payload.now ∷ []))) }
+        ensures ends_undecided { IsHonest (D.tells (journal_disk self.old))
+            → (header : Header) (before : Payloads) → Keeps D.Disk header self.old before
+            → EndsBehind before (D.tells (journal_disk self.old)).reads
+            → IfErr result (λ e. e ≡ PutError.DiskFault true
+            → EachImage (D.tells (journal_disk self.new)) (EndsBehind (before ++ payload.now ∷ []))) }
 
         ensures count { OnOk result (journal_count self.new ≡ journal_count self.old + 1) }
         ensures decided { OnOk result (IsDecided self.new) }
         ensures count_err { OnErr result (journal_count self.new ≡ journal_count self.old) }
         ensures decided_err { IfErr result (λ e. e ≡ PutError.DiskFault false → IsDecided self.new) }
-        ensures undecided_err { IfErr result (λ e. e ≡ PutError.DiskFault true → IsUndecided self.new) }
+        ensures undecided_err { IfErr result (λ e. e ≡ PutError.DiskFault true → HasUndecided self.new) }
         ensures later { D.faults (journal_disk self.old) ≤ D.faults (journal_disk self.new) }
         ensures cause { OnErr result (Rose (D.faults (journal_disk self.old)) (D.faults (journal_disk self.new))) }
+        ensures unmoved { OnOk result (D.faults (journal_disk self.new) ≡ D.faults (journal_disk self.old)) }
     {
         if stage(&mut self.disk, self.gate, payload).is_err() {
             return Err(PutError::DiskFault { undecided: false });
@@ -119,30 +138,38 @@ impl<D: Disk> Journal<D> {
 
     /// Opens the gate of the undecided payload, again. It takes no memory.
     pub fn settle(&mut self) -> Result<(), PutError>
-        requires undecided { IsUndecided self.old }
+        requires undecided { HasUndecided self.old }
         requires stands { IsHonest (D.tells (journal_disk self.old))
-            → (before : Payloads) × ((payload : List ℕ) × MayKeep D.Disk self.old before payload) }
+            → (header : Header) × ((before : Payloads) × ((payload : List ℕ) × MayKeep D.Disk header self.old before payload)) }
 
         ensures honest { (D.tells (journal_disk self.new)).honest ≡ (D.tells (journal_disk self.old)).honest }
         ensures kept { IsHonest (D.tells (journal_disk self.old))
-            → (before : Payloads) (payload : List ℕ) → MayKeep D.Disk self.old before payload
-            → OnOk result (Keeps D.Disk self.new (before ++ payload ∷ [])) }
+            → (header : Header) (before : Payloads) (payload : List ℕ) → MayKeep D.Disk header self.old before payload
+            → OnOk result (Keeps D.Disk header self.new (before ++ payload ∷ [])) }
         ensures still { IsHonest (D.tells (journal_disk self.old))
-            → (before : Payloads) (payload : List ℕ) → MayKeep D.Disk self.old before payload
-            → OnErr result (MayKeep D.Disk self.new before payload) }
+            → (header : Header) (before : Payloads) (payload : List ℕ) → MayKeep D.Disk header self.old before payload
+            → OnErr result (MayKeep D.Disk header self.new before payload) }
 
         // At every moment of the call every image stands for the payloads with the undecided one or without.
         ensures moments { IsHonest (D.tells (journal_disk self.old))
-            → (before : Payloads) (payload : List ℕ) → MayKeep D.Disk self.old before payload
-            → EachMoment (D.tells (journal_disk self.old)) (D.tells (journal_disk self.new)) (BeforeOrWith before payload) }
+            → (header : Header) (before : Payloads) (payload : List ℕ) → MayKeep D.Disk header self.old before payload
+            → EachMoment (D.tells (journal_disk self.old)) (D.tells (journal_disk self.new)) (BeforeOrWith header before payload) }
+
+        // The file gets no longer.
+        ensures length { IsHonest (D.tells (journal_disk self.old))
+            → OnOk result (length (D.tells (journal_disk self.new)).reads ≡ length (D.tells (journal_disk self.old)).reads) }
+        ensures lengths { IsHonest (D.tells (journal_disk self.old)) → (n : ℕ)
+            → EachImage (D.tells (journal_disk self.old)) (λ file. length file ≡ n)
+            → EachImage (D.tells (journal_disk self.new)) (λ file. length file ≡ n) }
 
         ensures refusal { IfErr result (λ e. e ≡ PutError.DiskFault true) }
         ensures count { OnOk result (journal_count self.new ≡ journal_count self.old + 1) }
         ensures decided { OnOk result (IsDecided self.new) }
         ensures count_err { OnErr result (journal_count self.new ≡ journal_count self.old) }
-        ensures undecided_err { OnErr result (IsUndecided self.new) }
+        ensures undecided_err { OnErr result (HasUndecided self.new) }
         ensures later { D.faults (journal_disk self.old) ≤ D.faults (journal_disk self.new) }
         ensures cause { OnErr result (Rose (D.faults (journal_disk self.old)) (D.faults (journal_disk self.new))) }
+        ensures unmoved { OnOk result (D.faults (journal_disk self.new) ≡ D.faults (journal_disk self.old)) }
     {
         if write_kept(&mut self.disk, self.gate, &[OPEN]).is_err() {
             return Err(PutError::DiskFault { undecided: true });

@@ -2,9 +2,12 @@
 ghost use Rattle.std.specs.Prelude.{◌≡◌, ◌⊎◌, ◌+◌, ◌*◌, ◌≤◌, ◌^◌, ◌++◌, [], ◌∷◌, ℕ, length, None, Some, MatchOption, OnOk, OnErr, IfOk, IfErr, IfSome, IfNone};
 ghost use Rattle.disk_model.specs.Faults.{Rose};
 ghost use Rattle.disk_model.specs.Telling.{IsHonest, EachMoment, EachImage, IsQuiet, IsRead};
-ghost use Rattle.filing_journal.specs.Stands.{Payloads, StandsFor, gate_place};
+ghost use Rattle.filing_journal.specs.Stands.{Payloads, StandsFor, EndsBehind, gate_place};
+ghost use Rattle.filing_journal.specs.declared.header.Header.{Header};
+ghost use Rattle.filing_journal.specs.Piece.{IsPieceOf};
 
 use crate::Journal;
+use crate::piece::Piece;
 use crate::record::{Record, read_record};
 use disk_model::{Disk, Failed, trim};
 use payload::Room;
@@ -14,7 +17,7 @@ use payload::Room;
 pub enum OpenError {
     /// No journal was founded in the file, or its founding didn't end.
     NoOffice,
-    /// The file is no journal.
+    /// The file is no journal with the header that was asked for.
     NotJournal,
     /// What stands at this place is no record and no closed gate.
     Damaged(u64),
@@ -28,6 +31,7 @@ pub enum OpenError {
 #[derive(Drop)]
 pub struct Opening<D: Disk> {
     disk: D,
+    piece: Piece,
     // The place of the next gate.
     gate: u64,
     count: u64,
@@ -36,6 +40,7 @@ pub struct Opening<D: Disk> {
     ghost gate_bound: { gate ≤ 16 + 8197 * count },
     ghost count_bound: { count ≤ gate },
     ghost end_bound: { gate ≤ 2 ^ 63 + 8197 },
+    ghost piece_is: { IsHonest (D.tells disk) → IsPieceOf piece (D.tells disk).reads },
 }
 
 impl<D: Disk> Opening<D> {
@@ -51,6 +56,7 @@ impl<D: Disk> Opening<D> {
     {
         Opening {
             disk,
+            piece: Piece::none(),
             gate: 16,
             count: 0,
             ended: false,
@@ -66,13 +72,15 @@ impl<D: Disk> Opening<D> {
             → IsRead (D.tells (opening_disk self.old)) (D.tells (opening_disk self.new)) }
 
         // Which answer comes is a matter of the bytes.
-        ensures given { IsHonest (D.tells (opening_disk self.old)) → (payloads : Payloads) → HasGiven D.Disk self.old payloads
-            → IfOk result (λ found. MatchOption found (HasAll D.Disk self.new payloads)
-            (λ place. (place ≡ gate_place payloads) × HasGiven D.Disk self.new (payloads ++ room.new ∷ []))) }
-        ensures damaged { IsHonest (D.tells (opening_disk self.old)) → (payloads : Payloads) → HasGiven D.Disk self.old payloads
+        ensures given { IsHonest (D.tells (opening_disk self.old))
+            → (header : Header) (payloads : Payloads) → HasGiven D.Disk header self.old payloads
+            → IfOk result (λ found. MatchOption found (HasAll D.Disk header self.new payloads)
+            (λ place. (place ≡ gate_place payloads) × HasGiven D.Disk header self.new (payloads ++ room.new ∷ []))) }
+        ensures damaged { IsHonest (D.tells (opening_disk self.old))
+            → (header : Header) (payloads : Payloads) → HasGiven D.Disk header self.old payloads
             → opening_refusal self.old ≡ None
             → IfErr result (λ e. (e ≡ OpenError.DiskFault)
-            ⊎ ((place : ℕ) × (e ≡ OpenError.Damaged place) × IsDamagedAt place (D.tells (opening_disk self.old)).reads payloads)) }
+            ⊎ ((place : ℕ) × (e ≡ OpenError.Damaged place) × IsDamagedAt header place (D.tells (opening_disk self.old)).reads payloads)) }
 
         ensures ended { IfOk result (λ found. IfNone found (HasEnded self.new)) }
         ensures count { IfOk result (λ found. MatchOption found (opening_count self.new ≡ opening_count self.old)
@@ -84,11 +92,16 @@ impl<D: Disk> Opening<D> {
         ensures later { D.faults (opening_disk self.old) ≤ D.faults (opening_disk self.new) }
         ensures cause { opening_refusal self.old ≡ None → IfErr result (λ e. e ≡ OpenError.DiskFault
             → Rose (D.faults (opening_disk self.old)) (D.faults (opening_disk self.new))) }
+
+        // Every other answer comes without a fault.
+        ensures unmoved { OnOk result (D.faults (opening_disk self.new) ≡ D.faults (opening_disk self.old)) }
+        ensures unmoved_err { IfErr result (λ e. (e ≡ OpenError.DiskFault)
+            ⊎ (D.faults (opening_disk self.new) ≡ D.faults (opening_disk self.old))) }
     {
         if let Some(e) = self.refusal {
             return Err(e);
         }
-        match read_record(&mut self.disk, self.gate, room) {
+        match read_record(&mut self.disk, &mut self.piece, self.gate, room) {
             Ok(Record::Whole(size)) => {
                 let place = self.gate;
                 self.gate += size + 5;
@@ -114,26 +127,35 @@ impl<D: Disk> Opening<D> {
     /// Cuts off what stands past the closed gate, where anything does, and syncs. It takes no memory.
     pub fn ready(self) -> Result<Journal<D>, (OpenError, D)>
         requires ended { HasEnded self }
-        requires stands { IsHonest (D.tells (opening_disk self)) → (payloads : Payloads) × HasAll D.Disk self payloads }
+        requires stands { IsHonest (D.tells (opening_disk self))
+            → (header : Header) × ((payloads : Payloads) × HasAll D.Disk header self payloads) }
 
         ensures honest { IfOk result (λ journal. (D.tells (journal_disk journal)).honest ≡ (D.tells (opening_disk self)).honest) }
         ensures honest_err { IfErr result (λ e. (D.tells e.1).honest ≡ (D.tells (opening_disk self)).honest) }
-        ensures kept { IsHonest (D.tells (opening_disk self)) → (payloads : Payloads) → HasAll D.Disk self payloads
-            → IfOk result (λ journal. Keeps D.Disk journal payloads) }
+        ensures kept { IsHonest (D.tells (opening_disk self))
+            → (header : Header) (payloads : Payloads) → HasAll D.Disk header self payloads
+            → IfOk result (λ journal. Keeps D.Disk header journal payloads) }
         ensures quiet { IsHonest (D.tells (opening_disk self))
             → IfOk result (λ journal. IsQuiet (D.tells (journal_disk journal))) }
 
+        // The moment doesn't fall, whatever images there are.
+        ensures elapsed { IsHonest (D.tells (opening_disk self))
+            → IfOk result (λ journal. (D.tells (opening_disk self)).moment ≤ (D.tells (journal_disk journal)).moment) }
+
         // Nothing stands past the closed gate.
-        ensures trimmed { IsHonest (D.tells (opening_disk self)) → (payloads : Payloads) → HasAll D.Disk self payloads
-            → IfOk result (λ journal. length (D.tells (journal_disk journal)).reads ≡ gate_place payloads + 1) }
+        ensures trimmed { IsHonest (D.tells (opening_disk self))
+            → (header : Header) (payloads : Payloads) → HasAll D.Disk header self payloads
+            → IfOk result (λ journal. EndsBehind payloads (D.tells (journal_disk journal)).reads) }
 
         // Where every image stands for the payloads, as on a quiet disk, each one at each moment does.
-        ensures moments { IsHonest (D.tells (opening_disk self)) → (payloads : Payloads) → HasAll D.Disk self payloads
-            → EachImage (D.tells (opening_disk self)) (λ file. StandsFor file payloads)
-            → IfOk result (λ journal. EachMoment (D.tells (opening_disk self)) (D.tells (journal_disk journal)) (λ file. StandsFor file payloads)) }
-        ensures moments_err { IsHonest (D.tells (opening_disk self)) → (payloads : Payloads) → HasAll D.Disk self payloads
-            → EachImage (D.tells (opening_disk self)) (λ file. StandsFor file payloads)
-            → IfErr result (λ e. EachMoment (D.tells (opening_disk self)) (D.tells e.1) (λ file. StandsFor file payloads)) }
+        ensures moments { IsHonest (D.tells (opening_disk self))
+            → (header : Header) (payloads : Payloads) → HasAll D.Disk header self payloads
+            → EachImage (D.tells (opening_disk self)) (λ file. StandsFor header file payloads)
+            → IfOk result (λ journal. EachMoment (D.tells (opening_disk self)) (D.tells (journal_disk journal)) (λ file. StandsFor header file payloads)) }
+        ensures moments_err { IsHonest (D.tells (opening_disk self))
+            → (header : Header) (payloads : Payloads) → HasAll D.Disk header self payloads
+            → EachImage (D.tells (opening_disk self)) (λ file. StandsFor header file payloads)
+            → IfErr result (λ e. EachMoment (D.tells (opening_disk self)) (D.tells e.1) (λ file. StandsFor header file payloads)) }
 
         ensures refusal { IfErr result (λ e. e.0 ≡ OpenError.DiskFault) }
         ensures count { IfOk result (λ journal. journal_count journal ≡ opening_count self) }
@@ -141,9 +163,11 @@ impl<D: Disk> Opening<D> {
         ensures later { IfOk result (λ journal. D.faults (opening_disk self) ≤ D.faults (journal_disk journal)) }
         ensures later_err { IfErr result (λ e. D.faults (opening_disk self) ≤ D.faults e.1) }
         ensures cause { IfErr result (λ e. Rose (D.faults (opening_disk self)) (D.faults e.1)) }
+        ensures unmoved { IfOk result (λ journal. D.faults (journal_disk journal) ≡ D.faults (opening_disk self)) }
     {
         let Opening {
             disk,
+            piece: _,
             gate,
             count,
             ended: _,
@@ -162,6 +186,7 @@ impl<D: Disk> Opening<D> {
     {
         let Opening {
             disk,
+            piece: _,
             gate: _,
             count: _,
             ended: _,

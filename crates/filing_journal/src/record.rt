@@ -1,14 +1,13 @@
 // What stands at a gate.
-ghost use Rattle.std.specs.Prelude.{◌≡◌, ◌+◌, ◌-◌, ◌<◌, ◌≤◌, ◌^◌, ◌++◌, IsTrue, List, ℕ, length, take, drop, IfOk, OnErr, MatchBool};
+ghost use Rattle.std.specs.Prelude.{◌≡◌, ◌+◌, ◌-◌, ◌<◌, ◌≤◌, ◌^◌, ◌++◌, IsTrue, List, ℕ, length, take, drop, IfOk, OnOk, OnErr, MatchBool};
 ghost use Rattle.disk_model.specs.Faults.{Rose};
 ghost use Rattle.disk_model.specs.Telling.{IsHonest, IsRead};
+ghost use Rattle.filing_journal.specs.Piece.{IsPieceOf};
 ghost use Rattle.filing_journal.specs.Record.{RecordAt, StartsWith, IfSize, IfWhole};
 
+use crate::piece::Piece;
 use disk_model::{Disk, Failed};
 use payload::{CAPACITY, Room};
-
-// The greatest number of bytes that are read at once.
-const PIECE: usize = 4096;
 
 /// What a gate and the length behind it say.
 #[derive(Clone, Copy, Debug, PartialEq, Eq)]
@@ -55,92 +54,111 @@ fn start_of(front: &[u8]) -> Start
 }
 
 // Reads a gate and a length.
-fn read_start<D: Disk>(disk: &mut D, gate: u64) -> Result<Start, Failed>
+fn read_start<D: Disk>(disk: &mut D, piece: &mut Piece, gate: u64) -> Result<Start, Failed>
+    requires end { gate < 2 ^ 63 }
+    requires piece { IsHonest (D.tells disk.old) → IsPieceOf piece.old (D.tells disk.old).reads }
     ensures honest { (D.tells disk.new).honest ≡ (D.tells disk.old).honest }
     ensures told { IsHonest (D.tells disk.old) → IsRead (D.tells disk.old) (D.tells disk.new) }
+    ensures piece { IsHonest (D.tells disk.old) → IsPieceOf piece.new (D.tells disk.old).reads }
     ensures start { IsHonest (D.tells disk.old)
         → IfOk result (λ start. StartsWith (drop gate (D.tells disk.old).reads) start) }
     ensures size { IfOk result (λ start. IfSize start (λ n. (1 ≤ n) × (n ≤ 8192))) }
     ensures later { D.faults disk.old ≤ D.faults disk.new }
     ensures cause { OnErr result (Rose (D.faults disk.old) (D.faults disk.new)) }
+    ensures unmoved { OnOk result (D.faults disk.new ≡ D.faults disk.old) }
 {
-    let mut front = [0; 5];
-    let n = disk.read_at(gate, &mut front)?;
-    Ok(start_of(&front[..n]))
+    piece.reach(disk, gate, 5)?;
+    Ok(start_of(piece.part(gate, 5)))
 }
 
-// Reads this many bytes behind those in the room, and answers whether there are as many.
-fn read_piece<D: Disk>(disk: &mut D, at: u64, size: usize, room: &mut Room) -> Result<bool, Failed>
-    requires piece { size ≤ PIECE }
-    requires fits { length room.old + size ≤ 8192 }
+// Adds bytes from a place on to the room, at most so many, and answers how many: none only where the file ends.
+fn read_part<D: Disk>(
+    disk: &mut D,
+    piece: &mut Piece,
+    at: u64,
+    most: usize,
+    room: &mut Room,
+) -> Result<usize, Failed>
+    requires some { 1 ≤ most }
+    requires fits { length room.old + most ≤ 8192 }
+    requires end { at + 1 < 2 ^ 64 }
+    requires piece { IsHonest (D.tells disk.old) → IsPieceOf piece.old (D.tells disk.old).reads }
     ensures honest { (D.tells disk.new).honest ≡ (D.tells disk.old).honest }
     ensures told { IsHonest (D.tells disk.old) → IsRead (D.tells disk.old) (D.tells disk.new) }
-    ensures bytes { IsHonest (D.tells disk.old) → IfOk result (λ whole. MatchBool whole
-        ((room.new ≡ room.old ++ take size (drop at (D.tells disk.old).reads)) × (size ≤ length (drop at (D.tells disk.old).reads)))
-        (length (drop at (D.tells disk.old).reads) < size)) }
-    ensures size { IfOk result (λ whole. IsTrue whole → length room.new ≡ length room.old + size) }
+    ensures piece { IsHonest (D.tells disk.old) → IsPieceOf piece.new (D.tells disk.old).reads }
+    ensures bytes { IsHonest (D.tells disk.old) → IfOk result (λ n. (n ≤ length (drop at (D.tells disk.old).reads))
+        × (room.new ≡ room.old ++ take n (drop at (D.tells disk.old).reads))
+        × (n ≡ 0 → length (drop at (D.tells disk.old).reads) ≡ 0)) }
+    ensures size { IfOk result (λ n. (n ≤ most) × (length room.new ≡ length room.old + n)) }
     ensures later { D.faults disk.old ≤ D.faults disk.new }
     ensures cause { OnErr result (Rose (D.faults disk.old) (D.faults disk.new)) }
+    ensures unmoved { OnOk result (D.faults disk.new ≡ D.faults disk.old) }
 {
-    let mut block = [0; PIECE];
-    let bytes = &mut block[..size];
-    let n = disk.read_at(at, bytes)?;
-    if n < size {
-        return Ok(false);
-    }
-    room.append(bytes);
-    Ok(true)
+    piece.reach(disk, at, 1)?;
+    let part = piece.part(at, most);
+    room.append(part);
+    Ok(part.len())
 }
 
 // Reads this many bytes into the room, and answers whether there are as many.
 fn read_payload<D: Disk>(
     disk: &mut D,
+    piece: &mut Piece,
     at: u64,
     size: usize,
     room: &mut Room,
 ) -> Result<bool, Failed>
     requires size { size ≤ 8192 }
-    requires end { at < 2 ^ 64 - 8192 }
+    requires end { at < 2 ^ 64 - 8193 }
+    requires piece { IsHonest (D.tells disk.old) → IsPieceOf piece.old (D.tells disk.old).reads }
     ensures honest { (D.tells disk.new).honest ≡ (D.tells disk.old).honest }
     ensures told { IsHonest (D.tells disk.old) → IsRead (D.tells disk.old) (D.tells disk.new) }
+    ensures piece { IsHonest (D.tells disk.old) → IsPieceOf piece.new (D.tells disk.old).reads }
     ensures bytes { IsHonest (D.tells disk.old) → IfOk result (λ whole. MatchBool whole
         ((room.new ≡ take size (drop at (D.tells disk.old).reads)) × (size ≤ length (drop at (D.tells disk.old).reads)))
         (length (drop at (D.tells disk.old).reads) < size)) }
     ensures later { D.faults disk.old ≤ D.faults disk.new }
     ensures cause { OnErr result (Rose (D.faults disk.old) (D.faults disk.new)) }
+    ensures unmoved { OnOk result (D.faults disk.new ≡ D.faults disk.old) }
 {
     room.clear();
-    if size <= PIECE {
-        return read_piece(disk, at, size, room);
+    let mut done = 0;
+    while done < size {
+        let n = read_part(disk, piece, at + done as u64, size - done, room)?;
+        if n == 0 {
+            return Ok(false);
+        }
+        done += n;
     }
-    if !read_piece(disk, at, PIECE, room)? {
-        return Ok(false);
-    }
-    read_piece(disk, at + PIECE as u64, size - PIECE, room)
+    Ok(true)
 }
 
 // Reads what stands at a gate. The payload of a whole record is put into the room.
 pub(crate) fn read_record<D: Disk>(
     disk: &mut D,
+    piece: &mut Piece,
     gate: u64,
     room: &mut Room,
 ) -> Result<Record, Failed>
+    requires { IsHonest (D.tells disk.old) → IsPieceOf piece.old (D.tells disk.old).reads }
     ensures honest { (D.tells disk.new).honest ≡ (D.tells disk.old).honest }
     ensures told { IsHonest (D.tells disk.old) → IsRead (D.tells disk.old) (D.tells disk.new) }
+    ensures piece { IsHonest (D.tells disk.old) → IsPieceOf piece.new (D.tells disk.old).reads }
     ensures stands { IsHonest (D.tells disk.old)
         → IfOk result (λ r. RecordAt (drop gate (D.tells disk.old).reads) r room.new) }
     ensures size { IfOk result (λ r. IfWhole r (λ n. (1 ≤ n) × (n ≤ 8192) × (gate < 2 ^ 63))) }
     ensures later { D.faults disk.old ≤ D.faults disk.new }
     ensures cause { OnErr result (Rose (D.faults disk.old) (D.faults disk.new)) }
+    ensures unmoved { OnOk result (D.faults disk.new ≡ D.faults disk.old) }
 {
     if gate >= 1 << 63 {
         return Ok(Record::Broken);
     }
-    match read_start(disk, gate)? {
+    match read_start(disk, piece, gate)? {
         Start::Shut => Ok(Record::Closed),
         Start::Bad => Ok(Record::Broken),
         Start::Size(size) => {
-            if read_payload(disk, gate + 5, size, room)? {
+            if read_payload(disk, piece, gate + 5, size, room)? {
                 Ok(Record::Whole(size as u64))
             } else {
                 Ok(Record::Broken)

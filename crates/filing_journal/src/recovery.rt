@@ -1,5 +1,5 @@
 // The front of a file says whether a journal stands there.
-ghost use Rattle.std.specs.Prelude.{◌≡◌, ◌≤◌, [], None, OnOk, IfOk, IfErr};
+ghost use Rattle.std.specs.Prelude.{◌≡◌, ◌⊎◌, ◌≤◌, [], None, OnOk, IfOk, IfErr};
 ghost use Rattle.disk_model.specs.Faults.{Rose};
 ghost use Rattle.disk_model.specs.Telling.{IsHonest, IsRead};
 ghost use Rattle.filing_journal.specs.Stands.{IsUnborn};
@@ -7,21 +7,21 @@ ghost use Rattle.filing_journal.specs.Head.{IsBorn, IsForeign};
 ghost use Rattle.filing_journal.specs.Opening.{HasGiven, IsHeadRefusal, opening_disk, opening_count, opening_refusal};
 
 use crate::head::{Head, look};
-use crate::{OpenError, Opening};
+use crate::{Header, OpenError, Opening};
 use disk_model::{Disk, Failed};
 
-/// Begins to read a journal. It writes nothing, and takes no memory.
-pub fn recover<D: Disk>(disk: D) -> Result<Opening<D>, (OpenError, D)>
+/// Begins to read a journal with this header. It writes nothing, and takes no memory.
+pub fn recover<D: Disk>(disk: D, header: Header) -> Result<Opening<D>, (OpenError, D)>
     ensures honest { IfOk result (λ opening. (D.tells (opening_disk opening)).honest ≡ (D.tells disk).honest) }
     ensures honest_err { IfErr result (λ e. (D.tells e.1).honest ≡ (D.tells disk).honest) }
 
     // Each answer comes by the bytes.
-    ensures born { IsHonest (D.tells disk) → OnOk result (IsBorn (D.tells disk).reads) }
-    ensures begun { IsHonest (D.tells disk) → IfOk result (λ opening. HasGiven D.Disk opening []) }
+    ensures born { IsHonest (D.tells disk) → OnOk result (IsBorn header (D.tells disk).reads) }
+    ensures begun { IsHonest (D.tells disk) → IfOk result (λ opening. HasGiven D.Disk header opening []) }
     ensures unborn { IsHonest (D.tells disk)
         → IfErr result (λ e. e.0 ≡ OpenError.NoOffice → IsUnborn (D.tells disk).reads) }
     ensures foreign { IsHonest (D.tells disk)
-        → IfErr result (λ e. e.0 ≡ OpenError.NotJournal → IsForeign (D.tells disk).reads) }
+        → IfErr result (λ e. e.0 ≡ OpenError.NotJournal → IsForeign header (D.tells disk).reads) }
 
     // Nothing is written.
     ensures told { IsHonest (D.tells disk) → IfOk result (λ opening. IsRead (D.tells disk) (D.tells (opening_disk opening))) }
@@ -33,9 +33,13 @@ pub fn recover<D: Disk>(disk: D) -> Result<Opening<D>, (OpenError, D)>
     ensures later { IfOk result (λ opening. D.faults disk ≤ D.faults (opening_disk opening)) }
     ensures later_err { IfErr result (λ e. D.faults disk ≤ D.faults e.1) }
     ensures cause { IfErr result (λ e. e.0 ≡ OpenError.DiskFault → Rose (D.faults disk) (D.faults e.1)) }
+
+    // Every other answer comes without a fault.
+    ensures unmoved { IfOk result (λ opening. D.faults (opening_disk opening) ≡ D.faults disk) }
+    ensures unmoved_err { IfErr result (λ e. (e.0 ≡ OpenError.DiskFault) ⊎ (D.faults e.1 ≡ D.faults disk)) }
 {
     let mut disk = disk;
-    match look(&mut disk) {
+    match look(&mut disk, header) {
         Ok(Head::Born) => Ok(Opening::new(disk)),
         Ok(Head::Short) => Err((OpenError::NoOffice, disk)),
         Ok(Head::Unfinished) => Err((OpenError::NoOffice, disk)),

@@ -17,5 +17,5 @@ loop-done-preserved g c =
           ∙ ap (λ t. t ++ take n (drop done bytes)) (c.loop-done.invariant.text honest)
           ∙ append_assoc _ (take done bytes) (take n (drop done bytes))
           ∙ ap (λ t. g.K.Sink.text c.args.sink.now ++ t) (sym (take-add done n bytes));
-      later = omega (arith, c.loop-done.invariant.later, c.write.ensures.later);
+      unmoved = c.in_ok-done.ensures.unmoved ∙ c.loop-done.invariant.unmoved;
     }

@@ -6,7 +6,7 @@ invariant-loop-done g l = record {
   within : l.done ≤ length l.bytes;
   honest : g.K.Sink.honest l.sink ≡ g.K.Sink.honest l.initial.sink;
   text : IsTrue (g.K.Sink.honest l.initial.sink) → g.K.Sink.text l.sink ≡ g.K.Sink.text l.initial.sink ++ take l.done l.bytes;
-  later : g.K.Sink.faults l.initial.sink ≤ g.K.Sink.faults l.sink;
+  unmoved : g.K.Sink.faults l.sink ≡ g.K.Sink.faults l.initial.sink;
 }
 
 abbrev pub decreases-loop-done : goal.decreases-loop-done

@@ -11,6 +11,6 @@ returns-clause-moments g c honest each =
     let new = g.D.Disk.tells c.lay_from.new.disk in
     let after = subst IsTrue (sym c.sync_kept.ensures.honest) honest in
     let kept : IsKept old.reads mid = c.in_ok-sync_kept.ensures.done honest in
-    join old mid new UnbornOrEmpty
-    (weaken old mid old.image UnbornOrEmpty each (c.sync_kept.ensures.told honest).moments)
+    join old mid new (UnbornOrEmpty c.args.header)
+    (weaken old mid old.image (UnbornOrEmpty c.args.header) each (c.sync_kept.ensures.told honest).moments)
     (c.lay_from.ensures.moments after kept.quiet)

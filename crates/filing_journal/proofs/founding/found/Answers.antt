@@ -10,9 +10,9 @@ returns-in-Ok-begin-clause-moments g c honest each =
     let mid = g.D.Disk.tells c.look.new.disk in
     let after = subst IsTrue (sym c.look.ensures.honest) honest in
     let read : IsRead old mid = c.look.ensures.told honest in
-    subst (λ d. EachMoment old (g.D.Disk.tells d) UnbornOrEmpty) (sym c.at.ensures.disk)
-    (join old mid (g.D.Disk.tells c.begin.new.disk) UnbornOrEmpty
-    (weaken old mid old.image UnbornOrEmpty each (read_moments old mid (λ x since. g.met.D.Disk.only_now c.args.disk x honest since) read))
+    subst (λ d. EachMoment old (g.D.Disk.tells d) (UnbornOrEmpty c.args.header)) (sym c.at.ensures.disk)
+    (join old mid (g.D.Disk.tells c.begin.new.disk) (UnbornOrEmpty c.args.header)
+    (weaken old mid old.image (UnbornOrEmpty c.args.header) each (read_moments old mid (λ x since. g.met.D.Disk.only_now c.args.disk x honest since) read))
     (c.begin.ensures.moments after (λ x now. each x (read.images x now))))
 
 pub returns-in-Err-begin-clause-moments_err : goal.returns-in-Err-begin-clause-moments_err
@@ -21,6 +21,6 @@ returns-in-Err-begin-clause-moments_err g c honest each =
     let mid = g.D.Disk.tells c.look.new.disk in
     let after = subst IsTrue (sym c.look.ensures.honest) honest in
     let read : IsRead old mid = c.look.ensures.told honest in
-    join old mid (g.D.Disk.tells c.begin.new.disk) UnbornOrEmpty
-    (weaken old mid old.image UnbornOrEmpty each (read_moments old mid (λ x since. g.met.D.Disk.only_now c.args.disk x honest since) read))
+    join old mid (g.D.Disk.tells c.begin.new.disk) (UnbornOrEmpty c.args.header)
+    (weaken old mid old.image (UnbornOrEmpty c.args.header) each (read_moments old mid (λ x since. g.met.D.Disk.only_now c.args.disk x honest since) read))
     (c.begin.ensures.moments after (λ x now. each x (read.images x now)))

@@ -8,7 +8,7 @@ use Rattle.filing_journal.proofs.founding.start.Goals as goal
 pub returns-in_err-write_kept-clause-moments : goal.returns-in_err-write_kept-clause-moments
 returns-in_err-write_kept-clause-moments g c honest quiet =
     let old = g.D.Disk.tells c.args.disk.now in
-    weaken _ _ (After (Torn 0 1) old.image) UnbornOrEmpty (λ x from. emptied old.reads x (c.requires honest) (subst (λ d. Torn 0 1 d x) (quiet from.0 from.1) from.2)) (c.write_kept.ensures.told honest).moments
+    weaken _ _ (After (Torn 0 1) old.image) (UnbornOrEmpty c.args.header) (λ x from. emptied c.args.header old.reads x (c.requires honest) (subst (λ d. Torn 0 1 d x) (quiet from.0 from.1) from.2)) (c.write_kept.ensures.told honest).moments
 
 pub lay-requires : goal.lay-requires
 lay-requires g c honest =
@@ -25,6 +25,6 @@ returns-clause-moments g c honest quiet =
     let new = g.D.Disk.tells c.lay.new.disk in
     let after = subst IsTrue (sym c.write_kept.ensures.honest) honest in
     let kept : IsKept (overwrite 0 (0 ∷ []) old.reads) mid = c.in_ok-write_kept.ensures.done honest in
-    join old mid new UnbornOrEmpty
-    (weaken _ _ (After (Torn 0 1) old.image) UnbornOrEmpty (λ x from. emptied old.reads x (c.requires honest) (subst (λ d. Torn 0 1 d x) (quiet from.0 from.1) from.2)) (c.write_kept.ensures.told honest).moments)
+    join old mid new (UnbornOrEmpty c.args.header)
+    (weaken _ _ (After (Torn 0 1) old.image) (UnbornOrEmpty c.args.header) (λ x from. emptied c.args.header old.reads x (c.requires honest) (subst (λ d. Torn 0 1 d x) (quiet from.0 from.1) from.2)) (c.write_kept.ensures.told honest).moments)
     (c.lay.ensures.moments after (λ x now. kept.quiet x now))

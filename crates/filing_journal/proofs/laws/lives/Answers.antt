@@ -2,4 +2,4 @@ use Rattle.filing_journal.proofs.Fates.{kept}
 use Rattle.filing_journal.proofs.laws.lives.Goals as goal
 
 pub returns : goal.returns
-returns g c before fates file life = kept g.D.Disk before file fates life
+returns g c header before fates file life = kept g.D.Disk header before file fates life

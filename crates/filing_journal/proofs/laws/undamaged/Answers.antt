@@ -2,4 +2,4 @@ use Rattle.filing_journal.proofs.Unique.{undamaged}
 use Rattle.filing_journal.proofs.laws.undamaged.Goals as goal
 
 pub returns : goal.returns
-returns c file payloads given place stands damaged = undamaged file given payloads place stands damaged
+returns c header file payloads given place stands damaged = undamaged header file given payloads place stands damaged

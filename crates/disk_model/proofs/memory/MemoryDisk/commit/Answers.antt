@@ -7,6 +7,6 @@ pub invariant_of-self-2 : goal.invariant_of-self-2
 invariant_of-self-2 c =
     let self = c.args.self.now in
     record {
-      replayed = c.requires ∙ ap (λ r. reads_by c.args.call r) self.replayed ∙ sym (reads_push self.calls.items c.args.call self.start.items)
+      replayed = c.requires.next ∙ ap (λ r. reads_by c.args.call r) self.replayed ∙ sym (reads_push self.calls.items c.args.call self.start.items)
           ∙ ap (λ l. reads_after self.start.items l) (sym c.in_ok-push.ensures.items);
     }

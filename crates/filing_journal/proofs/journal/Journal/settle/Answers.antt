@@ -4,45 +4,68 @@ use Rattle.disk_model.specs.Telling.{Torn, After, IsKept, overwrite}
 use Rattle.disk_model.proofs.Moments.{weaken}
 use Rattle.filing_journal.specs.Stands.{BeforeOrWith, WithGateOpen}
 use Rattle.filing_journal.proofs.Exits.{on_ok}
-use Rattle.filing_journal.proofs.Gates.{gate_inside, gate_torn, gate_written, either, gate_place-push}
+use Rattle.filing_journal.proofs.Bytes.{length-overwrite_one}
+use Rattle.filing_journal.proofs.Gates.{gate_inside, gate_torn, gate_length, gate_written, either, gate_place-push}
 use Rattle.filing_journal.proofs.journal.Journal.settle.Goals as goal
 
 pub write_kept-requires : goal.write_kept-requires
 write_kept-requires g c honest =
-    let (h, (p, keep)) = c.requires.stands honest in
+    let (header, (h, (p, keep))) = c.requires.stands honest in
     let disk = c.args.self.now.disk in
-    omega (arith, keep.gate, gate_inside (g.D.Disk.tells disk).reads h p (keep.gate_open (g.D.Disk.tells disk).reads (g.met.D.Disk.reads_as_image disk honest)))
+    omega (arith, keep.gate, gate_inside header (g.D.Disk.tells disk).reads h p (keep.gate_open (g.D.Disk.tells disk).reads (g.met.D.Disk.reads_as_image disk honest)))
 
 pub returns-then-is_err-clause-still : goal.returns-then-is_err-clause-still
-returns-then-is_err-clause-still g c honest h p keep =
+returns-then-is_err-clause-still g c honest header h p keep =
     let told = c.write_kept.ensures.told honest in
-    let still : (x : List ℕ) → (g.D.Disk.tells c.write_kept.new.disk).image x → WithGateOpen h p x = λ x now.
+    let still : (x : List ℕ) → (g.D.Disk.tells c.write_kept.new.disk).image x → WithGateOpen header h p x = λ x now.
     let from = told.images x now in
-    gate_torn from.0 x h p (keep.gate_open from.0 from.1) (subst (λ k. Torn k 1 from.0 x) keep.gate from.2) in
-    record { each = λ x now. either x h p (still x now); gate_open = still; undecided = keep.undecided; gate = keep.gate; count = keep.count }
+    gate_torn header from.0 x h p (keep.gate_open from.0 from.1) (subst (λ k. Torn k 1 from.0 x) keep.gate from.2) in
+    record { each = λ x now. either header x h p (still x now); gate_open = still; undecided = keep.undecided; gate = keep.gate; count = keep.count }
 
 pub returns-then-is_err-clause-moments : goal.returns-then-is_err-clause-moments
-returns-then-is_err-clause-moments g c honest h p keep =
-    weaken _ _ (After (Torn c.args.self.now.gate 1) (g.D.Disk.tells c.args.self.now.disk).image) (BeforeOrWith h p)
-    (λ x from. either x h p (gate_torn from.0 x h p (keep.gate_open from.0 from.1) (subst (λ k. Torn k 1 from.0 x) keep.gate from.2)))
+returns-then-is_err-clause-moments g c honest header h p keep =
+    weaken _ _ (After (Torn c.args.self.now.gate 1) (g.D.Disk.tells c.args.self.now.disk).image) (BeforeOrWith header h p)
+    (λ x from. either header x h p (gate_torn header from.0 x h p (keep.gate_open from.0 from.1) (subst (λ k. Torn k 1 from.0 x) keep.gate from.2)))
     (c.write_kept.ensures.told honest).moments
 
 pub returns-in-Some-clause-moments : goal.returns-in-Some-clause-moments
-returns-in-Some-clause-moments g c honest h p keep =
-    weaken _ _ (After (Torn c.args.self.now.gate 1) (g.D.Disk.tells c.args.self.now.disk).image) (BeforeOrWith h p)
-    (λ x from. either x h p (gate_torn from.0 x h p (keep.gate_open from.0 from.1) (subst (λ k. Torn k 1 from.0 x) keep.gate from.2)))
+returns-in-Some-clause-moments g c honest header h p keep =
+    weaken _ _ (After (Torn c.args.self.now.gate 1) (g.D.Disk.tells c.args.self.now.disk).image) (BeforeOrWith header h p)
+    (λ x from. either header x h p (gate_torn header from.0 x h p (keep.gate_open from.0 from.1) (subst (λ k. Torn k 1 from.0 x) keep.gate from.2)))
     (c.write_kept.ensures.told honest).moments
 
 pub returns-in-Some-clause-kept : goal.returns-in-Some-clause-kept
-returns-in-Some-clause-kept g c honest h p keep =
+returns-in-Some-clause-kept g c honest header h p keep =
     let old = g.D.Disk.tells c.args.self.now.disk in
     let new = g.D.Disk.tells c.write_kept.new.disk in
     let shut : is_err c.write_kept.result ≡ false = sym c.is_err.ensures.value ∙ c.if-is_err.false in
     let kept : IsKept (overwrite c.args.self.now.gate (1 ∷ []) old.reads) new = on_ok c.write_kept.result _ shut (c.write_kept.ensures.done honest) in
     let size : c.in-Some.n ≡ length p = cc (c.in-Some.is, keep.undecided) in
     record {
-      each = λ x now. gate_written old.reads x h p (keep.gate_open old.reads (g.met.D.Disk.reads_as_image c.args.self.now.disk honest)) (kept.quiet x now ∙ kept.reads ∙ ap (λ (k : ℕ). overwrite k (1 ∷ []) old.reads) keep.gate);
+      each = λ x now. gate_written header old.reads x h p (keep.gate_open old.reads (g.met.D.Disk.reads_as_image c.args.self.now.disk honest)) (kept.quiet x now ∙ kept.reads ∙ ap (λ (k : ℕ). overwrite k (1 ∷ []) old.reads) keep.gate);
       decided = refl;
       gate = omega (arith, keep.gate, gate_place-push h p, size);
       count = omega (arith, keep.count, length-append h (p ∷ []));
     }
+
+pub returns-then-is_err-clause-lengths : goal.returns-then-is_err-clause-lengths
+returns-then-is_err-clause-lengths g c honest n each x now =
+    let (header, (h, (p, keep))) = c.requires.stands honest in
+    let from = (c.write_kept.ensures.told honest).images x now in
+    gate_length header from.0 x h p (keep.gate_open from.0 from.1) (subst (λ k. Torn k 1 from.0 x) keep.gate from.2) ∙ each from.0 from.1
+
+pub returns-in-Some-clause-lengths : goal.returns-in-Some-clause-lengths
+returns-in-Some-clause-lengths g c honest n each x now =
+    let (header, (h, (p, keep))) = c.requires.stands honest in
+    let from = (c.write_kept.ensures.told honest).images x now in
+    gate_length header from.0 x h p (keep.gate_open from.0 from.1) (subst (λ k. Torn k 1 from.0 x) keep.gate from.2) ∙ each from.0 from.1
+
+pub returns-in-Some-clause-length : goal.returns-in-Some-clause-length
+returns-in-Some-clause-length g c honest =
+    let (header, (h, (p, keep))) = c.requires.stands honest in
+    let disk = c.args.self.now.disk in
+    let old = g.D.Disk.tells disk in
+    let new = g.D.Disk.tells c.write_kept.new.disk in
+    let shut : is_err c.write_kept.result ≡ false = sym c.is_err.ensures.value ∙ c.if-is_err.false in
+    let kept : IsKept (overwrite c.args.self.now.gate (1 ∷ []) old.reads) new = on_ok c.write_kept.result _ shut (c.write_kept.ensures.done honest) in
+    ap length kept.reads ∙ length-overwrite_one old.reads c.args.self.now.gate 1 (omega (arith, keep.gate, gate_inside header old.reads h p (keep.gate_open old.reads (g.met.D.Disk.reads_as_image disk honest))))

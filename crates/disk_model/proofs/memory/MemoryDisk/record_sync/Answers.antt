@@ -2,7 +2,7 @@ use Rattle.std.proofs.Common.{ap}
 use Rattle.disk_model.specs.Telling.{IsSync, IsQuiet}
 use Rattle.disk_model.specs.Laws.{reads_are_image}
 use Rattle.disk_model.proofs.Pushed.{sync_push, same_bytes, unsynced_as, ok_or_err, on_ok_map}
-use Rattle.disk_model.proofs.memory.MemoryDisk.settle.Goals as goal
+use Rattle.disk_model.proofs.memory.MemoryDisk.record_sync.Goals as goal
 
 pub returns-clause-told : goal.returns-clause-told
 returns-clause-told c =
