@@ -1,9 +1,2 @@
-pub mod Fates
-pub mod Faults
-pub mod Histories
-pub mod Images
 pub mod Legality
-pub mod NoFault
-pub mod OneFault
-pub mod Openings
-pub mod Sound
+pub mod Replies

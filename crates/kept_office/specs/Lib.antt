@@ -3,9 +3,10 @@ pub use Rattle.filing_journal.specs.Stands
 pub use Rattle.filing_journal.specs.Founded
 pub use Rattle.office_history.specs.Answer
 pub use Rattle.office_core.specs.Register
+pub mod Scheme
 pub mod Recovers
 pub mod Faulty
-pub mod Reading
 pub mod Turns
 pub mod Kept
 pub mod Lives
+pub mod OfficeLaws

@@ -1,5 +1,5 @@
 -- What a turn of an office makes of an ask.
-use Rattle.std.specs.Prelude.{◌≡◌, ◌⊎◌, ◌+◌, ℕ, Bool, true, false, IsTrue, List, ◌∷◌, length, Option, Some, None, IsSome}
+use Rattle.std.specs.Prelude.{◌≡◌, ◌⊎◌, ◌+◌, ◌<◌, ◌^◌, ℕ, Bool, true, false, IsTrue, List, length, Option, Some, None, if◌then◌else◌}
 use Rattle.aid_filings.specs.declared.filing.Filing.{Filing}
 use Rattle.aid_replies.specs.declared.reply.Ask.{Ask}
 use Rattle.aid_replies.specs.declared.reply.Ask.TheVariants.{File}
@@ -8,19 +8,31 @@ use Rattle.aid_types.specs.declared.award.Refusal.{Refusal}
 use Rattle.aid_replies.specs.declared.reply.Reply.{Reply}
 use Rattle.aid_replies.specs.declared.reply.Reply.TheVariants.{Accepted, Again, Refused, Quoted, Standing, DiskFault, NoMemory}
 use Rattle.aid_replies.specs.declared.reply.StandingRow.{StandingRow}
+use Rattle.aid_replies.specs.declared.reply.Verdict.{Verdict}
 use Rattle.aid_replies.specs.declared.reply.Verdict.TheVariants as verdict
+use Rattle.kept_list.specs.Scheme.{Judging}
+use Rattle.kept_list.specs.declared.reply.ListReply.{ListReply}
+use Rattle.kept_list.specs.declared.reply.ListReply.TheVariants as answer
+use Rattle.kept_list.specs.Turns.{with_entry, IsUnsettled, IsUnchanged}
 use Rattle.office_history.specs.Answer.{answer_to, is_admit}
 use Rattle.kept_office.specs.Recovers.{Recovers}
 
 -- the history once an undecided filing is settled: it is admitted
 abbrev pub settled : Option Filing → List Filing → List Filing
-settled None history = history
-settled (Some filing) history = filing ∷ history
+settled = with_entry
 
 -- the filing that is to be filed
 abbrev pub asked : Ask → Option Filing
 asked (File filing) = Some filing
 asked _ = None
+
+-- the filing that an ask adds to the history: that which is to be filed, where it is admitted
+abbrev pub added : List Filing → Ask → Option Filing
+added past ask = if is_admit (answer_to past ask) then asked ask else None
+
+-- what an office makes of an ask
+abbrev pub office_judging : Judging Filing Ask Verdict
+office_judging = record { answer = answer_to; added = added }
 
 -- the history with the filing of an ask
 abbrev pub with_asked : Ask → List Filing → List Filing
@@ -75,18 +87,6 @@ pub record IsLeftUndecided (past : List Filing) (ask : Ask) (position : ℕ) (hi
   pub undecided : pending ≡ asked ask
   pub next : position ≡ length past + 1
 
--- the filing that was undecided still is, and the ask wasn't judged
-pub record IsUnsettled (old : List Filing) (was : Option Filing) (position : ℕ) (history : List Filing) (pending : Option Filing) : Type 0 where
-  pub some : IsSome was
-  pub list : history ≡ old
-  pub undecided : pending ≡ was
-  pub next : position ≡ length old + 1
-
--- nothing changes
-pub record IsUnchanged (old : List Filing) (was : Option Filing) (history : List Filing) (pending : Option Filing) : Type 0 where
-  pub list : history ≡ old
-  pub undecided : pending ≡ was
-
 -- One ask where nothing is undecided: the history before, the ask, the reply, and the history and the undecided filing
 -- after.
 abbrev pub Answers : List Filing → Ask → Reply → List Filing → Option Filing → Type 0
@@ -106,6 +106,22 @@ Turns old was ask (DiskFault (Some position)) history pending = IsUnsettled old 
     ⊎ IsLeftUndecided (settled was old) ask position history pending
 Turns old was ask NoMemory history pending = IsUnchanged old was history pending
 Turns old was ask reply history pending = Answers (settled was old) ask reply history pending
+
+-- the office's reply, by how the list answers
+abbrev pub reply_of : ListReply Verdict → Reply
+reply_of (answer.Answered (verdict.Admit outcome) front) = Accepted (front + 1) front outcome
+reply_of (answer.Answered (verdict.Again position outcome) front) = Again position front outcome
+reply_of (answer.Answered (verdict.Refused refusal) front) = Refused refusal front
+reply_of (answer.Answered (verdict.Quoted cents) front) = Quoted cents front
+reply_of (answer.Answered (verdict.Standing row) front) = Standing row front
+reply_of (answer.DiskFault undecided) = DiskFault undecided
+reply_of answer.NoMemory = NoMemory
+
+-- the place after those that the reply says to stand fits
+abbrev pub IsFew : ListReply Verdict → Type 0
+IsFew (answer.Answered verdict front) = front + 1 < 2 ^ 32
+IsFew (answer.DiskFault undecided) = Unit {0}
+IsFew answer.NoMemory = Unit {0}
 
 -- the reply says that the ask's filing stands
 abbrev pub is_acknowledged : Reply → Bool

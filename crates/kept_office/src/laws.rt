@@ -3,7 +3,8 @@ ghost use Rattle.std.specs.Prelude.{◌≡◌, ◌++◌, ℕ, List};
 ghost use Rattle.aid_filings.specs.declared.filing.Filing.{Filing};
 ghost use Rattle.kept_office.specs.Recovers.{Recovers};
 ghost use Rattle.kept_office.specs.Faulty.{IsFaultyAt};
-ghost use Rattle.kept_office.specs.Lives.{Fate, Left, Life, MayHave};
+ghost use Rattle.kept_list.specs.Lives.{Left};
+ghost use Rattle.kept_office.specs.Lives.{Fate, Life, MayHave};
 
 use disk_model::Disk;
 

@@ -61,7 +61,8 @@ pub fn is_legal(history: &[Filing]) -> bool
     true
 }
 
-fn is_admitted(verdict: Verdict) -> bool
+/// Whether a verdict admits.
+pub(crate) fn is_admitted(verdict: Verdict) -> bool
     ensures { result ≡ is_admit verdict }
 {
     matches!(verdict, Verdict::Admit(_))

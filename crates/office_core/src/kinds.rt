@@ -1,7 +1,7 @@
 //! The facts that the rules read of a list of filings.
 ghost use Rattle.std.specs.Prelude.{◌≡◌, ℕ, ◌≤◌, ◌∷◌, [], length, reverse, take};
 ghost use Rattle.aid_types.specs.Programs.{rank as rank_of};
-ghost use Rattle.filing_rules.specs.InRange.{IsInRange};
+ghost use Rattle.filing_rules.specs.InRange.{AreFactsInRange};
 ghost use Rattle.aid_types.specs.declared.number.Key.{Key as AnyKey};
 ghost use Rattle.aid_filings.specs.declared.filing.What.TheVariants.{Calendar, Enrol, Originate, Repay, Adjust};
 ghost use Rattle.on_file.specs.Names.{NoneNames};
@@ -27,7 +27,7 @@ use sai_index::fits;
 pub fn facts(history: &[Filing], filing: &Filing) -> Facts
     requires legal { IsLegal (reverse history.now) }
     ensures value { result ≡ facts_of (reverse history.now) filing.now.key filing.now.what }
-    ensures in_range { IsInRange result }
+    ensures in_range { AreFactsInRange result }
 {
     facts_of_kind(history, filing)
 }
@@ -129,7 +129,7 @@ pub fn payment_facts(
 ) -> Facts
     requires legal { IsLegal (reverse history.now) }
     ensures value { result ≡ payment_facts_of (reverse history.now) school student year number (rank_of program) }
-    ensures in_range { IsInRange result }
+    ensures in_range { AreFactsInRange result }
 {
     facts_of_payment(history, school, student, year, number, program)
 }

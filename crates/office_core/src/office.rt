@@ -16,6 +16,7 @@ ghost use Rattle.office_history.specs.Past.{key_at};
 ghost use Rattle.office_history.specs.Within.{IsWithinEveryLimit};
 ghost use Rattle.office_core.specs.Register.{filing_in};
 
+use crate::answers::is_admitted;
 use crate::{answer, outcome, past_outcome, quote, standing};
 use aid_filings::Filing;
 use aid_replies::{Ask, Outcome, Verdict};
@@ -162,6 +163,13 @@ impl Office {
                 Verdict::Standing(standing(self.filings.as_slice(), *student, *year))
             }
         }
+    }
+
+    /// Whether the office would admit a filing. It changes nothing and takes no memory.
+    pub fn admits(&self, filing: &Filing) -> bool
+        ensures { result ≡ is_admit (answer_of self.now.history filing.now) }
+    {
+        is_admitted(answer(self.filings.as_slice(), filing))
     }
 
     /// Appends a filing that the office admits, and answers its outcome. It takes no memory, but one of the places of

@@ -4,13 +4,20 @@ ghost use Rattle.disk_model.specs.Telling.{IsHonest};
 ghost use Rattle.filing_journal.specs.Stands.{Payloads};
 ghost use Rattle.filing_journal.specs.Journal.{Keeps, IsDecided, journal_disk, journal_count};
 ghost use Rattle.filing_journal.specs.Opening.{HasGiven, HasAll, HasEnded, opening_disk, opening_count};
+ghost use Rattle.filing_journal.specs.declared.header.Header.{Header};
 
 use disk_model::{Disk, Fill, MemoryDisk, Stop};
-use filing_journal::{Journal, OpenError, Opening, PutError, found, recover};
+use filing_journal::{Header, Journal, OpenError, Opening, PutError, found, recover};
 use payload::Room;
 use std::alloc::Global;
 use std::process::Abort;
 use std::test::Fail;
+
+// The header of the worked files.
+const HEADER: Header = Header {
+    name: *b"AIDPELL1",
+    version: 1,
+};
 
 // A founded file without payloads.
 const EMPTY: [u8; 17] = *b"\x01AIDPELL1\x01\0\0\0\0\0\0\0";
@@ -35,7 +42,7 @@ enum Went {
 }
 
 fn session<D: Disk>(disk: D) -> (Went, D) {
-    let mut journal = match found(disk) {
+    let mut journal = match found(disk, HEADER) {
         Ok(journal) => journal,
         Err((_, disk)) => return (Went::NotFounded, disk),
     };
@@ -49,7 +56,7 @@ fn session<D: Disk>(disk: D) -> (Went, D) {
 }
 
 fn founded<D: Disk>(disk: D) -> D {
-    match found(disk) {
+    match found(disk, HEADER) {
         Ok(journal) => journal.into_disk(),
         Err((_error, disk)) => disk,
     }
@@ -57,10 +64,10 @@ fn founded<D: Disk>(disk: D) -> D {
 
 // Begins to read a journal.
 fn opening<D: Disk + Drop>(disk: D) -> Result<Opening<D>, OpenError>
-    ensures begun { IfOk result (λ opening. IsHonest (D.tells (opening_disk opening)) → HasGiven D.Disk opening []) }
+    ensures begun { IfOk result (λ opening. IsHonest (D.tells (opening_disk opening)) → (header : Header) × HasGiven D.Disk header opening []) }
     ensures count { IfOk result (λ opening. opening_count opening ≡ 0) }
 {
-    match recover(disk) {
+    match recover(disk, HEADER) {
         Ok(opening) => Ok(opening),
         Err((error, _disk)) => Err(error),
     }
@@ -69,11 +76,11 @@ fn opening<D: Disk + Drop>(disk: D) -> Result<Opening<D>, OpenError>
 // Ends to read a journal.
 fn ready<D: Disk + Drop>(opening: Opening<D>) -> Result<Journal<D>, OpenError>
     requires ended { HasEnded opening }
-    requires stands { IsHonest (D.tells (opening_disk opening)) → (payloads : Payloads) × HasAll D.Disk opening payloads }
+    requires stands { IsHonest (D.tells (opening_disk opening)) → (header : Header) × ((payloads : Payloads) × HasAll D.Disk header opening payloads) }
     ensures decided { IfOk result (λ journal. IsDecided journal) }
     ensures count { IfOk result (λ journal. journal_count journal ≡ opening_count opening) }
     ensures kept { IfOk result (λ journal. IsHonest (D.tells (journal_disk journal))
-        → (payloads : Payloads) × Keeps D.Disk journal payloads) }
+        → (header : Header) × ((payloads : Payloads) × Keeps D.Disk header journal payloads)) }
 {
     match opening.ready() {
         Ok(journal) => Ok(journal),
@@ -97,7 +104,7 @@ fn reopen<D: Disk + Drop>(disk: D, room: &mut Room) -> Result<Journal<D>, OpenEr
     ensures decided { IfOk result (λ journal. IsDecided journal) }
     ensures count { IfOk result (λ journal. journal_count journal < 9) }
     ensures kept { IfOk result (λ journal. IsHonest (D.tells (journal_disk journal))
-        → (payloads : Payloads) × Keeps D.Disk journal payloads) }
+        → (header : Header) × ((payloads : Payloads) × Keeps D.Disk header journal payloads)) }
 {
     let mut opening = opening(disk)?;
     for _ in 0..9u64 {
@@ -228,7 +235,7 @@ fn stops_in_the_gate_write(rt: HostRuntime) -> Result<(), Fail> {
     let mut room = Room::new(rt.alloc())?;
     for (left, kept) in [(0, 2), (1, 3), (7, 2)] {
         let fill = Fill::With(left);
-        let stopping = disk(rt.alloc(), &BOTH, &[], Some(Stop { call: 11, fill }))?;
+        let stopping = disk(rt.alloc(), &BOTH, &[], Some(Stop { call: 7, fill }))?;
         let stopped = assert_third(
             &rt,
             stopping,
@@ -238,7 +245,7 @@ fn stops_in_the_gate_write(rt: HostRuntime) -> Result<(), Fail> {
         let answer = read_of(rt.alloc(), stopped.image(), &mut room)?;
         assert_eq!(rt; answer, Ok(kept), "{left} is left");
     }
-    let failing = disk(rt.alloc(), &BOTH, &[12], None)?;
+    let failing = disk(rt.alloc(), &BOTH, &[8], None)?;
     let settled = assert_third(&rt, failing, &mut room, Ok(()))?;
     assert_eq!(rt; read(settled, &mut room), Ok(3));
     assert_eq!(rt; room.bytes(), SCHOOL.as_slice());

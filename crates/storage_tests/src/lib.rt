@@ -7,6 +7,10 @@ mod disks;
 #[cfg(test)]
 mod edges;
 #[cfg(test)]
+mod faults;
+#[cfg(test)]
 mod journals;
 #[cfg(test)]
 mod offices;
+#[cfg(test)]
+mod pieces;

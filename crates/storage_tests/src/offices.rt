@@ -1,8 +1,4 @@
 //! What no clause says of kept offices: worked rows, the answers to named files, and stops in the middle of a turn.
-ghost use Rattle.std.specs.Prelude.{IfOk};
-ghost use Rattle.disk_model.specs.Telling.{IsHonest};
-ghost use Rattle.kept_office.specs.Kept.{IsSound, kept_disk};
-
 use aid_filings::{Filing, PriorFacts, SchoolFacts, What};
 use aid_replies::{Ask, Outcome, Reply};
 use aid_types::{Key, Refusal, School, Student};
@@ -13,26 +9,26 @@ use std::process::Abort;
 use std::test::Fail;
 
 // The file of the two worked filings.
-const BOTH: [u8; 71] =
+pub(crate) const BOTH: [u8; 71] =
     *b"\x01AIDPELL1\x01\0\0\0\0\0\0\x01\x13\0\0\0\x02\0\0\0\0\x01\0\0\0\0\0\0\0\x6e\0\0\0\x02\x0c\x01\x19\0\0\0\x04\0\0\0\0\x02\0\0\0\0\0\0\0\x89\x13\0\0\0\0\0\0\x70\x64\x08\0\0";
 
 // What the office's desk files: the school 110, or the units that a student used before this office.
 #[derive(Clone, Copy)]
-enum Filed {
+pub(crate) enum Filed {
     School,
     Prior(u16, u32),
 }
 
-const SCHOOL: (u32, Filed) = (1, Filed::School);
+pub(crate) const SCHOOL: (u32, Filed) = (1, Filed::School);
 
-const PRIOR: (u32, Filed) = (2, Filed::Prior(5001, 550_000));
+pub(crate) const PRIOR: (u32, Filed) = (2, Filed::Prior(5001, 550_000));
 
 const OTHER: (u32, Filed) = (2, Filed::Prior(5001, 540_000));
 
-const THIRD: (u32, Filed) = (3, Filed::Prior(5002, 1));
+pub(crate) const THIRD: (u32, Filed) = (3, Filed::Prior(5002, 1));
 
 // The ask to file a row under its number.
-fn ask(rt: &impl Abort, row: (u32, Filed)) -> Ask {
+pub(crate) fn ask(rt: &impl Abort, row: (u32, Filed)) -> Ask {
     let (number, filed) = row;
     assert!(rt; number > 0);
     Ask::File(Filing {
@@ -63,7 +59,7 @@ fn known(rt: &impl Abort, student: u16) -> Student {
     Student(u64::from(student))
 }
 
-fn disk(
+pub(crate) fn disk(
     alloc: Global,
     bytes: &[u8],
     failing: &[u64],
@@ -72,18 +68,14 @@ fn disk(
     Ok(MemoryDisk::new(alloc, bytes.to_vec(alloc)?, failing.to_vec(alloc)?, stop)?)
 }
 
-fn founded<D: Disk + Drop>(alloc: Global, disk: D) -> Result<KeptOffice<D>, FoundFault>
-    ensures sound { IfOk result (λ kept. IsHonest (D.tells (kept_disk kept)) → IsSound D.Disk kept) }
-{
+pub(crate) fn founded<D: Disk + Drop>(alloc: Global, disk: D) -> Result<KeptOffice<D>, FoundFault> {
     match KeptOffice::found(alloc, disk) {
         Ok(kept) => Ok(kept),
         Err((fault, _disk)) => Err(fault),
     }
 }
 
-fn opened<D: Disk + Drop>(alloc: Global, disk: D) -> Result<KeptOffice<D>, OpenError>
-    ensures sound { IfOk result (λ kept. IsHonest (D.tells (kept_disk kept)) → IsSound D.Disk kept) }
-{
+pub(crate) fn opened<D: Disk + Drop>(alloc: Global, disk: D) -> Result<KeptOffice<D>, OpenError> {
     match KeptOffice::recover(alloc, disk) {
         Ok(kept) => Ok(kept),
         Err((error, _disk)) => Err(error),
@@ -137,13 +129,13 @@ const THIRD_ACCEPTED: Reply = Reply::Accepted {
     outcome: Outcome::Noted,
 };
 
-const THIRD_AGAIN: Reply = Reply::Again {
+pub(crate) const THIRD_AGAIN: Reply = Reply::Again {
     position: 3,
     front: 3,
     outcome: Outcome::Noted,
 };
 
-const UNDECIDED: Reply = Reply::DiskFault { undecided: Some(3) };
+pub(crate) const UNDECIDED: Reply = Reply::DiskFault { undecided: Some(3) };
 
 // What stands is answered again, and another filing under its number is refused.
 const AGAIN: [Reply; 2] = [
@@ -215,7 +207,7 @@ fn stops_in_the_gate_write(rt: HostRuntime) -> Result<(), Fail> {
     assert_stop(&rt, rt.alloc(), 0, 2, THIRD_ACCEPTED)?;
     assert_stop(&rt, rt.alloc(), 1, 3, THIRD_AGAIN)?;
     assert_stop(&rt, rt.alloc(), 7, 2, THIRD_ACCEPTED)?;
-    let failing = disk(rt.alloc(), &BOTH, &[12], None)?;
+    let failing = disk(rt.alloc(), &BOTH, &[8], None)?;
     open_and_file(
         &rt,
         rt.alloc(),
@@ -236,7 +228,7 @@ fn assert_stop(
     reply: Reply,
 ) -> Result<(), Fail> {
     let stop = Some(Stop {
-        call: 11,
+        call: 7,
         fill: Fill::With(left),
     });
     let stopping = disk(alloc, &BOTH, &[], stop)?;

@@ -1,0 +1,10 @@
+pub use Rattle.filing_journal.specs.Telling
+pub use Rattle.filing_journal.specs.Stands
+pub use Rattle.filing_journal.specs.Founded
+pub mod Scheme
+pub mod Recovers
+pub mod Faulty
+pub mod Reading
+pub mod Turns
+pub mod Kept
+pub mod Lives

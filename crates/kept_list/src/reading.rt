@@ -1,0 +1,144 @@
+//! A list from the payloads of a journal.
+ghost use Rattle.std.specs.Prelude.{◌≡◌, ◌⊎◌, ◌+◌, ◌≤◌, ◌<◌, ◌^◌, ◌∷◌, [], ℕ, ⊤, List, length, None, IfOk, IfErr, IfNone, OnOk, OnErr, MatchBool, MatchOption};
+ghost use Rattle.aid_edges.specs.Faults.{Rose};
+ghost use Rattle.disk_model.specs.Telling.{IsHonest, IsRead};
+ghost use Rattle.filing_journal.specs.Opening.{HasGiven, HasAll, HasEnded, opening_disk, opening_count, opening_refusal};
+ghost use Rattle.filing_journal.specs.Stands.{gate_place};
+ghost use Rattle.kept_list.specs.Recovers.{payloads_of, AreEntries};
+ghost use Rattle.kept_list.specs.Faulty.{IsFaultyAt};
+ghost use Rattle.kept_list.specs.Reading.{HasRead, IsReadRefusal};
+
+use crate::{Docket, TakeFault};
+use disk_model::Disk;
+use filing_journal::{OpenError, Opening};
+use payload::Room;
+use std::alloc::Global;
+
+// The next entry, with the place of its gate.
+fn take_next<D: Disk, R: Docket>(
+    alloc: Global,
+    opening: &mut Opening<D>,
+    room: &mut Room,
+) -> Result<Option<(u64, R::Entry)>, OpenError>
+    requires open { opening_refusal opening.old ≡ None }
+    ensures honest { (D.tells (opening_disk opening.new)).honest ≡ (D.tells (opening_disk opening.old)).honest }
+    ensures told { IsHonest (D.tells (opening_disk opening.old))
+        → IsRead (D.tells (opening_disk opening.old)) (D.tells (opening_disk opening.new)) }
+    ensures given { IsHonest (D.tells (opening_disk opening.old)) → (history : List R.Entry)
+        → HasGiven D.Disk R.scheme.header opening.old (payloads_of R.scheme.spelling history)
+        → IfOk result (λ next. MatchOption next (HasAll D.Disk R.scheme.header opening.new (payloads_of R.scheme.spelling history))
+        (λ found. (found.0 ≡ gate_place (payloads_of R.scheme.spelling history)) × R.scheme.IsEntry found.1
+        × HasGiven D.Disk R.scheme.header opening.new (payloads_of R.scheme.spelling (found.1 ∷ history)))) }
+    ensures damaged { IsHonest (D.tells (opening_disk opening.old)) → (history : List R.Entry)
+        → HasGiven D.Disk R.scheme.header opening.old (payloads_of R.scheme.spelling history) → AreEntries R.scheme.IsEntry history → R.scheme.IsLegal history
+        → IfErr result (λ e. (place : ℕ) → e ≡ OpenError.Damaged place → IsFaultyAt R.scheme (D.tells (opening_disk opening.old)).reads place) }
+    ensures ended { IfOk result (λ next. IfNone next (HasEnded opening.new)) }
+    ensures count { IfOk result (λ next. MatchOption next (opening_count opening.new ≡ opening_count opening.old)
+        (λ found. opening_count opening.new ≡ opening_count opening.old + 1)) }
+    ensures open { OnOk result (opening_refusal opening.new ≡ None) }
+    ensures refusals { IfErr result IsReadRefusal }
+    ensures later { D.faults (opening_disk opening.old) ≤ D.faults (opening_disk opening.new) }
+    ensures cause { IfErr result (λ e. e ≡ OpenError.DiskFault → Rose (D.faults (opening_disk opening.old)) (D.faults (opening_disk opening.new))) }
+    ensures unmoved { OnOk result (D.faults (opening_disk opening.new) ≡ D.faults (opening_disk opening.old)) }
+    ensures unmoved_err { IfErr result (λ e. (e ≡ OpenError.DiskFault) ⊎ (D.faults (opening_disk opening.new) ≡ D.faults (opening_disk opening.old))) }
+{
+    let Some(place) = opening.next(room)? else {
+        return Ok(None);
+    };
+    match R::take(alloc, room.bytes()) {
+        Ok(entry) => Ok(Some((place, entry))),
+        Err(TakeFault::NotEntry) => Err(OpenError::Damaged(place)),
+        Err(TakeFault::NoMemory) => Err(OpenError::NoMemory),
+    }
+}
+
+// Admits an entry that stands behind those of the docket, or refuses it at its place.
+fn admit_read<R: Docket>(docket: &mut R, place: u64, entry: R::Entry) -> Result<(), OpenError>
+    ensures admitted { OnOk result (R.history docket.new ≡ entry ∷ R.history docket.old) }
+    ensures unchanged { OnErr result (R.history docket.new ≡ R.history docket.old) }
+    ensures refused { IfErr result (λ e. (e ≡ OpenError.NoMemory)
+        ⊎ ((e ≡ OpenError.Damaged place) × (R.scheme.IsLegal (entry ∷ R.history docket.old) → ⊥))) }
+    ensures legal { R.scheme.IsLegal (R.history docket.old) → R.scheme.IsLegal (R.history docket.new) }
+    ensures range { R.spare docket.old < 2 ^ 32 → R.spare docket.new < 2 ^ 32 }
+{
+    if docket.reserve(1).is_err() {
+        return Err(OpenError::NoMemory);
+    }
+    if !docket.admits(&entry) {
+        return Err(OpenError::Damaged(place));
+    }
+    docket.admit(entry);
+    Ok(())
+}
+
+// Takes the next entry into the docket, and says whether there was one.
+fn admit_next<D: Disk, R: Docket>(
+    alloc: Global,
+    opening: &mut Opening<D>,
+    docket: &mut R,
+    room: &mut Room,
+) -> Result<bool, OpenError>
+    requires open { opening_refusal opening.old ≡ None }
+    ensures honest { (D.tells (opening_disk opening.new)).honest ≡ (D.tells (opening_disk opening.old)).honest }
+    ensures told { IsHonest (D.tells (opening_disk opening.old))
+        → IsRead (D.tells (opening_disk opening.old)) (D.tells (opening_disk opening.new)) }
+    ensures given { IsHonest (D.tells (opening_disk opening.old)) → HasRead D.Disk R.scheme opening.old (R.history docket.old)
+        → IfOk result (λ more. MatchBool more (HasRead D.Disk R.scheme opening.new (R.history docket.new))
+        (HasAll D.Disk R.scheme.header opening.new (payloads_of R.scheme.spelling (R.history docket.new)) × AreEntries R.scheme.IsEntry (R.history docket.new))) }
+    ensures damaged { IsHonest (D.tells (opening_disk opening.old)) → HasRead D.Disk R.scheme opening.old (R.history docket.old)
+        → R.scheme.IsLegal (R.history docket.old)
+        → IfErr result (λ e. (place : ℕ) → e ≡ OpenError.Damaged place → IsFaultyAt R.scheme (D.tells (opening_disk opening.old)).reads place) }
+    ensures ended { IfOk result (λ more. MatchBool more ⊤ (HasEnded opening.new)) }
+    ensures count { opening_count opening.old ≡ length (R.history docket.old) → OnOk result (opening_count opening.new ≡ length (R.history docket.new)) }
+    ensures grows { IfOk result (λ more. MatchBool more (length (R.history docket.new) ≡ length (R.history docket.old) + 1) (R.history docket.new ≡ R.history docket.old)) }
+    ensures legal { R.scheme.IsLegal (R.history docket.old) → R.scheme.IsLegal (R.history docket.new) }
+    ensures range { R.spare docket.old < 2 ^ 32 → R.spare docket.new < 2 ^ 32 }
+    ensures open { OnOk result (opening_refusal opening.new ≡ None) }
+    ensures refusals { IfErr result IsReadRefusal }
+    ensures later { D.faults (opening_disk opening.old) ≤ D.faults (opening_disk opening.new) }
+    ensures cause { IfErr result (λ e. e ≡ OpenError.DiskFault → Rose (D.faults (opening_disk opening.old)) (D.faults (opening_disk opening.new))) }
+    ensures unmoved { OnOk result (D.faults (opening_disk opening.new) ≡ D.faults (opening_disk opening.old)) }
+    ensures unmoved_err { IfErr result (λ e. (e ≡ OpenError.DiskFault) ⊎ (D.faults (opening_disk opening.new) ≡ D.faults (opening_disk opening.old))) }
+{
+    match take_next::<D, R>(alloc, opening, room)? {
+        None => Ok(false),
+        Some((place, entry)) => {
+            admit_read(docket, place, entry)?;
+            Ok(true)
+        }
+    }
+}
+
+/// Takes the entries of a journal into a docket that has none, up to the first gate that isn't open.
+pub(crate) fn read_all<D: Disk, R: Docket>(
+    alloc: Global,
+    opening: &mut Opening<D>,
+    docket: &mut R,
+    room: &mut Room,
+) -> Result<(), OpenError>
+    requires open { opening_refusal opening.old ≡ None }
+    requires begun { R.history docket.old ≡ [] }
+    requires counted { opening_count opening.old ≡ 0 }
+    requires range { R.spare docket.old < 2 ^ 32 }
+    requires given { IsHonest (D.tells (opening_disk opening.old)) → HasGiven D.Disk R.scheme.header opening.old [] }
+    ensures honest { (D.tells (opening_disk opening.new)).honest ≡ (D.tells (opening_disk opening.old)).honest }
+    ensures told { IsHonest (D.tells (opening_disk opening.old))
+        → IsRead (D.tells (opening_disk opening.old)) (D.tells (opening_disk opening.new)) }
+    ensures all { IsHonest (D.tells (opening_disk opening.old))
+        → OnOk result (HasAll D.Disk R.scheme.header opening.new (payloads_of R.scheme.spelling (R.history docket.new))) }
+    ensures entries { IsHonest (D.tells (opening_disk opening.old)) → OnOk result (AreEntries R.scheme.IsEntry (R.history docket.new)) }
+    ensures legal { R.scheme.IsLegal (R.history docket.new) }
+    ensures damaged { IsHonest (D.tells (opening_disk opening.old))
+        → IfErr result (λ e. (place : ℕ) → e ≡ OpenError.Damaged place → IsFaultyAt R.scheme (D.tells (opening_disk opening.old)).reads place) }
+    ensures ended { OnOk result (HasEnded opening.new) }
+    ensures count { OnOk result (opening_count opening.new ≡ length (R.history docket.new)) }
+    ensures range { R.spare docket.new < 2 ^ 32 }
+    ensures refusals { IfErr result IsReadRefusal }
+    ensures later { D.faults (opening_disk opening.old) ≤ D.faults (opening_disk opening.new) }
+    ensures cause { IfErr result (λ e. e ≡ OpenError.DiskFault → Rose (D.faults (opening_disk opening.old)) (D.faults (opening_disk opening.new))) }
+    ensures unmoved { OnOk result (D.faults (opening_disk opening.new) ≡ D.faults (opening_disk opening.old)) }
+    ensures unmoved_err { IfErr result (λ e. (e ≡ OpenError.DiskFault) ⊎ (D.faults (opening_disk opening.new) ≡ D.faults (opening_disk opening.old))) }
+{
+    while admit_next(alloc, opening, docket, room)? {}
+    Ok(())
+}

@@ -1,0 +1,41 @@
+-- What holds of every office as the docket of a kept list.
+use Rattle.std.proofs.Common.{◌≡◌, ℕ, refl, subst, arith, Bool, true, false, IsTrue, List, ◌∷◌, ◌++◌, Some, None}
+use Rattle.std.specs.Prelude.{if◌then◌else◌}
+use Rattle.aid_filings.specs.declared.filing.Filing.{Filing}
+use Rattle.aid_replies.specs.declared.reply.Ask.{Ask}
+use Rattle.aid_replies.specs.declared.reply.Ask.TheVariants.{File, Quote, Standing}
+use Rattle.filing_numbers.specs.Numbers.{IsFiling}
+use Rattle.filing_codec.specs.Spelling.{spelling}
+use Rattle.filing_codec.proofs.FilingLaws.{is_alone, length-spelling}
+use Rattle.filing_journal.specs.Stands.{IsPayload}
+use Rattle.office_history.specs.Answer.{answer_of, is_admit, IsLegal}
+use Rattle.office_history.proofs.Admitted as admitted
+use Rattle.kept_office.specs.Turns.{added}
+
+pub keepable : (filing : Filing) → IsFiling filing → IsPayload (spelling filing)
+keepable filing is = record { some = omega arith; fits = length-spelling filing is }
+
+pub alone : (one other : Filing) (rest : List ℕ) → IsFiling one → IsFiling other → spelling one ++ rest ≡ spelling other → one ≡ other
+alone one other rest is also begins = (is_alone one other rest is also begins).same
+
+pub admitted_legal : (past : List Filing) (filing : Filing) → IsLegal past → IsTrue (is_admit (answer_of past filing)) → IsLegal (filing ∷ past)
+admitted_legal past filing legal is = admitted.admitted_legal past filing legal is
+
+pub legal_admitted : (past : List Filing) (filing : Filing) → IsLegal (filing ∷ past) → IsTrue (is_admit (answer_of past filing))
+legal_admitted past filing legal = go (is_admit (answer_of past filing)) refl
+  where
+    go : (b : Bool) → is_admit (answer_of past filing) ≡ b → IsTrue (is_admit (answer_of past filing))
+    go true is = is
+    go false is = absurd (admitted.refused_illegal past filing is legal)
+
+pub legal_past : (past : List Filing) (filing : Filing) → IsLegal (filing ∷ past) → IsLegal past
+legal_past past filing legal = legal.0
+
+pub added_admitted : (past : List Filing) (ask : Ask) (filing : Filing) → added past ask ≡ Some filing → IsTrue (is_admit (answer_of past filing))
+added_admitted past (File f) filing is = go (is_admit (answer_of past f)) refl is
+  where
+    go : (b : Bool) → is_admit (answer_of past f) ≡ b → (if b then Some f else None) ≡ Some filing → IsTrue (is_admit (answer_of past filing))
+    go true is same = let one : f ≡ filing = cc in subst (λ (g : Filing). IsTrue (is_admit (answer_of past g))) one is
+    go false is same = absurd (let bad : ⊥ = cc in bad)
+added_admitted past (Quote school student year term) filing is = absurd cc
+added_admitted past (Standing student year) filing is = absurd cc

@@ -1,0 +1,131 @@
+// The office as the docket of a kept list.
+ghost use Rattle.std.specs.Prelude.{◌≡◌, ◌<◌, None, if◌then◌else◌};
+ghost use Rattle.office_history.specs.Answer.{answer_to, is_admit};
+ghost use Rattle.kept_office.specs.Turns.{asked};
+
+use aid_filings::Filing;
+use aid_replies::{Ask, Verdict};
+use filing_codec::TakeError;
+use filing_journal::Header;
+use kept_list::{Docket, Judged, TakeFault};
+use office_core::Office;
+use payload::Room;
+use std::alloc::{AllocError, Global};
+use std::marker::Brand;
+use std::sync::ledger::{Blank, Ledger};
+use steps::Steps;
+
+/// An office whose filings a list keeps: it judges them, and spells them.
+#[derive(Drop)]
+pub struct FiledOffice {
+    pub(crate) office: Office,
+}
+
+// The verdict of an office, with the steps counted on a blank.
+fn verdict_on<L: Ledger>(office: &Office, ask: &Ask, blank: Blank) -> Verdict
+    requires name { blank.name ≡ L.name }
+    requires parts { blank.parts ≡ L.parts }
+    requires some { 0 < blank.parts }
+    ensures { result ≡ answer_to office.now.history ask.now }
+{
+    let mut steps = Steps::<L>::new(blank);
+    office.ask(ask, &mut steps)
+}
+
+// The verdict of an office on an ask.
+fn verdict(office: &Office, ask: &Ask) -> Verdict
+    ensures { result ≡ answer_to office.now.history ask.now }
+{
+    verdict_on::<Brand>(office, ask, Blank::new(1))
+}
+
+// The filing that an ask adds where it has this verdict.
+fn added(ask: Ask, verdict: &Verdict) -> Option<Filing>
+    ensures { result ≡ (if is_admit verdict.now then asked ask else None) }
+{
+    match (ask, verdict) {
+        (Ask::File(filing), Verdict::Admit(_)) => Some(filing),
+        _ => None,
+    }
+}
+
+impl Docket for FiledOffice {
+    ghost use Rattle.kept_office.specs.Scheme.{office_scheme};
+    ghost use Rattle.kept_office.specs.Turns.{office_judging};
+    ghost use Rattle.kept_office.specs.OfficeLaws.{keepable, alone, admitted_legal, legal_admitted, legal_past, added_admitted};
+
+    type Entry = Filing;
+
+    type Ask = Ask;
+
+    type Verdict = Verdict;
+
+    ghost scheme = { office_scheme };
+
+    ghost judging = { office_judging };
+
+    ghost history = { λ docket. docket.office.history };
+
+    ghost spare = { λ docket. docket.office.spare };
+
+    ghost keepable = { keepable };
+
+    ghost alone = { alone };
+
+    ghost none_legal = { tt };
+
+    ghost admitted_legal = { admitted_legal };
+
+    ghost legal_admitted = { legal_admitted };
+
+    ghost legal_past = { legal_past };
+
+    ghost added_admitted = { added_admitted };
+
+    fn header() -> Header {
+        Header {
+            name: *b"AIDPELL1",
+            version: 1,
+        }
+    }
+
+    fn new(alloc: Global) -> Self {
+        FiledOffice {
+            office: Office::new(alloc),
+        }
+    }
+
+    fn front(&self) -> u32 {
+        self.office.front()
+    }
+
+    fn reserve(&mut self, n: u32) -> Result<(), AllocError> {
+        self.office.reserve(n)
+    }
+
+    fn judge(&self, ask: Ask) -> Judged<Filing, Verdict> {
+        let verdict = verdict(&self.office, &ask);
+        let added = added(ask, &verdict);
+        Judged { verdict, added }
+    }
+
+    fn admits(&self, filing: &Filing) -> bool {
+        self.office.admits(filing)
+    }
+
+    fn admit(&mut self, filing: Filing) {
+        self.office.admit(filing);
+    }
+
+    fn put(filing: &Filing, room: &mut Room) {
+        filing_codec::put(filing, room);
+    }
+
+    fn take(alloc: Global, bytes: &[u8]) -> Result<Filing, TakeFault> {
+        match filing_codec::take(alloc, bytes) {
+            Ok(filing) => Ok(filing),
+            Err(TakeError::NotFiling(_)) => Err(TakeFault::NotEntry),
+            Err(TakeError::NoMemory) => Err(TakeFault::NoMemory),
+        }
+    }
+}

@@ -1,0 +1,120 @@
+-- What each image recovers at each moment of a session.
+use Rattle.std.proofs.Common.{◌≡◌, inl, inr, ℕ, zero, suc, List, [], ◌∷◌, ◌++◌, take, Result, Ok, Err, refl, sym, ap, subst, append_assoc, IsTrue}
+use Rattle.disk_model.specs.Telling.{EachImage, EachMoment, IsHonest}
+use Rattle.disk_model.specs.declared.disk.Disk.{Ghosts}
+use Rattle.disk_model.proofs.Moments.{join, started, weaken}
+use Rattle.kept_list.specs.Scheme.{Scheme, Judging}
+use Rattle.kept_list.specs.Recovers.{Recovers, RecoversEither}
+use Rattle.kept_session.specs.Edges.{Output}
+use Rattle.kept_session.specs.Texts.{Texts, after_row, after_rows}
+use Rattle.kept_session.specs.Links.{Runs, begun, answered, RecoversFront}
+use Rattle.kept_session.specs.Sessions.{Files, Opens, all, unwritten, faulted, starved, unopened, opened}
+use Rattle.kept_session.specs.declared.stop.FileStop.{FileStop}
+use Rattle.kept_session.specs.declared.stop.Stop.{Stop}
+use Rattle.kept_session.proofs.Runs.{after_rows-push, runs-honest}
+
+-- a front of a front, and a front itself
+front_of_front : {A : Type 0} (k : ℕ) (a b : List A) → (j : ℕ) × (take j (a ++ b) ≡ take k a)
+front_of_front zero a b = (0, refl)
+front_of_front (suc k) [] b = (0, refl)
+front_of_front (suc k) (x ∷ a) b = let (j, is) = front_of_front k a b in (suc j, ap (λ (l : List _). x ∷ l) is)
+
+front_whole : {A : Type 0} (a b : List A) → (j : ℕ) × (take j (a ++ b) ≡ a)
+front_whole [] b = (0, refl)
+front_whole (x ∷ a) b = let (j, is) = front_whole a b in (suc j, ap (λ (l : List _). x ∷ l) is)
+
+module _ {D Entry Ask Verdict Error : Type 0} (disk : Ghosts D) (scheme : Scheme Entry) (judging : Judging Entry Ask Verdict) (only : (d : D) (c : List ℕ) → IsHonest (disk.tells d) → (disk.tells d).image_since (disk.tells d).moment c → (disk.tells d).image c) where
+  more : (past : List Entry) (a b : List (Result Ask Error)) (c : List ℕ) → RecoversFront scheme judging past a c → RecoversFront scheme judging past (a ++ b) c
+  more past a b c (k, r) = let (j, is) = front_of_front k a b in (j, subst (λ (l : List (Result Ask Error)). Recovers scheme c (after_rows judging past l)) (sym is) r)
+
+  whole : (past : List Entry) (a b : List (Result Ask Error)) (c : List ℕ) → Recovers scheme c (after_rows judging past a) → RecoversFront scheme judging past (a ++ b) c
+  whole past a b c r = let (j, is) = front_whole a b in (j, subst (λ (l : List (Result Ask Error)). Recovers scheme c (after_rows judging past l)) (sym is) r)
+
+  first : (past : List Entry) (row : Result Ask Error) (rows : List (Result Ask Error)) (c : List ℕ) → RecoversEither scheme past (after_row judging past row) c → RecoversFront scheme judging past (row ∷ rows) c
+  first past row rows c (inl r) = (0, r)
+  first past row rows c (inr r) = (1, r)
+
+  -- rows that were answered
+  pub moments_of_runs : (rows : List (Result Ask Error)) (past : List Entry) (old new : D) → IsHonest (disk.tells old) → EachImage (disk.tells old) (λ file. Recovers scheme file past)
+      → Runs disk scheme judging rows past old new → EachMoment (disk.tells old) (disk.tells new) (RecoversFront scheme judging past rows)
+  moments_of_runs rows past old new honest each (begun _ _) = started (disk.tells old) (RecoversFront scheme judging past rows) (λ c since. (0, each c (only old c honest since)))
+  moments_of_runs rows past old new honest each (answered row rest _ _ mid _ link later) =
+      join (disk.tells old) (disk.tells mid) (disk.tells new) (RecoversFront scheme judging past (row ∷ rest))
+      (weaken (disk.tells old) (disk.tells mid) (RecoversEither scheme past (after_row judging past row)) (RecoversFront scheme judging past (row ∷ rest)) (first past row rest) (link.moments honest))
+      (weaken (disk.tells mid) (disk.tells new) (RecoversFront scheme judging (after_row judging past row) rest) (RecoversFront scheme judging past (row ∷ rest)) (λ c r. (suc r.0, r.1))
+      (moments_of_runs rest (after_row judging past row) mid new (subst IsTrue (sym link.honest) honest) (link.images honest) later))
+
+  -- and what their last state leaves
+  pub images_of_runs : (rows : List (Result Ask Error)) (past : List Entry) (old new : D) → IsHonest (disk.tells old) → EachImage (disk.tells old) (λ file. Recovers scheme file past)
+      → Runs disk scheme judging rows past old new → EachImage (disk.tells new) (λ file. Recovers scheme file (after_rows judging past rows))
+  images_of_runs rows past old new honest each (begun _ _) = each
+  images_of_runs rows past old new honest each (answered row rest _ _ mid _ link later) =
+      images_of_runs rest (after_row judging past row) mid new (subst IsTrue (sym link.honest) honest) (link.images honest) later
+
+  -- the state behind a front of them
+  pub runs_split : (front rest : List (Result Ask Error)) (past : List Entry) (old new : D) → IsHonest (disk.tells old) → EachImage (disk.tells old) (λ file. Recovers scheme file past)
+      → Runs disk scheme judging (front ++ rest) past old new
+      → (mid : D) × Runs disk scheme judging front past old mid × Runs disk scheme judging rest (after_rows judging past front) mid new
+      × EachMoment (disk.tells mid) (disk.tells new) (RecoversFront scheme judging (after_rows judging past front) rest)
+  runs_split [] rest past old new honest each runs = (old, begun past old, runs, moments_of_runs rest past old new honest each runs)
+  runs_split (row ∷ front) rest past old new honest each (answered _ _ _ _ at _ link later) =
+      let (mid, before, behind, moments) = runs_split front rest (after_row judging past row) at new (subst IsTrue (sym link.honest) honest) (link.images honest) later in
+      (mid, answered row front past old at mid link before, behind, moments)
+
+  module _ (texts : Texts Ask Verdict Error) (output : Output) where
+    -- rows that were filed, or some of them
+    pub moments_of_files : (rows : List (Result Ask Error)) (ended : Result (Unit {0}) FileStop) (past : List Entry) (old new : D) → IsHonest (disk.tells old) → EachImage (disk.tells old) (λ file. Recovers scheme file past)
+        → Files disk scheme judging texts past old new output rows ended → EachMoment (disk.tells old) (disk.tells new) (RecoversFront scheme judging past rows)
+    moments_of_files rows ended past old new honest each (all _ runs _) = moments_of_runs rows past old new honest each runs
+    moments_of_files rows ended past old new honest each (unwritten front rest row runs _) =
+        subst (λ (l : List (Result Ask Error)). EachMoment (disk.tells old) (disk.tells new) (RecoversFront scheme judging past l)) (append_assoc front (row ∷ []) rest)
+        (weaken (disk.tells old) (disk.tells new) (RecoversFront scheme judging past (front ++ row ∷ [])) (RecoversFront scheme judging past ((front ++ row ∷ []) ++ rest)) (more past (front ++ row ∷ []) rest)
+        (moments_of_runs (front ++ row ∷ []) past old new honest each runs))
+    moments_of_files rows ended past old new honest each (starved front rest runs _) =
+        weaken (disk.tells old) (disk.tells new) (RecoversFront scheme judging past front) (RecoversFront scheme judging past (front ++ rest)) (more past front rest)
+        (moments_of_runs front past old new honest each runs)
+    moments_of_files rows ended past old new honest each (faulted front rest row last undecided runs fault _) =
+        join (disk.tells old) (disk.tells last) (disk.tells new) (RecoversFront scheme judging past (front ++ row ∷ rest))
+        (weaken (disk.tells old) (disk.tells last) (RecoversFront scheme judging past front) (RecoversFront scheme judging past (front ++ row ∷ rest)) (more past front (row ∷ rest))
+        (moments_of_runs front past old last honest each runs))
+        (weaken (disk.tells last) (disk.tells new) (RecoversEither scheme (after_rows judging past front) (after_row judging (after_rows judging past front) row)) (RecoversFront scheme judging past (front ++ row ∷ rest)) at_fault
+        (fault.moments (subst IsTrue (sym (runs-honest judging disk scheme past old last front runs)) honest)))
+      where
+        at_fault : (c : List ℕ) → RecoversEither scheme (after_rows judging past front) (after_row judging (after_rows judging past front) row) c → RecoversFront scheme judging past (front ++ row ∷ rest) c
+        at_fault c (inl r) = whole past front (row ∷ rest) c r
+        at_fault c (inr r) =
+            subst (λ (l : List (Result Ask Error)). RecoversFront scheme judging past l c) (append_assoc front (row ∷ []) rest)
+            (whole past (front ++ row ∷ []) rest c (subst (λ (h : List Entry). Recovers scheme c h) (sym (after_rows-push judging past front row)) r))
+
+    -- a session, whatever it came to, where a file recovers one list at most
+    pub moments_of_opens : ((d : D) → IsHonest (disk.tells d) → (disk.tells d).image (disk.tells d).reads)
+        → ((file : List ℕ) (one other : List Entry) → Recovers scheme file one → Recovers scheme file other → one ≡ other)
+        → (rows : List (Result Ask Error)) (ended : Result (Unit {0}) Stop) (past : List Entry) (old new : D) → IsHonest (disk.tells old) → EachImage (disk.tells old) (λ file. Recovers scheme file past)
+        → Opens disk scheme judging texts old new output rows ended → EachMoment (disk.tells old) (disk.tells new) (RecoversFront scheme judging past rows)
+    moments_of_opens here once rows ended past old new honest each (unopened error not _) =
+        weaken (disk.tells old) (disk.tells new) (λ file. Recovers scheme file past) (RecoversFront scheme judging past rows) (λ c r. (0, r)) (not.moments honest past each)
+    moments_of_opens here once rows ended past old new honest each (opened list at filing is files) =
+        let same : list ≡ past = once (disk.tells old).reads list past (is.recovers honest) (each (disk.tells old).reads (here old honest)) in
+        subst (λ (h : List Entry). EachMoment (disk.tells old) (disk.tells new) (RecoversFront scheme judging h rows)) same
+        (join (disk.tells old) (disk.tells at) (disk.tells new) (RecoversFront scheme judging list rows)
+        (weaken (disk.tells old) (disk.tells at) (λ file. Recovers scheme file list) (RecoversFront scheme judging list rows) (λ c r. (0, r))
+        (is.moments honest (subst (λ (h : List Entry). EachImage (disk.tells old) (λ file. Recovers scheme file h)) (sym same) each)))
+        (moments_of_files rows filing list at new (subst IsTrue (sym is.honest) honest) (is.images honest) files))
+
+    -- what rows leave that were all filed
+    images_of_files : (rows : List (Result Ask Error)) (ended : Result (Unit {0}) FileStop) (past : List Entry) (old new : D) → ended ≡ Ok tt → IsHonest (disk.tells old) → EachImage (disk.tells old) (λ file. Recovers scheme file past)
+        → Files disk scheme judging texts past old new output rows ended → EachImage (disk.tells new) (λ file. Recovers scheme file (after_rows judging past rows))
+    images_of_files rows ended past old new well honest each (all _ runs _) = images_of_runs rows past old new honest each runs
+    images_of_files rows ended past old new well honest each (unwritten front rest row runs _) = absurd (let bad : ⊥ = cc in bad)
+    images_of_files rows ended past old new well honest each (starved front rest runs _) = absurd (let bad : ⊥ = cc in bad)
+    images_of_files rows ended past old new well honest each (faulted front rest row last undecided runs fault _) = absurd (let bad : ⊥ = cc in bad)
+
+    -- and what a session leaves that ended well
+    pub images_of_opens : ((file : List ℕ) (one other : List Entry) → Recovers scheme file one → Recovers scheme file other → one ≡ other)
+        → (rows : List (Result Ask Error)) (ended : Result (Unit {0}) Stop) (past : List Entry) (old new : D) → ended ≡ Ok tt → IsHonest (disk.tells old) → Recovers scheme (disk.tells old).reads past
+        → Opens disk scheme judging texts old new output rows ended → EachImage (disk.tells new) (λ file. Recovers scheme file (after_rows judging past rows))
+    images_of_opens once rows ended past old new well honest reads (unopened error not _) = absurd (let bad : ⊥ = cc in bad)
+    images_of_opens once rows ended past old new well honest reads (opened list at (Err stop) is files) = absurd (let bad : ⊥ = cc in bad)
+    images_of_opens once rows ended past old new well honest reads (opened list at (Ok done) is files) =
+        subst (λ (h : List Entry). EachImage (disk.tells new) (λ file. Recovers scheme file (after_rows judging h rows))) (once (disk.tells old).reads list past (is.recovers honest) reads)
+        (images_of_files rows (Ok done) list at new refl (subst IsTrue (sym is.honest) honest) (is.images honest) files)

@@ -1,0 +1,4 @@
+pub mod Filed
+pub mod Fronts
+pub mod Runs
+pub mod Standing

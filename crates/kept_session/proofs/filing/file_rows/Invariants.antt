@@ -1,0 +1,17 @@
+use Rattle.std.proofs.Common.{◌≡◌, None, length}
+use Rattle.kept_session.proofs.Filed.{HasFiled}
+use Rattle.kept_session.proofs.filing.file_rows.Given as goal
+
+abbrev pub invariant-loop-row : goal.invariant-loop-row
+invariant-loop-row g l = record {
+  filed : HasFiled g.D.Disk g.R.Docket.scheme g.R.Docket.judging g.F.Forms.texts (g.F.Forms.left l.fn.rows) (g.F.Forms.left l.rows) l.fn.kept.history l.kept.history l.fn.kept.disk l.kept.disk
+      (record { honest = g.K.Sink.honest l.fn.out; before = g.K.Sink.text l.fn.out; after = g.K.Sink.text l.out }) l.number;
+  decided : l.kept.pending ≡ None;
+  disk_unmoved : g.D.Disk.faults l.kept.disk ≡ g.D.Disk.faults l.fn.kept.disk;
+  sink_unmoved : g.K.Sink.faults l.out ≡ g.K.Sink.faults l.fn.out;
+  disk_honest : (g.D.Disk.tells l.kept.disk).honest ≡ (g.D.Disk.tells l.fn.kept.disk).honest;
+  sink_honest : g.K.Sink.honest l.out ≡ g.K.Sink.honest l.fn.out;
+}
+
+abbrev pub decreases-loop-row : goal.decreases-loop-row
+decreases-loop-row g l = length (g.F.Forms.left l.rows)

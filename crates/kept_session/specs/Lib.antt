@@ -1,0 +1,5 @@
+pub use Rattle.kept_list.specs.Recovers
+pub mod Edges
+pub mod Texts
+pub mod Links
+pub mod Sessions

@@ -1,0 +1,47 @@
+-- What the rows of a session do to the disk, one after the other.
+use Rattle.std.specs.Prelude.{◌≡◌, ◌+◌, ◌≤◌, ℕ, List, [], ◌∷◌, length, take, Option, Some, None, Result}
+use Rattle.disk_model.specs.Telling.{EachImage, EachMoment, IsHonest, IsQuiet}
+use Rattle.disk_model.specs.declared.disk.Disk.{Ghosts}
+use Rattle.kept_list.specs.Scheme.{Scheme, Judging}
+use Rattle.kept_list.specs.Recovers.{Recovers, RecoversEither}
+use Rattle.kept_session.specs.Texts.{after_row, after_rows}
+
+-- One row was answered: at each moment of its turn each image recovers the list before it or the list after it, and at
+-- the end each image recovers the list after it.
+pub record IsLink {D Entry Ask Verdict Error : Type 0} (disk : Ghosts D) (scheme : Scheme Entry) (judging : Judging Entry Ask Verdict) (row : Result Ask Error) (past : List Entry) (old new : D) : Type 0 where
+  pub honest : (disk.tells new).honest ≡ (disk.tells old).honest
+  pub moments : IsHonest (disk.tells old) → EachMoment (disk.tells old) (disk.tells new) (RecoversEither scheme past (after_row judging past row))
+  pub images : IsHonest (disk.tells old) → EachImage (disk.tells new) (λ file. Recovers scheme file (after_row judging past row))
+
+-- these rows were answered one after the other: a chain of links from one state of the disk to another
+pub data Runs {D Entry Ask Verdict Error : Type 0} (disk : Ghosts D) (scheme : Scheme Entry) (judging : Judging Entry Ask Verdict) : List (Result Ask Error) → List Entry → D → D → Type 0 where
+  begun : (past : List Entry) (at : D) → Runs disk scheme judging [] past at at
+  answered : (row : Result Ask Error) (rows : List (Result Ask Error)) (past : List Entry) (old mid new : D)
+      → IsLink disk scheme judging row past old mid → Runs disk scheme judging rows (after_row judging past row) mid new
+      → Runs disk scheme judging (row ∷ rows) past old new
+
+-- The disk failed in the turn of a row. What the row adds isn't kept, for good; or it is undecided, named by the
+-- position at which it would stand.
+pub record IsFaulted {D Entry Ask Verdict Error : Type 0} (disk : Ghosts D) (scheme : Scheme Entry) (judging : Judging Entry Ask Verdict) (undecided : Option ℕ) (row : Result Ask Error) (past : List Entry) (old new : D) : Type 0 where
+  pub honest : (disk.tells new).honest ≡ (disk.tells old).honest
+  pub adds : length (after_row judging past row) ≡ length past + 1
+  pub named : (position : ℕ) → undecided ≡ Some position → position ≡ length past + 1
+  pub moments : IsHonest (disk.tells old) → EachMoment (disk.tells old) (disk.tells new) (RecoversEither scheme past (after_row judging past row))
+  pub decided : IsHonest (disk.tells old) → undecided ≡ None → EachImage (disk.tells new) (λ file. Recovers scheme file past)
+
+-- The journal was opened: the list is what the disk reads as. Nothing else may be left by a crash then, also where a
+-- crash before the session could have left other images.
+pub record IsOpened {D Entry : Type 0} (disk : Ghosts D) (scheme : Scheme Entry) (past : List Entry) (old new : D) : Type 0 where
+  pub honest : (disk.tells new).honest ≡ (disk.tells old).honest
+  pub recovers : IsHonest (disk.tells old) → Recovers scheme (disk.tells old).reads past
+  pub quiet : IsHonest (disk.tells old) → IsQuiet (disk.tells new)
+  -- this lies in the run, after its beginning
+  pub later : IsHonest (disk.tells old) → (disk.tells old).moment ≤ (disk.tells new).moment
+  pub images : IsHonest (disk.tells old) → EachImage (disk.tells new) (λ file. Recovers scheme file past)
+  -- where each image recovered the list already, as on a quiet disk, each one at each moment does
+  pub moments : IsHonest (disk.tells old) → EachImage (disk.tells old) (λ file. Recovers scheme file past)
+      → EachMoment (disk.tells old) (disk.tells new) (λ file. Recovers scheme file past)
+
+-- the file recovers the list before these rows, with what some of them in front add
+abbrev pub RecoversFront : {Entry Ask Verdict Error : Type 0} → Scheme Entry → Judging Entry Ask Verdict → List Entry → List (Result Ask Error) → List ℕ → Type 0
+RecoversFront scheme judging past rows file = (k : ℕ) × Recovers scheme file (after_rows judging past (take k rows))

@@ -1,0 +1,32 @@
+//! A kept list and a session over numbers that rise: what an office of another kind has to bring.
+#![tactic(auto)]
+
+ghost use Rattle.std.specs.Prelude.{◌≡◌, ◌≤◌, OnOk};
+ghost use Rattle.kept_session.specs.Sessions.{Session};
+ghost use Rattle.rising_tests.specs.Rising.{rising_judging, rising_scheme, rising_texts};
+
+mod forms;
+mod rising;
+#[cfg(test)]
+mod tests;
+
+use aid_edges::{Sink, Source};
+use disk_model::Disk;
+pub use forms::ByteForms;
+use kept_session::{INPUT_LIMIT, Stop, file};
+pub use rising::Rising;
+use std::alloc::Global;
+
+/// Files the numbers of an input into the list of the disk's file, and answers each by a line.
+pub fn file_numbers<D: Disk, S: Source, K: Sink>(
+    alloc: Global,
+    disk: D,
+    input: &mut S,
+    out: &mut K,
+) -> (Result<(), Stop>, D)
+    ensures session { Session D.Disk rising_scheme rising_judging rising_texts INPUT_LIMIT disk result.1
+        (record { honest = S.honest input.old; before = S.left input.old; after = S.left input.new })
+        (record { honest = K.honest out.old; before = K.text out.old; after = K.text out.new }) result.0 }
+{
+    file::<D, S, K, Rising, ByteForms>(alloc, disk, input, out)
+}

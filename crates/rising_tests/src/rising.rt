@@ -1,0 +1,126 @@
+// Numbers that rise, as a docket.
+use filing_journal::Header;
+use kept_list::{Docket, Judged, TakeFault};
+use payload::Room;
+use std::alloc::{AllocError, Global};
+use std::marker::Model;
+
+/// Numbers of one byte of which each is greater than the one before it.
+#[derive(Drop)]
+pub struct Rising {
+    numbers: Vec<u8>,
+    spare: u32,
+}
+
+impl Model for Rising {
+    ghost use Rattle.std.specs.Prelude.{◌+◌, ◌≤◌, ◌<◌, ◌^◌, reverse, vec_len, vec_capacity};
+    ghost use Rattle.rising_tests.specs.Rising.{Numbers, Rises};
+
+    ghost Value = { Numbers };
+
+    ghost view = { λ r. record { list = reverse r.numbers.items; spare = r.spare } };
+
+    ghost invariant = { λ r. Rises (reverse r.numbers.items) × (vec_len r.numbers + r.spare + 1 < 2 ^ 32)
+        × (vec_len r.numbers + r.spare ≤ vec_capacity r.numbers) };
+}
+
+impl Docket for Rising {
+    ghost use Rattle.rising_tests.specs.Rising.{rising_scheme, rising_judging};
+    ghost use Rattle.rising_tests.specs.RisingLaws.{keepable, alone, added_admitted};
+
+    type Entry = u8;
+
+    type Ask = u8;
+
+    type Verdict = bool;
+
+    ghost scheme = { rising_scheme };
+
+    ghost judging = { rising_judging };
+
+    ghost keepable = { keepable };
+
+    ghost alone = { alone };
+
+    ghost none_legal = { tt };
+
+    ghost admitted_legal = { λ past n legal next. (legal, next) };
+
+    ghost legal_admitted = { λ past n legal. legal.1 };
+
+    ghost legal_past = { λ past n legal. legal.0 };
+
+    ghost added_admitted = { added_admitted };
+
+    ghost history = { λ r. r.list };
+
+    ghost spare = { λ r. r.spare };
+
+    fn header() -> Header {
+        Header {
+            name: *b"NUMBERS1",
+            version: 1,
+        }
+    }
+
+    fn new(alloc: Global) -> Rising {
+        Rising {
+            numbers: Vec::new(alloc),
+            spare: 0,
+        }
+    }
+
+    fn front(&self) -> u32 {
+        self.numbers.len() as u32
+    }
+
+    fn reserve(&mut self, n: u32) -> Result<(), AllocError> {
+        if n <= self.spare {
+            return Ok(());
+        }
+        if n >= u32::MAX - self.front() {
+            return Err(AllocError);
+        }
+        self.numbers.reserve(n as usize)?;
+        self.spare = n;
+        Ok(())
+    }
+
+    fn judge(&self, ask: u8) -> Judged<u8, bool> {
+        if self.admits(&ask) {
+            Judged {
+                verdict: true,
+                added: Some(ask),
+            }
+        } else {
+            Judged {
+                verdict: false,
+                added: None,
+            }
+        }
+    }
+
+    fn admits(&self, entry: &u8) -> bool {
+        match self.numbers.last() {
+            Some(last) => *last < *entry,
+            None => true,
+        }
+    }
+
+    fn admit(&mut self, entry: u8) {
+        self.numbers.push_reserved(entry);
+        self.spare -= 1;
+    }
+
+    fn put(entry: &u8, room: &mut Room) {
+        room.clear();
+        room.append(&[*entry]);
+    }
+
+    fn take(_alloc: Global, bytes: &[u8]) -> Result<u8, TakeFault> {
+        match bytes {
+            [number] => Ok(*number),
+            _ => Err(TakeFault::NotEntry),
+        }
+    }
+}
