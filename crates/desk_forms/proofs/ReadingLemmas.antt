@@ -5,15 +5,15 @@ use Rattle.csv.specs.Reading.{ExplainsRead, is_bom, stops_reader, strip_bom}
 use Rattle.csv.specs.declared.error.ErrorKind.{ErrorKind}
 use Rattle.csv.specs.declared.error.ErrorKind.TheVariants as kind
 use Rattle.csv.specs.declared.reader.Reader.{Reader}
-use Rattle.desk_forms.specs.Rows.{row_meaning, rows_from}
+use Rattle.desk_forms.specs.Rows.{row_meaning, meanings_from}
 
 -- one more row
-pub rows_from-append : (n : ℕ) (rows : List (List (List ℕ))) (row : List (List ℕ))
-    → rows_from n (rows ++ row ∷ []) ≡ rows_from n rows ++ row_meaning (n + length rows) row ∷ []
-rows_from-append n [] row = ap (λ k. row_meaning k row ∷ []) (omega arith)
-rows_from-append n (r ∷ rows) row =
+pub meanings_from-append : (n : ℕ) (rows : List (List (List ℕ))) (row : List (List ℕ))
+    → meanings_from n (rows ++ row ∷ []) ≡ meanings_from n rows ++ row_meaning (n + length rows) row ∷ []
+meanings_from-append n [] row = ap (λ k. row_meaning k row ∷ []) (omega arith)
+meanings_from-append n (r ∷ rows) row =
     let same : suc n + length rows ≡ n + suc (length rows) = omega arith in
-    ap (λ more. row_meaning n r ∷ more) (rows_from-append (suc n) rows row ∙ ap (λ k. rows_from (suc n) rows ++ row_meaning k row ∷ []) same)
+    ap (λ more. row_meaning n r ∷ more) (meanings_from-append (suc n) rows row ∙ ap (λ k. meanings_from (suc n) rows ++ row_meaning k row ∷ []) same)
 
 shorter : (b : Bool) (a c : List ℕ) (n : ℕ) → length a ≤ n → length c ≤ n → length (if b then a else c) ≤ n
 shorter true a c n ha hc = ha

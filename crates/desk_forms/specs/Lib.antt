@@ -1,5 +1,5 @@
 pub mod Causes
-pub mod Filings
+pub mod Fields
 pub mod Lines
 pub mod Numbers
 pub mod Rows

@@ -1,5 +1,5 @@
 -- The lines that answer rows. Own format.
-use Rattle.std.specs.Prelude.{ℕ, ◌/◌, ◌%◌, List, [], ◌++◌, ⊤, codes, decimal}
+use Rattle.std.specs.Prelude.{ℕ, ◌/◌, ◌%◌, List, [], ◌++◌, ◌+◌, codes, decimal}
 use Rattle.aid_num.specs.Cents.{cents_text}
 use Rattle.aid_num.specs.Whole.{whole_text}
 use Rattle.aid_types.specs.declared.award.Formula.{Formula}
@@ -11,6 +11,8 @@ use Rattle.aid_replies.specs.declared.reply.Outcome.TheVariants.{Noted, Indexed,
 use Rattle.aid_types.specs.declared.award.Refusal.{Refusal}
 use Rattle.aid_replies.specs.declared.reply.Reply.{Reply}
 use Rattle.aid_replies.specs.declared.reply.Reply.TheVariants.{Accepted, Again, Refused, Quoted, Standing, DiskFault, NoMemory}
+use Rattle.aid_replies.specs.declared.reply.Verdict.{Verdict}
+use Rattle.aid_replies.specs.declared.reply.Verdict.TheVariants as verdicts
 use Rattle.desk_forms.specs.Causes.{number_of}
 use Rattle.desk_forms.specs.declared.error.RowError.{RowError}
 
@@ -49,17 +51,15 @@ abbrev pub refused_text : ℕ → ℕ → Refusal → List ℕ
 refused_text row front refusal =
     decimal row ++ codes " " ++ decimal front ++ codes " refused " ++ decimal refusal.rule ++ codes " " ++ decimal refusal.kept ++ codes " " ++ decimal refusal.bound ++ codes "\n"
 
--- the reply answers a filing, so there is a line for it
-abbrev pub HasLine : Reply → Type 0
-HasLine (Accepted position front outcome) = ⊤
-HasLine (Again position front outcome) = ⊤
-HasLine (Refused refusal front) = ⊤
-HasLine (Quoted cents front) = ⊥
-HasLine (Standing row front) = ⊥
-HasLine (DiskFault undecided) = ⊥
-HasLine NoMemory = ⊥
+-- the reply to an ask, where so many filings stood before it
+abbrev pub reply_of : ℕ → Verdict → Reply
+reply_of front (verdicts.Again position outcome) = Again position front outcome
+reply_of front (verdicts.Refused refusal) = Refused refusal front
+reply_of front (verdicts.Admit outcome) = Accepted (front + 1) front outcome
+reply_of front (verdicts.Quoted cents) = Quoted cents front
+reply_of front (verdicts.Standing row) = Standing row front
 
--- the line of a reply
+-- the line of a reply that answers a filing; the others have none
 abbrev pub line_of : ℕ → Reply → List ℕ
 line_of row (Accepted position front outcome) = standing_text row front (codes " accepted ") position outcome
 line_of row (Again position front outcome) = standing_text row front (codes " again ") position outcome

@@ -8,9 +8,9 @@ pub enum Cause {
     UnknownKind,
     /// There are more or fewer fields than the kind has.
     WrongCount,
-    /// A field spells no number.
+    /// A field's text isn't spelled as its form is.
     Spelling,
-    /// A field's number is past its limit.
+    /// A field's number is out of range or past its limit, or there is no such day.
     Range,
 }
 

@@ -3,24 +3,39 @@ ghost use Rattle.std.specs.Prelude.{◌≡◌, ◌+◌, ◌<◌, ◌≤◌, [], 
 ghost use Rattle.arrayvec.specs.ArrayString.{array_string_len};
 ghost use Rattle.aid_num.specs.Cents.{cents_text};
 ghost use Rattle.aid_num.specs.Whole.{whole_text};
-ghost use Rattle.desk_forms.specs.Lines.{HasLine, error_line, formula_text, line_of, outcome_text, percent_text, refused_text, standing_text, way_text};
+ghost use Rattle.desk_forms.specs.Lines.{error_line, formula_text, line_of, outcome_text, percent_text, refused_text, reply_of, standing_text, way_text};
 
 use crate::error::RowError;
-use aid_replies::{Outcome, Reply};
+use aid_replies::{Outcome, Reply, Verdict};
 use aid_types::{Formula, Refusal, Way};
 use arrayvec::ArrayString;
 use itoa::Buffer;
 use std::alloc::AllocError;
 
-/// Appends the line that answers a row, counted from 1. The reply is that a filing was accepted, again or refused.
-/// Where the vector has room for 160 more bytes no memory is taken.
+/// Appends the line that answers a row, counted from 1, where the reply is that a filing was accepted, again or refused,
+/// and nothing at other replies. Where the vector has room for 160 more bytes no memory is taken.
 pub fn put_line(row: u32, reply: &Reply, out: &mut Vec<u8>) -> Result<(), AllocError>
-    requires { HasLine reply.now }
     ensures ok { OnOk result (out.new.items ≡ out.old.items ++ line_of row reply.now) }
     ensures err { OnErr result (out.new.items ≡ out.old.items) }
     ensures room { vec_len out.old + 160 ≤ vec_capacity out.old → IsOk result }
 {
     let line = line_text(row, reply);
+    out.extend_from_slice(line.as_str().as_bytes())
+}
+
+/// Appends the line that answers a row by the verdict on its filing, where `front` filings stood before it. Where the
+/// vector has room for 160 more bytes no memory is taken.
+pub fn put_answer(
+    row: u32,
+    front: u32,
+    verdict: &Verdict,
+    out: &mut Vec<u8>,
+) -> Result<(), AllocError>
+    ensures ok { OnOk result (out.new.items ≡ out.old.items ++ line_of row (reply_of front verdict.now)) }
+    ensures err { OnErr result (out.new.items ≡ out.old.items) }
+    ensures room { vec_len out.old + 160 ≤ vec_capacity out.old → IsOk result }
+{
+    let line = answer_text(row, front, verdict);
     out.extend_from_slice(line.as_str().as_bytes())
 }
 
@@ -42,7 +57,6 @@ pub fn put_error(error: &RowError, out: &mut Vec<u8>) -> Result<(), AllocError>
 
 // The line of a reply.
 fn line_text(row: u32, reply: &Reply) -> ArrayString<160>
-    requires { HasLine reply.now }
     ensures { result.bytes ≡ line_of row reply.now }
 {
     match reply {
@@ -50,17 +64,31 @@ fn line_text(row: u32, reply: &Reply) -> ArrayString<160>
             position,
             front,
             outcome,
-        } => standing_line(row, *front, " accepted ", *position, outcome),
+        } => standing_line(row, *front, " accepted ", u64::from(*position), outcome),
         Reply::Again {
             position,
             front,
             outcome,
-        } => standing_line(row, *front, " again ", *position, outcome),
+        } => standing_line(row, *front, " again ", u64::from(*position), outcome),
         Reply::Refused { refusal, front } => refused_line(row, *front, refusal),
-        Reply::Quoted { .. } => unreachable!(),
-        Reply::Standing { .. } => unreachable!(),
-        Reply::DiskFault { .. } => unreachable!(),
-        Reply::NoMemory => unreachable!(),
+        Reply::Quoted { .. } | Reply::Standing { .. } | Reply::DiskFault { .. } | Reply::NoMemory =>
+            ArrayString::new(),
+    }
+}
+
+// The line of a verdict.
+fn answer_text(row: u32, front: u32, verdict: &Verdict) -> ArrayString<160>
+    ensures { result.bytes ≡ line_of row (reply_of front verdict.now) }
+{
+    match verdict {
+        Verdict::Admit(outcome) => {
+            standing_line(row, front, " accepted ", u64::from(front) + 1, outcome)
+        }
+        Verdict::Again { position, outcome } => {
+            standing_line(row, front, " again ", u64::from(*position), outcome)
+        }
+        Verdict::Refused(refusal) => refused_line(row, front, refusal),
+        Verdict::Quoted(_) | Verdict::Standing(_) => ArrayString::new(),
     }
 }
 
@@ -69,7 +97,7 @@ fn standing_line(
     row: u32,
     front: u32,
     answer: &str,
-    position: u32,
+    position: u64,
     outcome: &Outcome,
 ) -> ArrayString<160>
     requires { length answer.now ≤ 10 }
@@ -80,7 +108,7 @@ fn standing_line(
     line.push_str(" ");
     push_count(&mut line, front);
     line.push_str(answer);
-    push_count(&mut line, position);
+    push_number(&mut line, position);
     line.push_str(" ");
     push_outcome(&mut line, outcome);
     line.push_str("\n");

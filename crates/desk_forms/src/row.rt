@@ -1,24 +1,25 @@
 //! The filing of a row.
 ghost use Rattle.std.specs.Prelude.{◌≡◌, ◌+◌, ◌≤◌, [], true, drop, option_and_then};
 ghost use Rattle.csv.specs.Records.{field_at, fields_of as texts_of};
-ghost use Rattle.filing_kinds.specs.Kinds.{kind_named as kind_of_name, slots_of_kind};
-ghost use Rattle.desk_forms.specs.Numbers.{number_spelled, numbers_from, numbers_so_far, refused as refusal};
-ghost use Rattle.desk_forms.specs.Rows.{has_rows, row_meaning, row_said};
+ghost use Rattle.filing_kinds.specs.Forms.{most_numbers};
+ghost use Rattle.filing_kinds.specs.Kinds.{kind_named as kind_of_name};
+ghost use Rattle.filing_kinds.specs.Walk.{numbers_drafted, numbers_of_kind};
+ghost use Rattle.desk_forms.specs.Numbers.{cause_of as cause_of_text, number_spelled, refused as refusal, row_source};
+ghost use Rattle.desk_forms.specs.Rows.{has_rows, row_meaning, row_of_kind, said};
 
+use crate::count::has_fields;
 use crate::error::{Cause, RowError};
+use crate::field::number_in;
 use aid_filings::Filing;
-use aid_num::{Malformed, read_whole};
+use aid_num::Malformed;
 use csv::ByteRecord;
-use filing_kinds::{Draft, Kind, kind_named, row as table_row};
+use filing_kinds::{Draft, Form, Kind, kind_named};
 use filing_numbers::filing_of;
 use std::alloc::Global;
 
-/// The kinds that have rows so far.
-const ROW_KINDS: [Kind; 2] = [Kind::School, Kind::Prior];
-
-/// The filing of a row, or why it is none.
+/// The filing of a row, or why it is none. It takes no memory.
 pub fn filing_of_row(alloc: Global, row: u32, texts: &ByteRecord) -> Result<Filing, RowError>
-    ensures { result ≡ row_meaning row (texts_of texts.now) }
+    ensures { said result ≡ row_meaning row (texts_of texts.now) }
 {
     match kind_at_start(texts) {
         Some(kind) if is_row_kind(kind) => filing_of_kind(alloc, row, texts, kind),
@@ -36,10 +37,11 @@ fn kind_at_start(texts: &ByteRecord) -> Option<Kind>
     }
 }
 
+// A book is a text of its own.
 fn is_row_kind(kind: Kind) -> bool
     ensures { result ≡ has_rows kind }
 {
-    ROW_KINDS.contains(&kind)
+    kind != Kind::Book
 }
 
 // The filing of a row of a kind.
@@ -50,10 +52,9 @@ fn filing_of_kind(
     kind: Kind,
 ) -> Result<Filing, RowError>
     requires { has_rows kind ≡ true }
-    ensures { result ≡ row_said row (texts_of texts.now) kind }
+    ensures { said result ≡ row_of_kind row kind (drop 1 (texts_of texts.now)) }
 {
-    // The kind's name, the school and the number come before the kind's own fields.
-    if texts.len() != table_row(kind).parts.len() + 3 {
+    if !has_fields(kind, texts) {
         return Err(refused(row, 0, Cause::WrongCount));
     }
     let draft = numbers_of(row, texts, kind)?;
@@ -65,12 +66,12 @@ fn filing_of_kind(
 
 // The numbers of all fields after the kind's name.
 fn numbers_of(row: u32, texts: &ByteRecord, kind: Kind) -> Result<Draft, RowError>
-    ensures { numbers_so_far result ≡ numbers_from row (slots_of_kind kind) [] (drop 1 (texts_of texts.now)) }
+    ensures { numbers_drafted result ≡ numbers_of_kind (row_source row) kind (drop 1 (texts_of texts.now)) }
 {
     let mut draft = Draft::new(kind);
-    while let Some(_) = draft.next() {
+    while let Some(field) = draft.next() {
         let before = draft.numbers().len();
-        let number = number_at(row, texts, before)?;
+        let number = number_at(row, texts, before, field.form)?;
         if !draft.push(number) {
             return Err(refused(row, before as u16 + 2, Cause::Range));
         }
@@ -78,19 +79,28 @@ fn numbers_of(row: u32, texts: &ByteRecord, kind: Kind) -> Result<Draft, RowErro
     Ok(draft)
 }
 
-// The number that the field behind so many others spells.
-fn number_at(row: u32, texts: &ByteRecord, before: usize) -> Result<i64, RowError>
-    requires { before ≤ 369 }
-    ensures { result ≡ number_spelled row (before + 2) (field_at (texts_of texts.now) (before + 1)) }
+// The number that the field behind so many others spells in its form.
+fn number_at(row: u32, texts: &ByteRecord, before: usize, form: Form) -> Result<i64, RowError>
+    requires { before ≤ most_numbers }
+    ensures { result ≡ number_spelled row (before + 2) form (field_at (texts_of texts.now) (before + 1)) }
 {
     let Some(text) = texts.get(before + 1) else {
         return Err(refused(row, 0, Cause::WrongCount));
     };
     let place = before as u16 + 2;
-    match read_whole(text, i64::MIN, i64::MAX) {
+    match number_in(form, text) {
         Ok(number) => Ok(number),
-        Err(Malformed::Spelling) => Err(refused(row, place, Cause::Spelling)),
-        Err(Malformed::Range) => Err(refused(row, place, Cause::Range)),
+        Err(malformed) => Err(refused(row, place, cause_of(malformed))),
+    }
+}
+
+// The cause that a text is no number of its field.
+fn cause_of(malformed: Malformed) -> Cause
+    ensures { result ≡ cause_of_text malformed }
+{
+    match malformed {
+        Malformed::Spelling => Cause::Spelling,
+        Malformed::Range => Cause::Range,
     }
 }
 

@@ -1,7 +1,7 @@
 //! The filings of a text of rows.
 ghost use Rattle.std.specs.Prelude.{◌≡◌, ◌≢◌, ◌≤◌, [], ◌∷◌, ◌++◌, true, IfOk, IsTrue, length};
 ghost use Rattle.csv.specs.Reading.{stops_reader};
-ghost use Rattle.desk_forms.specs.Rows.{rows_of_text};
+ghost use Rattle.desk_forms.specs.Rows.{AreRowsOf};
 
 use crate::error::RowError;
 use crate::row::filing_of_row;
@@ -47,7 +47,7 @@ enum Fault {
 /// The rows of a text of comma-separated values. They are read one at a time, and only what each of them says is kept.
 pub fn rows_of(alloc: Global, text: &[u8]) -> Result<Rows, AllocError>
     requires { length text.now ≤ 16777216 }
-    ensures rows { IfOk result (λ rows. rows ≡ rows_of_text text.now) }
+    ensures rows { IfOk result (λ rows. AreRowsOf text.now rows) }
 {
     match read_rows(alloc, text) {
         Ok(rows) => Ok(Rows { rows }),
@@ -58,7 +58,7 @@ pub fn rows_of(alloc: Global, text: &[u8]) -> Result<Rows, AllocError>
 // The rows of a text, which nothing but want of memory keeps.
 fn read_rows(alloc: Global, text: &[u8]) -> Result<Vec<Result<Filing, RowError>>, Fault>
     requires { length text.now ≤ 16777216 }
-    ensures rows { IfOk result (λ rows. rows.items ≡ rows_of_text text.now) }
+    ensures rows { IfOk result (λ rows. AreRowsOf text.now rows.items) }
     ensures fault { result ≢ Err Fault.Other }
 {
     let reader = ReaderBuilder::new()

@@ -1,36 +1,36 @@
-use Rattle.std.proofs.Common.{◌≡◌, ◌≢◌, suc, length, sym, ap, ◌∙◌, arith}
-use Rattle.std.proofs.lemmas.List.{length-map}
+use Rattle.std.proofs.Common.{◌≡◌, false, true, drop, sym, ap, ◌∙◌}
+use Rattle.std.specs.Prelude.{Ok, Err}
 use Rattle.std.proofs.lemmas.Result.{err_from_is_err_and}
 use Rattle.csv.specs.Records.{fields_of as texts_of}
 use Rattle.filing_kinds.specs.Kinds.{slots_of_kind}
-use Rattle.filing_kinds.specs.Parts.{slot_of}
-use Rattle.desk_forms.specs.Numbers.{numbers_so_far}
-use Rattle.desk_forms.proofs.RowsLemmas.{read-are, row_said-ok, row_said-refused, row_said-wrong_count}
+use Rattle.filing_kinds.specs.Walk.{numbers_drafted}
+use Rattle.desk_forms.specs.Fields.{are_as_many}
+use Rattle.desk_forms.proofs.RowsLemmas.{read-are, right_count, wrong_count}
 use Rattle.desk_forms.proofs.row.filing_of_kind.Goals as goal
 
-pub returns-then-len-row : goal.returns-then-len-row
-returns-then-len-row c =
-    let same = sym (length-map c.row.result.parts.now slot_of) ∙ ap length c.row.ensures.parts in
-    let test = c.if-len-row.true in
-    let ne : length (texts_of c.args.texts.now) ≢ suc (length (slots_of_kind c.args.kind)) = λ e. test (omega (arith, same, c.len.ensures, e)) in
-    rw c.refused.ensures (sym (row_said-wrong_count c.args.row (texts_of c.args.texts.now) c.args.kind c.requires ne))
+pub returns-then-not-has_fields : goal.returns-then-not-has_fields
+returns-then-not-has_fields c =
+    let texts = drop 1 (texts_of c.args.texts.now) in
+    let many : are_as_many (slots_of_kind c.args.kind) texts ≡ false = sym c.has_fields.ensures ∙ c.if-not-has_fields.true in
+    ap Err c.refused.ensures ∙ sym (wrong_count c.args.row c.args.kind texts many)
 
 pub returns-in_err-draft : goal.returns-in_err-draft
 returns-in_err-draft c =
+    let texts = drop 1 (texts_of c.args.texts.now) in
     let p = err_from_is_err_and c.from_residual.result c.from_residual.ensures.1 in
-    let same = sym (length-map c.row.result.parts.now slot_of) ∙ ap length c.row.ensures.parts in
-    let eq : length (texts_of c.args.texts.now) ≡ suc (length (slots_of_kind c.args.kind)) = omega (arith, same, c.len.ensures, c.if-len-row.false) in
-    let read = sym c.numbers_of.ensures ∙ ap numbers_so_far c.in_err-draft.was in
-    rw (p.1, p.2) (sym (row_said-refused c.args.row (texts_of c.args.texts.now) c.args.kind c.in_err-draft.field-0.0 c.requires eq read))
+    let many : are_as_many (slots_of_kind c.args.kind) texts ≡ true = sym c.has_fields.ensures ∙ c.if-not-has_fields.false in
+    let read = sym c.numbers_of.ensures ∙ ap numbers_drafted c.in_err-draft.was in
+    rw (p.1, p.2) (sym (right_count c.args.row c.args.kind texts (Err c.in_err-draft.field-0.0) many read))
 
 pub filing_of-requires : goal.filing_of-requires
 filing_of-requires c =
-    let read = sym c.numbers_of.ensures ∙ ap numbers_so_far c.in_ok-draft.was in
-    record { in_range = rw c.numbers.ensures.numbers (read-are c.args.row (texts_of c.args.texts.now) c.args.kind _ read) }
+    let read = sym c.numbers_of.ensures ∙ ap numbers_drafted c.in_ok-draft.was in
+    record { in_range = rw c.numbers.ensures.numbers (read-are c.args.row c.args.kind (drop 1 (texts_of c.args.texts.now)) _ read) }
 
 pub returns : goal.returns
 returns c =
-    let same = sym (length-map c.row.result.parts.now slot_of) ∙ ap length c.row.ensures.parts in
-    let eq : length (texts_of c.args.texts.now) ≡ suc (length (slots_of_kind c.args.kind)) = omega (arith, same, c.len.ensures, c.if-len-row.false) in
-    let read = sym c.numbers_of.ensures ∙ ap numbers_so_far c.in_ok-draft.was in
-    sym (row_said-ok c.args.row (texts_of c.args.texts.now) c.args.kind _ c.in-Ok.filing c.requires eq read c.in-Ok.ensures.kind (c.in-Ok.ensures.value ∙ c.numbers.ensures.numbers))
+    let texts = drop 1 (texts_of c.args.texts.now) in
+    let many : are_as_many (slots_of_kind c.args.kind) texts ≡ true = sym c.has_fields.ensures ∙ c.if-not-has_fields.false in
+    let read = sym c.numbers_of.ensures ∙ ap numbers_drafted c.in_ok-draft.was in
+    let numbers = c.in-Ok.ensures.value ∙ c.numbers.ensures.numbers in
+    (λ i. Ok (c.in-Ok.ensures.kind i, numbers i)) ∙ sym (right_count c.args.row c.args.kind texts _ many read)

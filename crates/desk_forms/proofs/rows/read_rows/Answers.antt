@@ -1,11 +1,11 @@
 use Rattle.std.proofs.Common.{Bor, List, ℕ, ◌≡◌, ◌∙◌, sym, refl, rules, inl, inr, true, Some, ◌∷◌, ◌++◌, [], ap, arith, ◌+◌, ◌<◌}
-use Rattle.std.proofs.lemmas.List.{length-append}
+use Rattle.std.proofs.lemmas.List.{length-append, map-append}
 use Rattle.csv.specs.Reading.{Reached, default_config, strip_bom}
 use Rattle.csv.specs.Records.{fields_of}
 use Rattle.csv.specs.declared.parser.State.TheVariants as st
 use Rattle.csv.proofs.ReadFacts.{rows-end, rows-more}
-use Rattle.desk_forms.specs.Rows.{rows_from}
-use Rattle.desk_forms.proofs.ReadingLemmas.{rows_from-append, strip_bom-short}
+use Rattle.desk_forms.specs.Rows.{meanings_from, said}
+use Rattle.desk_forms.proofs.ReadingLemmas.{meanings_from-append, strip_bom-short}
 use Rattle.desk_forms.proofs.RecordsLemmas.{are_records, reached_short}
 use Rattle.desk_forms.proofs.rows.read_rows.Goals as goal
 
@@ -56,7 +56,7 @@ loop-row-preserved c =
       m.1,
       inv.6 ++ row ∷ [],
       m.2,
-      rw (items, rows_from-append 1 inv.6 row, ← inv.8, ← inv.9, c.filing_of_row.ensures) refl,
+      rw (items, map-append said c.loop-row.rows.items (c.filing_of_row.result ∷ []), meanings_from-append 1 inv.6 row, ← inv.8, ← inv.9, c.filing_of_row.ensures) refl,
       omega (arith, inv.9, length-append inv.6 (row ∷ [])),
       same,
     )
@@ -67,4 +67,4 @@ returns-clause-rows c =
     let s = rw c.in-None.is at ((c.next.ensures.steps inv.2 inv.0).0 inv.1) in
     let last = rows-end (λ (s : Bor (List ℕ)). Some s.now) c.loop-row.row-iterator.rdr c.next.new.self.rdr [] default_config inv.4 inv.3 inv.5 s in
     let whole = are_records default_config (strip_bom c.args.text.now) inv.6 (c.loop-row.row-iterator.rdr.state, inv.4, inv.7, last) in
-    inv.8 ∙ ap (rows_from 1) whole
+    inv.8 ∙ ap (meanings_from 1) whole

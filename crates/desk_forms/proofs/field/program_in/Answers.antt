@@ -1,0 +1,23 @@
+use Rattle.std.proofs.Common.{◌≡◌, ◌<◌, [], pos, sym, refl, ap, ◌∙◌, arith, w64, to_z, bytes_eq}
+use Rattle.std.specs.Prelude.{Some, Ok}
+use Rattle.std.specs.List.{position}
+use Rattle.std.proofs.lemmas.Int.{to_z_pos}
+use Rattle.std.proofs.lemmas.List.Quantifiers.{position-Some}
+use Rattle.filing_kinds.specs.Kinds.{words_of_programs}
+use Rattle.desk_forms.specs.Fields.{place_number}
+use Rattle.desk_forms.proofs.FieldsLemmas.{place_of-words}
+use Rattle.desk_forms.proofs.field.program_in.Goals as goal
+
+pub returns-in-Some : goal.returns-in-Some
+returns-in-Some c =
+    let place = c.in-Some.place in
+    let there : position (λ word. bytes_eq word c.args.text.now) words_of_programs ≡ Some place =
+    sym (place_of-words c.program_words.result.now c.args.text.now c.program_words.ensures) ∙ sym c.place_of.ensures ∙ c.in-Some.is in
+    let few : place < 6 = (position-Some (λ word. bytes_eq word c.args.text.now) words_of_programs place [] there).0 in
+    let number : to_z w64 place ≡ pos place = to_z_pos w64 place (omega (arith, few)) in
+    rw (there, number) (let same : Ok (pos place) ≡ Ok (pos place) = refl in same)
+
+pub returns-in-None : goal.returns-in-None
+returns-in-None c =
+    let none = sym (place_of-words c.program_words.result.now c.args.text.now c.program_words.ensures) ∙ sym c.place_of.ensures ∙ c.in-None.is in
+    ap place_number (sym none)
