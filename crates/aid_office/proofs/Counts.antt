@@ -1,11 +1,14 @@
 -- How many rows a text has.
-use Rattle.std.proofs.Common.{◌≡◌, ℕ, zero, suc, ◌+◌, ◌≤◌, List, [], ◌∷◌, length, Option, Some, None, refl, ap, arith}
+use Rattle.std.proofs.Common.{◌≡◌, ℕ, zero, suc, ◌+◌, ◌≤◌, List, [], ◌∷◌, length, Option, Some, None, Result, refl, ap, arith}
+use Rattle.std.proofs.lemmas.List.{length-map}
 use Rattle.csv.specs.Reading.{default_config, records, records_from, records_next, strip_bom}
 use Rattle.csv.specs.Machine.{Read, next_record}
 use Rattle.csv.specs.declared.parser.Config.{Config}
 use Rattle.csv.specs.declared.parser.State.{State}
 use Rattle.csv.specs.declared.parser.State.TheVariants as st
-use Rattle.desk_forms.specs.Rows.{rows_from, rows_of_text}
+use Rattle.aid_filings.specs.declared.filing.Filing.{Filing}
+use Rattle.desk_forms.specs.declared.error.RowError.{RowError}
+use Rattle.desk_forms.specs.Rows.{AreRowsOf, meanings_from, said}
 use Rattle.desk_forms.proofs.ReadingLemmas.{strip_bom-short}
 
 -- a read gives at most one record more
@@ -18,16 +21,18 @@ unfolding records_from
 records_from-few cfg zero s xs = omega arith
 records_from-few cfg (suc n) s xs = records_next-few n (records_from cfg n) (records_from-few cfg n) (next_record cfg s [] [] xs)
 
-rows_from-length : (n : ℕ) (rows : List (List (List ℕ))) → length (rows_from n rows) ≡ length rows
-rows_from-length n [] = refl
-rows_from-length n (texts ∷ rows) = ap suc (rows_from-length (suc n) rows)
+meanings_from-length : (n : ℕ) (rows : List (List (List ℕ))) → length (meanings_from n rows) ≡ length rows
+meanings_from-length n [] = refl
+meanings_from-length n (texts ∷ rows) = ap suc (meanings_from-length (suc n) rows)
 
 -- at most one more than it has bytes
-pub rows_of_text-few : (text : List ℕ) → length (rows_of_text text) ≤ length text + 1
-rows_of_text-few text =
+pub rows-few : (text : List ℕ) (rows : List (Result Filing RowError)) → AreRowsOf text rows → length rows ≤ length text + 1
+rows-few text rows are =
     omega (
       arith,
-      rows_from-length 1 (records default_config (strip_bom text)),
+      length-map rows said,
+      ap length are,
+      meanings_from-length 1 (records default_config (strip_bom text)),
       records_from-few default_config (length (strip_bom text) + 1) st.StartRecord (strip_bom text),
       strip_bom-short text,
     )

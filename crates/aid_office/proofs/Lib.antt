@@ -1,8 +1,4 @@
-pub mod Counts
 pub mod Complete
-pub mod Reasons
-pub mod Statuses
-pub mod Texts
-pub mod Turned
+pub mod Counts
+pub mod Ending
 pub mod Usage
-pub mod Standing

@@ -1,5 +1,4 @@
 pub mod Words
-pub mod FileText
-pub mod Refusals
-pub mod Ending
-pub mod RowStops
+pub mod DeskTexts
+pub mod Statuses
+pub mod Ran

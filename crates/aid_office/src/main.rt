@@ -1,15 +1,17 @@
 //! The program of a federal student aid office: its words, its journal, what it reads and what it writes.
 #![tactic(auto)]
 
-mod rows;
-mod session;
+mod forms;
+mod run;
 mod stop;
 #[cfg(test)]
 mod tests;
 
 use aid_edges::{ReadEdge, WriteEdge};
 use disk_model::HostDisk;
-use session::{end, run};
+use kept_office::OpenError;
+use kept_session::ReadStop;
+use run::{end, run};
 use std::fs::{File, OpenOptions, TryLockError};
 use std::io::ErrorKind;
 use std::process::ExitCode;
@@ -75,7 +77,7 @@ fn main(rt: HostRuntime) -> ExitCode {
     let mut words = match words_of(&rt) {
         Ok(words) => words,
         Err(error) if error.kind() == ErrorKind::OutOfMemory => {
-            return ExitCode::from(end(Err(Stop::NoMemory), &mut out));
+            return ExitCode::from(end(Err(Stop::File(ReadStop::NoMemory.into())), &mut out));
         }
         // A word that is no text is no row of words.
         Err(_) => return ExitCode::from(end(Err(Stop::Usage), &mut out)),
@@ -84,7 +86,7 @@ fn main(rt: HostRuntime) -> ExitCode {
         return ExitCode::from(Stop::Usage.status());
     }
     let path = words.remove(0);
-    let disk_fault = ExitCode::from(Stop::DiskFault { undecided: None }.status());
+    let disk_fault = ExitCode::from(Stop::File(OpenError::DiskFault.into()).status());
     let Ok(file) = open(&rt, path.as_str()) else {
         return disk_fault;
     };

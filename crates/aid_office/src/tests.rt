@@ -1,7 +1,8 @@
 // What no clause says: worked texts and files, that memory suffices for them, and what each fault leaves.
-use crate::session::{INPUT_LIMIT, run};
+use crate::run::run;
 use aid_edges::{MemorySink, MemorySource, SteadySource};
 use disk_model::{Fill, MemoryDisk, Stop};
+use kept_session::INPUT_LIMIT;
 use std::alloc::{AllocError, Global};
 use std::test::Fail;
 
@@ -108,14 +109,14 @@ fn disk_faults_end_a_run(rt: HostRuntime) -> Result<(), Fail> {
     let alloc = rt.alloc();
     // The first filing is put by two calls, kept by two more, and so is the second.
     let rows: [(u64, &[u8]); 8] = [
-        (9, b"fault disk none\n"),
-        (10, b"fault disk none\n"),
-        (11, b"fault disk 3\n"),
-        (12, b"fault disk 3\n"),
-        (13, b"1 2 accepted 3 noted\nfault disk none\n"),
-        (14, b"1 2 accepted 3 noted\nfault disk none\n"),
-        (15, b"1 2 accepted 3 noted\nfault disk 4\n"),
-        (16, b"1 2 accepted 3 noted\nfault disk 4\n"),
+        (5, b"fault disk none\n"),
+        (6, b"fault disk none\n"),
+        (7, b"fault disk 3\n"),
+        (8, b"fault disk 3\n"),
+        (9, b"1 2 accepted 3 noted\nfault disk none\n"),
+        (10, b"1 2 accepted 3 noted\nfault disk none\n"),
+        (11, b"1 2 accepted 3 noted\nfault disk 4\n"),
+        (12, b"1 2 accepted 3 noted\nfault disk 4\n"),
     ];
     let input = b"prior,0,7,5007,1\nprior,0,8,5008,1\n".as_slice();
     for (call, text) in rows {
@@ -146,7 +147,7 @@ fn a_stop_loses_nothing(rt: HostRuntime) -> Result<(), Fail> {
     ];
     for (byte, text) in rows {
         let stop = Some(Stop {
-            call: 11,
+            call: 7,
             fill: Fill::With(byte),
         });
         let (status, sink, left) = ran(alloc, "file", input, disk(alloc, BOTH, &[], stop)?, &[])?;

@@ -1,5 +1,5 @@
 use Rattle.std.proofs.Common.{◌≡◌, ◌<◌, ◌≤◌, ◌∙◌, List, [], ◌∷◌, ap, arith, get_or, length, map, string_bytes, sym, Global}
-use Rattle.aid_office.proofs.session.are_word.Goals as goal
+use Rattle.aid_office.proofs.run.are_word.Goals as goal
 
 -- a list of length 1
 single : {X : Type 0} (xs : List X) (x : X) → 1 ≤ length xs → length xs < 2 → x ≡ get_or xs 0 x → xs ≡ x ∷ []
