@@ -11,7 +11,7 @@ fn main(rt: HostRuntime) -> io::Result<()> {
     println!(rt;
         "and has no columns. Bytes have the code of the kind, and then the same numbers in the same order."
     )?;
-    println!(rt; "The program reads rows of school and prior so far.")?;
+    println!(rt; "The program reads rows of each kind that stands here.")?;
     for code in 2..=u8::MAX {
         if let Some(kind) = kind_at(code) {
             print_kind(&rt, kind)?;
