@@ -1,7 +1,7 @@
 // What no clause says: worked texts and files, that memory suffices for them, and what each fault leaves.
 use crate::run::run;
 use aid_edges::{MemorySink, MemorySource, SteadySource};
-use disk_model::{Fill, MemoryDisk, Stop};
+use disk_model::{DiskStop, Fill, MemoryDisk};
 use kept_session::INPUT_LIMIT;
 use std::alloc::{AllocError, Global};
 use std::test::Fail;
@@ -30,7 +30,7 @@ fn disk(
     alloc: Global,
     bytes: &[u8],
     failing: &[u64],
-    stop: Option<Stop>,
+    stop: Option<DiskStop>,
 ) -> Result<MemoryDisk, Fail> {
     Ok(MemoryDisk::new(alloc, bytes.to_vec(alloc)?, failing.to_vec(alloc)?, stop)?)
 }
@@ -146,7 +146,7 @@ fn a_stop_loses_nothing(rt: HostRuntime) -> Result<(), Fail> {
         (7, b"1 2 accepted 3 noted\n"),
     ];
     for (byte, text) in rows {
-        let stop = Some(Stop {
+        let stop = Some(DiskStop {
             call: 7,
             fill: Fill::With(byte),
         });

@@ -2,7 +2,7 @@
 use Rattle.std.specs.Prelude.{ℕ, List, Option, Some, None, ◌==◌, nat_eq, nat_lt, if◌then◌else◌}
 use Rattle.std.specs.List.{list_any}
 use Rattle.disk_model.specs.declared.stop.Fill.TheVariants.{Unwritten}
-use Rattle.disk_model.specs.declared.stop.Stop.{Stop}
+use Rattle.disk_model.specs.declared.stop.DiskStop.{DiskStop}
 use Rattle.disk_model.specs.declared.stop.Turn.{Turn}
 use Rattle.disk_model.specs.declared.stop.Turn.TheVariants.{Works, Fails}
 
@@ -11,6 +11,6 @@ abbrev pub turn_by : List ℕ → ℕ → Turn
 turn_by failing call = if list_any (λ n. nat_eq n call) failing then Fails Unwritten else Works
 
 -- where the disk stops it leaves what the stop says, and after that nothing
-abbrev pub turn_of : List ℕ → Option Stop → ℕ → Turn
+abbrev pub turn_of : List ℕ → Option DiskStop → ℕ → Turn
 turn_of failing None call = turn_by failing call
 turn_of failing (Some stop) call = if call == stop.call then Fails stop.fill else (if nat_lt stop.call call then Fails Unwritten else turn_by failing call)

@@ -17,4 +17,4 @@ pub use disk::Disk;
 pub use host::HostDisk;
 pub use kept::{cut_kept, sync_kept, trim, write_kept};
 pub use memory::MemoryDisk;
-pub use stop::{Fill, Stop};
+pub use stop::{DiskStop, Fill};

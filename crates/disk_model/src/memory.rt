@@ -6,7 +6,7 @@ ghost use Rattle.disk_model.specs.Calls.{telling, reads_after, reads_by, buffer_
 ghost use Rattle.disk_model.specs.Laws.{reads_are_image, now_counts, now_only, length-bytes-lt};
 
 use crate::stop::{Turn, turn_with_stop, turn_without_stop};
-use crate::{Call, Disk, Failed, Fill, Stop};
+use crate::{Call, Disk, DiskStop, Failed, Fill};
 use std::alloc::{AllocError, Global};
 
 /// An honest disk over a vector. A call that finds no memory for its record fails.
@@ -17,7 +17,7 @@ pub struct MemoryDisk {
     bytes: Vec<u8>,
     calls: Vec<Call>,
     failing: Vec<u64>,
-    stop: Option<Stop>,
+    stop: Option<DiskStop>,
     made: u64,
     faults: u64,
     ghost replayed: { bytes.items ≡ reads_after start.items calls.items },
@@ -32,7 +32,7 @@ impl MemoryDisk {
         alloc: Global,
         bytes: Vec<u8>,
         failing: Vec<u64>,
-        stop: Option<Stop>,
+        stop: Option<DiskStop>,
     ) -> Result<MemoryDisk, AllocError>
         ensures bytes { IfOk result (λ disk. memory_bytes disk ≡ bytes.items) }
         ensures honest { IfOk result (λ disk. IsHonest (memory_tells disk)) }

@@ -15,7 +15,7 @@ pub enum Fill {
 
 /// The call at which a disk stops for good, counted from 1. From it on each call answers `Failed`.
 #[derive(Clone, Copy, Debug, PartialEq, Eq)]
-pub struct Stop {
+pub struct DiskStop {
     /// The number of the call.
     pub call: u64,
     /// What that call leaves.
@@ -43,7 +43,7 @@ pub(crate) fn turn_without_stop(failing: &[u64], call: u64) -> Turn
 }
 
 // What becomes of it where the disk stops.
-pub(crate) fn turn_with_stop(failing: &[u64], stop: Stop, call: u64) -> Turn
+pub(crate) fn turn_with_stop(failing: &[u64], stop: DiskStop, call: u64) -> Turn
     ensures { result ≡ turn_of failing.now (Some stop) call }
 {
     if call == stop.call {

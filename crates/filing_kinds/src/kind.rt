@@ -1,7 +1,6 @@
 //! The table of kinds.
-ghost use Rattle.std.specs.Prelude.{◌≡◌, ◌≤◌, length};
-ghost use Rattle.filing_kinds.specs.Forms.{most_numbers};
-ghost use Rattle.filing_kinds.specs.Kinds.{code_of, kind_at as kind_at_code, kind_named as kind_of_name, name_of, slots_of_kind, table_row_of};
+ghost use Rattle.std.specs.Prelude.{◌≡◌};
+ghost use Rattle.filing_kinds.specs.Kinds.{code_of, kind_at as kind_at_code, kind_named as kind_of_name, name_of, table_row_of};
 ghost use Rattle.filing_kinds.specs.Parts.{slots_of};
 
 use crate::book::book_parts;
@@ -83,14 +82,6 @@ pub fn table_row(kind: Kind) -> KindRow
         Kind::Repay => row!(Repay, 10, "repay": amount_parts()),
         Kind::Adjust => row!(Adjust, 11, "adjust": amount_parts()),
     }
-}
-
-/// How many fields a kind has, those of its key among them. A filing has a number for each, and more where one counts rows.
-pub fn field_count(kind: Kind) -> usize
-    ensures value { result ≡ length (slots_of_kind kind) }
-    ensures few { result ≤ most_numbers }
-{
-    key_parts().len() + table_row(kind).parts.len()
 }
 
 /// The kind that a code stands for in bytes.

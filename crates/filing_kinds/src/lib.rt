@@ -13,7 +13,7 @@ mod parts;
 
 pub use draft::Draft;
 pub use field::{Field, Form, Limit, Part, program_words};
-pub use kind::{Kind, KindRow, field_count, kind_at, kind_named, table_row};
+pub use kind::{Kind, KindRow, kind_at, kind_named, table_row};
 pub use layout::Layout;
 pub use limit::fits;
 pub use numbers::{MOST_NUMBERS, Numbers, add_numbers};

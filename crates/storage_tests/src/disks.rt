@@ -1,11 +1,11 @@
 //! What no clause says of disks: which calls fail, what a stop leaves, and that a real file is read and written.
-use disk_model::{Disk, Failed, Fill, HostDisk, MemoryDisk, Stop};
+use disk_model::{Disk, DiskStop, Failed, Fill, HostDisk, MemoryDisk};
 use std::alloc::Global;
 use std::fs::{self, OpenOptions};
 use std::process::Abort;
 use std::test::Fail;
 
-fn disk(alloc: Global, failing: &[u64], stop: Option<Stop>) -> Result<MemoryDisk, Fail> {
+fn disk(alloc: Global, failing: &[u64], stop: Option<DiskStop>) -> Result<MemoryDisk, Fail> {
     let bytes = b"abcdefgh".to_vec(alloc)?;
     Ok(MemoryDisk::new(alloc, bytes, failing.to_vec(alloc)?, stop)?)
 }
@@ -45,7 +45,7 @@ const STOPPED: [(Fill, &[u8], &[u8]); 3] = [
 #[test]
 fn leaves_what_a_stop_says(rt: HostRuntime) -> Result<(), Fail> {
     for (fill, written, cut) in STOPPED {
-        let stop = Some(Stop { call: 1, fill });
+        let stop = Some(DiskStop { call: 1, fill });
         assert_written(&rt, disk(rt.alloc(), &[], stop)?, written);
         assert_cut(&rt, disk(rt.alloc(), &[], stop)?, cut);
     }

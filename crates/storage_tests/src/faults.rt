@@ -4,7 +4,7 @@ use crate::offices::{
     BOTH, PRIOR, SCHOOL, THIRD, THIRD_AGAIN, UNDECIDED, ask, disk, founded, opened,
 };
 use aid_replies::Reply;
-use disk_model::{Disk, Fill, MemoryDisk, Stop};
+use disk_model::{Disk, DiskStop, Fill, MemoryDisk};
 use kept_office::{KeptOffice, OpenError};
 use std::alloc::Global;
 use std::process::Abort;
@@ -134,7 +134,7 @@ const CALLS: u64 = 20;
 fn keeps_what_it_acknowledged_before_a_stop(rt: HostRuntime) -> Result<(), Fail> {
     for call in 1..=CALLS + 1 {
         for fill in [Fill::Unwritten, Fill::Written, Fill::With(1), Fill::With(7)] {
-            let stop = Some(Stop { call, fill });
+            let stop = Some(DiskStop { call, fill });
             let session = run_session(&rt, rt.alloc(), disk(rt.alloc(), b"", &[], stop)?);
             assert_eq!(rt; went_well(&session), call > CALLS);
             assert_kept(&rt, rt.alloc(), &session)?;

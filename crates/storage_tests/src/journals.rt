@@ -6,7 +6,7 @@ ghost use Rattle.filing_journal.specs.Journal.{Keeps, IsDecided, journal_disk, j
 ghost use Rattle.filing_journal.specs.Opening.{HasGiven, HasAll, HasEnded, opening_disk, opening_count};
 ghost use Rattle.filing_journal.specs.declared.header.Header.{Header};
 
-use disk_model::{Disk, Fill, MemoryDisk, Stop};
+use disk_model::{Disk, DiskStop, Fill, MemoryDisk};
 use filing_journal::{Header, Journal, OpenError, Opening, PutError, found, recover};
 use payload::Room;
 use std::alloc::Global;
@@ -133,7 +133,7 @@ fn disk(
     alloc: Global,
     bytes: &[u8],
     failing: &[u64],
-    stop: Option<Stop>,
+    stop: Option<DiskStop>,
 ) -> Result<MemoryDisk, Fail> {
     Ok(MemoryDisk::new(alloc, bytes.to_vec(alloc)?, failing.to_vec(alloc)?, stop)?)
 }
@@ -235,7 +235,7 @@ fn stops_in_the_gate_write(rt: HostRuntime) -> Result<(), Fail> {
     let mut room = Room::new(rt.alloc())?;
     for (left, kept) in [(0, 2), (1, 3), (7, 2)] {
         let fill = Fill::With(left);
-        let stopping = disk(rt.alloc(), &BOTH, &[], Some(Stop { call: 7, fill }))?;
+        let stopping = disk(rt.alloc(), &BOTH, &[], Some(DiskStop { call: 7, fill }))?;
         let stopped = assert_third(
             &rt,
             stopping,

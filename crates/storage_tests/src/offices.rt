@@ -2,7 +2,7 @@
 use aid_filings::{Filing, PriorFacts, SchoolFacts, What};
 use aid_replies::{Ask, Outcome, Reply};
 use aid_types::{Key, Refusal, School, Student};
-use disk_model::{Disk, Fill, MemoryDisk, Stop};
+use disk_model::{Disk, DiskStop, Fill, MemoryDisk};
 use kept_office::{FoundFault, KeptOffice, OpenError};
 use std::alloc::Global;
 use std::process::Abort;
@@ -63,7 +63,7 @@ pub(crate) fn disk(
     alloc: Global,
     bytes: &[u8],
     failing: &[u64],
-    stop: Option<Stop>,
+    stop: Option<DiskStop>,
 ) -> Result<MemoryDisk, Fail> {
     Ok(MemoryDisk::new(alloc, bytes.to_vec(alloc)?, failing.to_vec(alloc)?, stop)?)
 }
@@ -227,7 +227,7 @@ fn assert_stop(
     front: u32,
     reply: Reply,
 ) -> Result<(), Fail> {
-    let stop = Some(Stop {
+    let stop = Some(DiskStop {
         call: 7,
         fill: Fill::With(left),
     });
