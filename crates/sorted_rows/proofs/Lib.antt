@@ -1,0 +1,4 @@
+pub mod Apart
+pub mod Looks
+pub mod Sorted
+pub mod Woven

@@ -1,0 +1,40 @@
+use Rattle.std.proofs.Common.{◌≡◌, ◌+◌, ◌-◌, ◌≤◌, length, sym, ap, ◌∙◌, arith, length-append}
+use Rattle.std.specs.Map.{lookup}
+use Rattle.std.specs.BTreeMap.{is_at}
+use Rattle.sorted_rows.proofs.Apart.{in_first, in_second}
+use Rattle.sorted_rows.proofs.Looks.{looks_in_digits}
+use Rattle.sorted_rows.specs.Places.{tail_looks}
+use Rattle.sorted_rows.specs.Seen.{Seen}
+use Rattle.sorted_rows.proofs.table.Table.get.Goals as goal
+
+pub returns-in-Some-clause-value : goal.returns-in-Some-clause-value
+returns-in-Some-clause-value g c =
+    let test = is_at (g.K.Ord.cmp c.args.key.now) in
+    in_first test c.self.inside.tail.items c.self.inside.main.items c.in-Some.value (c.in-Some.ensures.value ∙ ap (lookup test) c.as_slice.ensures.value)
+    ∙ ap (λ (t : Seen g.row.K.Denot g.row.V.Denot). lookup test t.rows) c.self.view_is
+
+pub returns-in-Some-clause-looks : goal.returns-in-Some-clause-looks
+returns-in-Some-clause-looks g c = λ digits short.
+    let few : length c.as_slice.result.now ≡ length c.self.inside.tail.items = ap length c.as_slice.ensures.value in
+    omega (arith, looks_in_digits (c.find.new.steps - c.args.steps.now) (length c.as_slice.result.now) tail_looks c.in-Some.ensures.looks (omega arith))
+
+pub returns-in-None-clause-value : goal.returns-in-None-clause-value
+returns-in-None-clause-value g c =
+    let test = is_at (g.K.Ord.cmp c.args.key.now) in
+    c.find-in-None.ensures.value
+    ∙ ap (lookup test) c.as_slice-in-None.ensures.value
+    ∙ in_second test c.self.inside.tail.items c.self.inside.main.items (c.in-None.ensures.value ∙ ap (lookup test) c.as_slice.ensures.value)
+    ∙ ap (λ (t : Seen g.row.K.Denot g.row.V.Denot). lookup test t.rows) c.self.view_is
+
+pub returns-in-None-clause-looks : goal.returns-in-None-clause-looks
+returns-in-None-clause-looks g c = λ digits short.
+    let tail = c.self.inside.tail.items in
+    let main = c.self.inside.main.items in
+    let all : length c.args.self.now.rows ≡ length tail + length main = sym (ap (λ (t : Seen g.row.K.Denot g.row.V.Denot). length t.rows) c.self.view_is) ∙ length-append tail main in
+    let few : length c.as_slice.result.now ≡ length tail = ap length c.as_slice.ensures.value in
+    let many : length c.as_slice-in-None.result.now ≡ length main = ap length c.as_slice-in-None.ensures.value in
+    let in_tail : c.find.new.steps - c.args.steps.now ≤ tail_looks =
+    looks_in_digits (c.find.new.steps - c.args.steps.now) (length c.as_slice.result.now) tail_looks c.in-None.ensures.looks (omega arith) in
+    let in_main : c.find-in-None.new.steps - c.find.new.steps ≤ digits =
+    looks_in_digits (c.find-in-None.new.steps - c.find.new.steps) (length c.as_slice-in-None.result.now) digits c.find-in-None.ensures.looks (omega arith) in
+    omega (arith, c.in-None.ensures.later, c.find-in-None.ensures.later)

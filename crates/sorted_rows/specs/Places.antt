@@ -1,0 +1,45 @@
+-- Where a key stands among rows in the order of their keys, and when two lists of such rows are one table.
+use Rattle.std.specs.Prelude.{◌≡◌, ℕ, ◌+◌, ◌-◌, ◌<◌, ◌≤◌, ◌⊎◌, List, length, Some, None}
+use Rattle.std.specs.BTreeMap.{is_at}
+use Rattle.std.specs.Map.{keys_of, lookup}
+use Rattle.std.specs.List.{slice_get}
+use Rattle.std.specs.List.Sorted.{IsStrictlySortedBy}
+use Rattle.std.specs.declared.cmp.Ordering.{Ordering}
+use Rattle.std.specs.declared.cmp.Ordering.TheVariants.{Less, Equal, Greater}
+
+-- the row at place i has the key
+pub record IsHere {K V : Type 0} (cmp : K → K → Ordering) (key : K) (rows : List (K × V)) (i : ℕ) : Type 0 where
+  pub in_range : i < length rows
+  pub same : (e : K × V) → slice_get rows i ≡ Some e → cmp key e.0 ≡ Equal
+
+-- the row before place i has a smaller key
+abbrev pub IsAfterSmaller : {K V : Type 0} → (K → K → Ordering) → K → List (K × V) → ℕ → Type 0
+IsAfterSmaller {K} {V} cmp key rows i = (j : ℕ) (e : K × V) → j + 1 ≡ i → slice_get rows j ≡ Some e → cmp key e.0 ≡ Greater
+
+-- the row at place i has a greater key
+abbrev pub IsBeforeGreater : {K V : Type 0} → (K → K → Ordering) → K → List (K × V) → ℕ → Type 0
+IsBeforeGreater {K} {V} cmp key rows i = (e : K × V) → slice_get rows i ≡ Some e → cmp key e.0 ≡ Less
+
+-- no row has the key, and a row with it would go to place i
+pub record IsGap {K V : Type 0} (cmp : K → K → Ordering) (key : K) (rows : List (K × V)) (i : ℕ) : Type 0 where
+  pub in_range : i ≤ length rows
+  pub before : IsAfterSmaller cmp key rows i
+  pub after : IsBeforeGreater cmp key rows i
+
+-- there is a row before place i, and the key is below its key
+pub record IsBelowPrior {K V : Type 0} (cmp : K → K → Ordering) (key : K) (rows : List (K × V)) (i : ℕ) : Type 0 where
+  pub prior : 0 < i
+  pub below : (e : K × V) → slice_get rows (i - 1) ≡ Some e → cmp key e.0 ≡ Less
+
+-- tail and main rows, each in the order of their keys, and no key in both
+pub record AreApart {K V : Type 0} (cmp : K → K → Ordering) (tail main : List (K × V)) : Type 0 where
+  pub tail_sorted : IsStrictlySortedBy cmp (keys_of tail)
+  pub main_sorted : IsStrictlySortedBy cmp (keys_of main)
+  pub apart : (q : K) → (lookup (is_at (cmp q)) tail ≡ None) ⊎ (lookup (is_at (cmp q)) main ≡ None)
+
+-- the looks that a search of the tail takes at most, and the rows at which it is merged: 2 to the power of the looks
+abbrev pub tail_looks : ℕ
+tail_looks = 10
+
+abbrev pub tail_size : ℕ
+tail_size = 1024

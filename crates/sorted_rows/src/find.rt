@@ -1,0 +1,59 @@
+//! Rows found by key, with the looks counted or not.
+ghost use Rattle.std.specs.Prelude.{◌≡◌, ◌+◌, ◌-◌, ◌*◌, ◌^◌, ◌<◌, ◌≤◌, length, IfOk, IfErr};
+ghost use Rattle.std.specs.BTreeMap.{is_at};
+ghost use Rattle.std.specs.List.Sorted.{IsStrictlySortedBy};
+ghost use Rattle.std.specs.Map.{keys_of, lookup};
+ghost use Rattle.sorted_rows.specs.Places.{IsHere, IsGap};
+
+use crate::search::search;
+use std::sync::ledger::{Blank, Ledger};
+use steps::Steps;
+
+/// The value of the row with a key.
+pub(crate) fn find<K: Ord + Copy, V: Copy, L: Ledger>(
+    rows: &[(K, V)],
+    key: &K,
+    steps: &mut Steps<L>,
+) -> Option<V>
+    requires sorted { IsStrictlySortedBy K.cmp (keys_of rows.now) }
+    ensures value { result ≡ lookup (is_at (K.cmp key.now)) rows.now }
+    ensures later { steps.old ≤ steps.new }
+    ensures looks { 2 ^ (steps.new - steps.old) ≤ 2 * length rows.now + 1 }
+{
+    match search(rows, key, steps) {
+        Ok(place) => Some(rows[place].1),
+        Err(_) => None,
+    }
+}
+
+/// The value of the row with a key, where nobody counts the looks.
+pub(crate) fn find_uncounted<K: Ord + Copy, V: Copy, L: Ledger>(
+    rows: &[(K, V)],
+    key: &K,
+    blank: Blank,
+) -> Option<V>
+    requires sorted { IsStrictlySortedBy K.cmp (keys_of rows.now) }
+    requires name { blank.name ≡ L.name }
+    requires parts { blank.parts ≡ L.parts }
+    requires some { 0 < blank.parts }
+    ensures { result ≡ lookup (is_at (K.cmp key.now)) rows.now }
+{
+    let mut steps: Steps<L> = Steps::new(blank);
+    find(rows, key, &mut steps)
+}
+
+/// The place of a key, where nobody counts the looks.
+pub(crate) fn place_of<K: Ord, V, L: Ledger>(
+    rows: &[(K, V)],
+    key: &K,
+    blank: Blank,
+) -> Result<usize, usize>
+    requires name { blank.name ≡ L.name }
+    requires parts { blank.parts ≡ L.parts }
+    requires some { 0 < blank.parts }
+    ensures found { IfOk result (IsHere K.cmp key.now rows.now) }
+    ensures gap { IfErr result (IsGap K.cmp key.now rows.now) }
+{
+    let mut steps: Steps<L> = Steps::new(blank);
+    search(rows, key, &mut steps)
+}

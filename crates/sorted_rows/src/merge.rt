@@ -1,0 +1,82 @@
+//! The merge of the tail into the main rows.
+ghost use Rattle.std.specs.Prelude.{◌≡◌, ◌+◌, ◌-◌, ◌<◌, ◌≤◌, ◌++◌, [], true, false, length, take, vec_len, vec_capacity};
+ghost use Rattle.std.specs.BTreeMap.{is_at};
+ghost use Rattle.std.specs.List.Sorted.{IsStrictlySortedBy};
+ghost use Rattle.std.specs.Map.{keys_of, lookup};
+ghost use Rattle.sorted_rows.specs.Places.{AreApart, IsBelowPrior, tail_size};
+
+use crate::table::TAIL_SIZE;
+use std::cmp::Ordering;
+
+/// Merges the tail into the main rows once it is full. The main rows have room for it.
+pub(crate) fn merge_full<K: Ord + Copy, V: Copy>(main: &mut Vec<(K, V)>, tail: &mut Vec<(K, V)>)
+    requires apart { AreApart K.cmp tail.old.items main.old.items }
+    requires short { vec_len tail.old ≤ tail_size }
+    requires room { vec_len main.old + vec_len tail.old ≤ vec_capacity main.old }
+    ensures apart { AreApart K.cmp tail.new.items main.new.items }
+    ensures values { (q : K) → lookup (is_at (K.cmp q)) (tail.new.items ++ main.new.items) ≡ lookup (is_at (K.cmp q)) (tail.old.items ++ main.old.items) }
+    ensures short { vec_len tail.new < tail_size }
+    ensures places { vec_capacity tail.new ≡ vec_capacity tail.old }
+    ensures room { vec_capacity main.old ≤ vec_capacity main.new }
+    ensures count { vec_len main.new + vec_len tail.new ≡ vec_len main.old + vec_len tail.old }
+{
+    if tail.len() == TAIL_SIZE {
+        merge(main, tail);
+    }
+}
+
+/// Merges the tail into the main rows, which have room for it, and leaves it empty.
+fn merge<K: Ord + Copy, V: Copy>(main: &mut Vec<(K, V)>, tail: &mut Vec<(K, V)>)
+    requires apart { AreApart K.cmp tail.old.items main.old.items }
+    requires room { vec_len main.old + vec_len tail.old ≤ vec_capacity main.old }
+    ensures empty { tail.new.items ≡ [] }
+    ensures sorted { IsStrictlySortedBy K.cmp (keys_of main.new.items) }
+    ensures values { (q : K) → lookup (is_at (K.cmp q)) main.new.items ≡ lookup (is_at (K.cmp q)) (tail.old.items ++ main.old.items) }
+    ensures none { vec_len tail.new ≡ 0 }
+    ensures places { vec_capacity tail.new ≡ vec_capacity tail.old }
+    ensures room { vec_capacity main.old ≤ vec_capacity main.new }
+    ensures count { vec_len main.new ≡ vec_len main.old + vec_len tail.old }
+{
+    let count = main.len();
+    let _ = main.extend_from_slice(tail.as_slice());
+    weave(main.as_mut_slice(), count, tail.as_slice());
+    tail.clear();
+}
+
+/// Puts the rows of the tail among the first `count` rows, the greatest first. What stood behind these is written over.
+fn weave<K: Ord + Copy, V: Copy>(rows: &mut [(K, V)], count: usize, tail: &[(K, V)])
+    requires fit { length rows.old ≡ count + length tail.now }
+    requires apart { AreApart K.cmp tail.now (take count rows.old) }
+    ensures sorted { IsStrictlySortedBy K.cmp (keys_of rows.new) }
+    ensures values { (q : K) → lookup (is_at (K.cmp q)) rows.new ≡ lookup (is_at (K.cmp q)) (tail.now ++ take count rows.old) }
+{
+    let mut left = count;
+    let mut waiting = tail.len();
+    let mut place = rows.len();
+    while 0 < waiting {
+        place -= 1;
+        if is_below_prior(rows, left, &tail[waiting - 1].0) {
+            left -= 1;
+            rows[place] = rows[left];
+        } else {
+            waiting -= 1;
+            rows[place] = tail[waiting];
+        }
+    }
+}
+
+/// Whether a row stands before the place, and the key is below its key.
+fn is_below_prior<K: Ord + Copy, V: Copy>(rows: &[(K, V)], place: usize, key: &K) -> bool
+    requires { place ≤ length rows.now }
+    ensures below { result ≡ true → IsBelowPrior K.cmp key.now rows.now place }
+    ensures not_below { result ≡ false → IsBelowPrior K.cmp key.now rows.now place → ⊥ }
+{
+    if 0 < place {
+        match key.cmp(&rows[place - 1].0) {
+            Ordering::Less => true,
+            _ => false,
+        }
+    } else {
+        false
+    }
+}
