@@ -1,0 +1,81 @@
+-- A row of words is that of one command at most.
+use Rattle.std.proofs.Common.{◌≡◌, ℕ, ◌<◌, ◌≤◌, List, [], ◌∷◌, Option, Some, None, IfSome, decimal, get_or, length, map, rules, refl, sym, ap, ◌∙◌, arith}
+use Rattle.std.specs.Coded.{le_prop}
+use Rattle.std.proofs.lemmas.Fmt.{decimal_injective}
+use Rattle.aid_types.proofs.Same.{same_with_fact}
+use Rattle.aid_types.specs.Ranges.{IsBetween}
+use Rattle.office_words.specs.Words.{Reads, ReadsQuote, quote_words, words_of}
+use Rattle.office_words.specs.declared.command.BookNumber.{BookNumber}
+use Rattle.office_words.specs.declared.command.Command.{Command}
+use Rattle.office_words.specs.declared.command.Command.TheVariants.{Found, File, Book, Quote, CheckRows, CheckBook}
+use Rattle.office_words.specs.declared.command.QuoteRequest.{QuoteRequest}
+
+same_book : (x y : BookNumber) → x.number ≡ y.number → x ≡ y
+same_book x y e =
+    let P : ℕ → Type 0 = λ n. IsBetween 1 999999999999 n in
+    let make : (n : ℕ) → P n → BookNumber = λ n p. record { number = n; in_range = p } in
+    same_with_fact P make (λ n. hlevel (le_prop)) x.number y.number x.in_range y.in_range e
+
+same_request : (x y : QuoteRequest) → x.school ≡ y.school → x.student ≡ y.student → x.year ≡ y.year → x.term ≡ y.term → x ≡ y
+same_request x y school student year term =
+    let P : ℕ × (ℕ × (ℕ × ℕ)) → Type 0 = λ b. (b.0 ≤ 999999) × IsBetween 1 999999999999 b.1.0 × IsBetween 2000 2099 b.1.1.0 × IsBetween 1 8 b.1.1.1 in
+    let make : (b : ℕ × (ℕ × (ℕ × ℕ))) → P b → QuoteRequest = λ b p. record { school = b.0; student = b.1.0; year = b.1.1.0; term = b.1.1.1; in_range = p } in
+    same_with_fact P make (λ b. hlevel (le_prop)) (x.school, (x.student, (x.year, x.term))) (y.school, (y.student, (y.year, y.term))) x.in_range y.in_range (λ i. (school i, (student i, (year i, term i))))
+
+-- a word spells one number at most
+same_number : (m n : ℕ) → m ≤ 999999999999 → n ≤ 999999999999 → decimal m ≡ decimal n → m ≡ n
+same_number m n h k e = decimal_injective m n (omega arith) (omega arith) e
+
+pub same_quote : (x y : QuoteRequest) → quote_words x ≡ quote_words y → x ≡ y
+same_quote x y e =
+    let school : decimal x.school ≡ decimal y.school = cc in
+    let student : decimal x.student ≡ decimal y.student = cc in
+    let year : decimal x.year ≡ decimal y.year = cc in
+    let term : decimal x.term ≡ decimal y.term = cc in
+    same_request x y
+    (same_number x.school y.school (omega (arith, x.in_range)) (omega (arith, y.in_range)) school)
+    (same_number x.student y.student (omega (arith, x.in_range)) (omega (arith, y.in_range)) student)
+    (same_number x.year y.year (omega (arith, x.in_range)) (omega (arith, y.in_range)) year)
+    (same_number x.term y.term (omega (arith, x.in_range)) (omega (arith, y.in_range)) term)
+
+rows_book : {A : Type 0} → words_of CheckRows ≡ words_of CheckBook → A
+rows_book e = let first : ◌≡◌ {A = ℕ} 114 98 = ap (λ (words : List (List ℕ)). get_or (get_or words 1 []) 0 0) e in absurd (omega arith)
+
+-- commands with the same words are the same
+pub same_command : (c d : Command) → words_of c ≡ words_of d → c ≡ d
+same_command Found Found e = refl
+same_command File File e = refl
+same_command CheckRows CheckRows e = refl
+same_command CheckBook CheckBook e = refl
+same_command (Book x) (Book y) e = let number : decimal x.number ≡ decimal y.number = cc in ap Book (same_book x y (same_number x.number y.number (omega (arith, x.in_range)) (omega (arith, y.in_range)) number))
+same_command (Quote x) (Quote y) e = ap Quote (same_quote x y cc)
+same_command CheckRows CheckBook e = rows_book e
+same_command CheckBook CheckRows e = rows_book (sym e)
+same_command _ _ e = absurd cc
+
+-- words of a command are read as it
+pub reads_some : (words : List (List ℕ)) (c : Command) → words ≡ words_of c → Reads words (Some c)
+reads_some words c is d = (λ same. let at : c ≡ d = cc in is ∙ ap words_of at, λ told. ap Some (same_command c d (sym is ∙ told)))
+
+pub reads_request : (words : List (List ℕ)) (q : QuoteRequest) → words ≡ quote_words q → ReadsQuote words (Some q)
+reads_request words q is r = (λ same. let at : q ≡ r = cc in is ∙ ap quote_words at, λ told. ap Some (same_quote q r (sym is ∙ told)))
+
+pub if_read : (words other : List (List ℕ)) (read : Option Command) → other ≡ words → Reads words read → IfSome read (λ c. other ≡ words_of c)
+if_read words other None same reads = search rules
+if_read words other (Some c) same reads = same ∙ (reads c).0 refl
+
+-- a list of length 5
+pub five : {X : Type 0} (xs : List X) (a b c d e : X) → 5 ≤ length xs → length xs < 6 → a ≡ get_or xs 0 a → b ≡ get_or xs 1 b → c ≡ get_or xs 2 c → d ≡ get_or xs 3 d → e ≡ get_or xs 4 e
+    → xs ≡ a ∷ b ∷ c ∷ d ∷ e ∷ []
+five (v ∷ w ∷ x ∷ y ∷ z ∷ []) a b c d e some few is_a is_b is_c is_d is_e = cc
+five (v ∷ w ∷ x ∷ y ∷ z ∷ u ∷ us) a b c d e some few is_a is_b is_c is_d is_e = absurd (omega arith)
+five [] a b c d e some few is_a is_b is_c is_d is_e = absurd (omega arith)
+five (v ∷ []) a b c d e some few is_a is_b is_c is_d is_e = absurd (omega arith)
+five (v ∷ w ∷ []) a b c d e some few is_a is_b is_c is_d is_e = absurd (omega arith)
+five (v ∷ w ∷ x ∷ []) a b c d e some few is_a is_b is_c is_d is_e = absurd (omega arith)
+five (v ∷ w ∷ x ∷ y ∷ []) a b c d e some few is_a is_b is_c is_d is_e = absurd (omega arith)
+
+-- the texts of its items
+pub five_texts : {X : Type 0} (text : X → List ℕ) (xs : List X) (a b c d e : X) (p q r s t : List ℕ) → xs ≡ a ∷ b ∷ c ∷ d ∷ e ∷ []
+    → p ≡ text a → q ≡ text b → r ≡ text c → s ≡ text d → t ≡ text e → map text xs ≡ p ∷ q ∷ r ∷ s ∷ t ∷ []
+five_texts text xs a b c d e p q r s t is at_a at_b at_c at_d at_e = rw (is, at_a, at_b, at_c, at_d, at_e) refl

@@ -1,0 +1,40 @@
+//! What the program is told to do.
+ghost use Rattle.std.specs.Prelude.{◌≤◌};
+ghost use Rattle.aid_types.specs.Ranges.{IsBetween};
+
+use aid_types::{School, Student, Year};
+
+/// The number that the office's desk gives to a book that it files: 1 to 999,999,999,999.
+#[derive(Clone, Copy, PartialEq, Eq, Debug)]
+pub struct BookNumber {
+    pub number: u64,
+    pub ghost in_range: { IsBetween 1 999999999999 number },
+}
+
+/// The payment that is asked about: the term is 1 to 8.
+#[derive(Clone, Copy, PartialEq, Eq, Debug)]
+pub struct QuoteRequest {
+    pub school: School,
+    pub student: Student,
+    pub year: Year,
+    pub term: u8,
+    pub ghost in_range: { (school ≤ 999999) × IsBetween 1 999999999999 student
+        × IsBetween 2000 2099 year × IsBetween 1 8 term },
+}
+
+/// A command of the program, by its row of words.
+#[derive(Clone, Copy, PartialEq, Eq, Debug)]
+pub enum Command {
+    /// `found`: to found an office in the file.
+    Found,
+    /// `file`: to file the rows of the input.
+    File,
+    /// `book NUMBER`: to file the text of the input as the book of that number.
+    Book(BookNumber),
+    /// `quote SCHOOL STUDENT YEAR TERM`: to say the greatest Pell payment that the office would take.
+    Quote(QuoteRequest),
+    /// `check rows`: to read the rows of the input, and file none.
+    CheckRows,
+    /// `check book`: to read the text of the input as a book, and not file it.
+    CheckBook,
+}
