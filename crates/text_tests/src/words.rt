@@ -1,0 +1,106 @@
+//! Which rows of words are commands.
+use office_words::{Command, command_of};
+use std::alloc::{AllocError, Global};
+use std::process::Abort;
+use std::test::Fail;
+
+// The command of the words of a row, which stand with one space between them.
+fn command_in(alloc: Global, row: &str) -> Result<Option<Command>, AllocError> {
+    let mut words = Vec::new(alloc);
+    for word in row.split(' ') {
+        words.push(String::from_str(alloc, word)?)?;
+    }
+    Ok(command_of(words.as_slice()))
+}
+
+// What the command of a row says.
+fn said(alloc: Global, row: &str) -> Result<String, AllocError> {
+    match command_in(alloc, row)? {
+        None => format!(in alloc; "none"),
+        Some(Command::Found) => format!(in alloc; "an office is founded"),
+        Some(Command::File) => format!(in alloc; "rows are filed"),
+        Some(Command::Book(book)) => {
+            let number = book.number;
+            format!(in alloc; "book {number} is filed")
+        }
+        Some(Command::Quote(quote)) => {
+            let (school, student) = (quote.school.0, quote.student.0);
+            let (year, term) = (quote.year.0, quote.term);
+            format!(in alloc; "school {school}, student {student}, year {year}, term {term}")
+        }
+        Some(Command::CheckRows) => format!(in alloc; "rows are checked"),
+        Some(Command::CheckBook) => format!(in alloc; "a book is checked"),
+    }
+}
+
+// A row of words, and what its command says.
+struct Case(&'static str, &'static str);
+
+static COMMANDS: [Case; 8] = [
+    Case("found", "an office is founded"),
+    Case("file", "rows are filed"),
+    Case("book 1", "book 1 is filed"),
+    Case("book 999999999999", "book 999999999999 is filed"),
+    Case("quote 0 1 2000 1", "school 0, student 1, year 2000, term 1"),
+    Case(
+        "quote 999999 999999999999 2099 8",
+        "school 999999, student 999999999999, year 2099, term 8",
+    ),
+    Case("check rows", "rows are checked"),
+    Case("check book", "a book is checked"),
+];
+
+static NONE: [&str; 28] = [
+    "",
+    "Found",
+    "found ",
+    " found",
+    "found file",
+    "founded",
+    "book",
+    "book ",
+    "book 0",
+    "book 1000000000000",
+    "book 01",
+    "book +1",
+    "book -1",
+    "book 1 2",
+    "book 99999999999999999999999999",
+    "quote",
+    "quote 110 5001 2025",
+    "quote 110 5001 2025 1 1",
+    "quote 110 5001 2025 9",
+    "quote 110 5001 2025 0",
+    "quote 110 5001 1999 1",
+    "quote 110 5001 2100 1",
+    "quote 110 0 2025 1",
+    "quote 1000000 5001 2025 1",
+    "quote 110 1000000000000 2025 1",
+    "check",
+    "check row",
+    "rows",
+];
+
+fn all_say(rt: &impl Abort, alloc: Global, cases: &[Case]) -> Result<(), AllocError> {
+    for case in cases {
+        let (row, want) = (case.0, case.1);
+        let got = said(alloc, row)?;
+        assert!(rt; got.as_str() == want, "{row}: {got}");
+    }
+    Ok(())
+}
+
+fn none_say(rt: &impl Abort, alloc: Global, rows: &[&str]) -> Result<(), AllocError> {
+    for row in rows {
+        let got = said(alloc, row)?;
+        assert!(rt; got.as_str() == "none", "{row}: {got}");
+    }
+    Ok(())
+}
+
+#[test]
+fn words_are_commands(rt: HostRuntime) -> Result<(), Fail> {
+    all_say(&rt, rt.alloc(), &COMMANDS)?;
+    none_say(&rt, rt.alloc(), &NONE)?;
+    Ok(())
+}
