@@ -5,9 +5,10 @@ use Rattle.aid_replies.specs.declared.reply.Ask.{Ask}
 use Rattle.aid_replies.specs.declared.reply.Ask.TheVariants.{File}
 use Rattle.aid_replies.specs.declared.reply.Verdict.{Verdict}
 use Rattle.desk_forms.specs.declared.error.RowError.{RowError}
-use Rattle.desk_forms.specs.Lines.{error_line, line_of, reply_of}
+use Rattle.desk_forms.specs.Lines.{error_line}
 use Rattle.desk_forms.specs.Rows.{AreRowsOf}
 use Rattle.kept_session.specs.Texts.{Texts}
+use Rattle.reply_lines.specs.Lines.{line_of, reply_of}
 
 -- a row asks that its filing is filed
 abbrev pub ask_of : Result Filing RowError → Result Ask RowError

@@ -3,9 +3,10 @@ ghost use Rattle.std.specs.Prelude.{◌≡◌, ◌≤◌, length};
 
 use aid_filings::Filing;
 use aid_replies::{Ask, Verdict};
-use desk_forms::{RowError, put_answer, put_error, rows_of};
+use desk_forms::{RowError, put_error, rows_of};
 use kept_office::FiledOffice;
 use kept_session::Forms;
+use reply_lines::put_answer;
 use std::alloc::{AllocError, Global};
 use std::vec::IntoIter;
 

@@ -1,6 +1,5 @@
 pub mod CountLemmas
 pub mod FieldsLemmas
-pub mod LinesLemmas
 pub mod NumbersLemmas
 pub mod ReadingLemmas
 pub mod RecordsLemmas

@@ -1,4 +1,4 @@
-//! The texts of the desks: the rows that they file, and the line that answers each.
+//! The texts of the desks: the rows that they file, and the lines that tell what is wrong with them.
 #![tactic(auto)]
 
 mod count;
@@ -11,5 +11,5 @@ mod rows;
 
 pub use error::{Cause, RowError};
 pub use laws::once;
-pub use lines::{put_answer, put_error, put_line};
+pub use lines::{put_error, put_fine, put_tally};
 pub use rows::{Rows, rows_of};

@@ -1,43 +1,12 @@
-//! The lines that answer rows.
-ghost use Rattle.std.specs.Prelude.{◌≡◌, ◌+◌, ◌<◌, ◌≤◌, [], ◌∷◌, ◌++◌, IsOk, OnErr, OnOk, codes, decimal, length, vec_capacity, vec_len};
+//! The lines that tell what rows are, where nothing is filed.
+ghost use Rattle.std.specs.Prelude.{◌≡◌, ◌+◌, ◌≤◌, ◌++◌, IsOk, OnErr, OnOk, decimal, vec_capacity, vec_len};
 ghost use Rattle.arrayvec.specs.ArrayString.{array_string_len};
-ghost use Rattle.aid_num.specs.Cents.{cents_text};
-ghost use Rattle.aid_num.specs.Whole.{whole_text};
-ghost use Rattle.desk_forms.specs.Lines.{error_line, formula_text, line_of, outcome_text, percent_text, refused_text, reply_of, standing_text, way_text};
+ghost use Rattle.desk_forms.specs.Lines.{error_line, fine_line, tally_line};
 
 use crate::error::RowError;
-use aid_replies::{Outcome, Reply, Verdict};
-use aid_types::{Formula, Refusal, Way};
 use arrayvec::ArrayString;
 use itoa::Buffer;
 use std::alloc::AllocError;
-
-/// Appends the line that answers a row, counted from 1, where the reply is that a filing was accepted, again or refused,
-/// and nothing at other replies. Where the vector has room for 160 more bytes no memory is taken.
-pub fn put_line(row: u32, reply: &Reply, out: &mut Vec<u8>) -> Result<(), AllocError>
-    ensures ok { OnOk result (out.new.items ≡ out.old.items ++ line_of row reply.now) }
-    ensures err { OnErr result (out.new.items ≡ out.old.items) }
-    ensures room { vec_len out.old + 160 ≤ vec_capacity out.old → IsOk result }
-{
-    let line = line_text(row, reply);
-    out.extend_from_slice(line.as_str().as_bytes())
-}
-
-/// Appends the line that answers a row by the verdict on its filing, where `front` filings stood before it. Where the
-/// vector has room for 160 more bytes no memory is taken.
-pub fn put_answer(
-    row: u32,
-    front: u32,
-    verdict: &Verdict,
-    out: &mut Vec<u8>,
-) -> Result<(), AllocError>
-    ensures ok { OnOk result (out.new.items ≡ out.old.items ++ line_of row (reply_of front verdict.now)) }
-    ensures err { OnErr result (out.new.items ≡ out.old.items) }
-    ensures room { vec_len out.old + 160 ≤ vec_capacity out.old → IsOk result }
-{
-    let line = answer_text(row, front, verdict);
-    out.extend_from_slice(line.as_str().as_bytes())
-}
 
 /// Appends the line of a row that is no filing. Where the vector has room for 160 more bytes no memory is taken.
 pub fn put_error(error: &RowError, out: &mut Vec<u8>) -> Result<(), AllocError>
@@ -55,220 +24,32 @@ pub fn put_error(error: &RowError, out: &mut Vec<u8>) -> Result<(), AllocError>
     out.extend_from_slice(line.as_str().as_bytes())
 }
 
-// The line of a reply.
-fn line_text(row: u32, reply: &Reply) -> ArrayString<160>
-    ensures { result.bytes ≡ line_of row reply.now }
-{
-    match reply {
-        Reply::Accepted {
-            position,
-            front,
-            outcome,
-        } => standing_line(row, *front, " accepted ", u64::from(*position), outcome),
-        Reply::Again {
-            position,
-            front,
-            outcome,
-        } => standing_line(row, *front, " again ", u64::from(*position), outcome),
-        Reply::Refused { refusal, front } => refused_line(row, *front, refusal),
-        Reply::Quoted { .. } | Reply::Standing { .. } | Reply::DiskFault { .. } | Reply::NoMemory =>
-            ArrayString::new(),
-    }
-}
-
-// The line of a verdict.
-fn answer_text(row: u32, front: u32, verdict: &Verdict) -> ArrayString<160>
-    ensures { result.bytes ≡ line_of row (reply_of front verdict.now) }
-{
-    match verdict {
-        Verdict::Admit(outcome) => {
-            standing_line(row, front, " accepted ", u64::from(front) + 1, outcome)
-        }
-        Verdict::Again { position, outcome } => {
-            standing_line(row, front, " again ", u64::from(*position), outcome)
-        }
-        Verdict::Refused(refusal) => refused_line(row, front, refusal),
-        Verdict::Quoted(_) | Verdict::Standing(_) => ArrayString::new(),
-    }
-}
-
-// The line of a filing that stands at a position.
-fn standing_line(
-    row: u32,
-    front: u32,
-    answer: &str,
-    position: u64,
-    outcome: &Outcome,
-) -> ArrayString<160>
-    requires { length answer.now ≤ 10 }
-    ensures { result.bytes ≡ standing_text row front answer.now position outcome.now }
+/// Appends the line of a row that means a filing. Where the vector has room for 160 more bytes no memory is taken.
+pub fn put_fine(row: u32, out: &mut Vec<u8>) -> Result<(), AllocError>
+    ensures ok { OnOk result (out.new.items ≡ out.old.items ++ fine_line row) }
+    ensures err { OnErr result (out.new.items ≡ out.old.items) }
+    ensures room { vec_len out.old + 160 ≤ vec_capacity out.old → IsOk result }
 {
     let mut line = ArrayString::<160>::new();
     push_count(&mut line, row);
-    line.push_str(" ");
-    push_count(&mut line, front);
-    line.push_str(answer);
-    push_number(&mut line, position);
-    line.push_str(" ");
-    push_outcome(&mut line, outcome);
-    line.push_str("\n");
-    line
+    line.push_str(" fine\n");
+    out.extend_from_slice(line.as_str().as_bytes())
 }
 
-// The line of a refusal.
-fn refused_line(row: u32, front: u32, refusal: &Refusal) -> ArrayString<160>
-    ensures { result.bytes ≡ refused_text row front refusal.now }
+/// Appends the line of a whole text: how many rows it has, and how many of them are no filings. Where the vector has room
+/// for 160 more bytes no memory is taken.
+pub fn put_tally(rows: u32, errors: u32, out: &mut Vec<u8>) -> Result<(), AllocError>
+    ensures ok { OnOk result (out.new.items ≡ out.old.items ++ tally_line rows errors) }
+    ensures err { OnErr result (out.new.items ≡ out.old.items) }
+    ensures room { vec_len out.old + 160 ≤ vec_capacity out.old → IsOk result }
 {
     let mut line = ArrayString::<160>::new();
-    push_count(&mut line, row);
-    line.push_str(" ");
-    push_count(&mut line, front);
-    line.push_str(" refused ");
-    push_count(&mut line, u32::from(refusal.rule));
-    line.push_str(" ");
-    push_number(&mut line, refusal.kept);
-    line.push_str(" ");
-    push_number(&mut line, refusal.bound);
+    line.push_str("rows ");
+    push_count(&mut line, rows);
+    line.push_str(" errors ");
+    push_count(&mut line, errors);
     line.push_str("\n");
-    line
-}
-
-// Appends an outcome.
-fn push_outcome(line: &mut ArrayString<160>, outcome: &Outcome)
-    requires room { array_string_len line.old + 100 ≤ 160 }
-    ensures bytes { line.new.bytes ≡ line.old.bytes ++ outcome_text outcome.now }
-    ensures len { array_string_len line.new ≤ array_string_len line.old + 100 }
-{
-    match outcome {
-        Outcome::Noted => line.push_str("noted"),
-        Outcome::Indexed {
-            formula,
-            sai,
-            way,
-            scheduled,
-        } => push_index(line, *formula, *sai, *way, *scheduled),
-        Outcome::Paid { paid, used } => push_paid(line, *paid, *used),
-        Outcome::Returned {
-            percent,
-            school,
-            owed,
-            post,
-        } => push_returned(line, *percent, *school, *owed, *post),
-    }
-}
-
-// Appends the outcome of an application.
-fn push_index(line: &mut ArrayString<160>, formula: Formula, sai: i32, way: Way, scheduled: u32)
-    requires room { array_string_len line.old + 100 ≤ 160 }
-    ensures bytes { line.new.bytes
-        ≡ line.old.bytes ++ outcome_text (Outcome.Indexed formula sai way scheduled) }
-    ensures len { array_string_len line.new ≤ array_string_len line.old + 100 }
-{
-    line.push_str("index ");
-    line.push_str(formula_name(formula));
-    line.push_str(" ");
-    push_whole(line, sai);
-    line.push_str(" ");
-    line.push_str(way_name(way));
-    line.push_str(" ");
-    push_count(line, scheduled);
-}
-
-// Appends the outcome of a payment.
-fn push_paid(line: &mut ArrayString<160>, paid: u64, used: u32)
-    requires room { array_string_len line.old + 100 ≤ 160 }
-    ensures bytes { line.new.bytes ≡ line.old.bytes ++ outcome_text (Outcome.Paid paid used) }
-    ensures len { array_string_len line.new ≤ array_string_len line.old + 100 }
-{
-    line.push_str("paid ");
-    push_cents(line, paid);
-    line.push_str(" ");
-    push_count(line, used);
-}
-
-// Appends the outcome of a withdrawal.
-fn push_returned(line: &mut ArrayString<160>, percent: u16, school: u64, owed: u64, post: u64)
-    requires room { array_string_len line.old + 100 ≤ 160 }
-    ensures bytes { line.new.bytes
-        ≡ line.old.bytes ++ outcome_text (Outcome.Returned percent school owed post) }
-    ensures len { array_string_len line.new ≤ array_string_len line.old + 100 }
-{
-    line.push_str("returned ");
-    push_percent(line, percent);
-    line.push_str(" ");
-    push_cents(line, school);
-    line.push_str(" ");
-    push_cents(line, owed);
-    line.push_str(" ");
-    push_cents(line, post);
-}
-
-// The letter of a formula.
-fn formula_name(formula: Formula) -> &'static str
-    ensures text { result.now ≡ formula_text formula }
-    ensures short { length result.now ≤ 1 }
-{
-    match formula {
-        Formula::A => "A",
-        Formula::B => "B",
-        Formula::C => "C",
-    }
-}
-
-// The word for a way to an award.
-fn way_name(way: Way) -> &'static str
-    ensures text { result.now ≡ way_text way }
-    ensures short { length result.now ≤ 10 }
-{
-    match way {
-        Way::Maximum => "maximum",
-        Way::Calculated => "calculated",
-        Way::Minimum => "minimum",
-        Way::Nothing => "nothing",
-    }
-}
-
-// Appends a percent, given in tenths.
-fn push_percent(line: &mut ArrayString<160>, tenths: u16)
-    requires room { array_string_len line.old + 12 ≤ 160 }
-    ensures bytes { line.new.bytes ≡ line.old.bytes ++ percent_text tenths }
-    ensures len { array_string_len line.new ≤ array_string_len line.old + 12 }
-{
-    push_count(line, u32::from(tenths / 10));
-    line.push_str(".");
-    push_digit(line, (tenths % 10) as u8);
-}
-
-// Appends an amount in cents.
-fn push_cents(line: &mut ArrayString<160>, cents: u64)
-    requires room { array_string_len line.old + 23 ≤ 160 }
-    ensures bytes { line.new.bytes ≡ line.old.bytes ++ cents_text cents }
-    ensures len { array_string_len line.new ≤ array_string_len line.old + 23 }
-{
-    push_number(line, cents / 100);
-    line.push_str(".");
-    push_digit(line, (cents / 10 % 10) as u8);
-    push_digit(line, (cents % 10) as u8);
-}
-
-// Appends a digit.
-fn push_digit(line: &mut ArrayString<160>, digit: u8)
-    requires digit { digit < 10 }
-    requires room { array_string_len line.old + 1 ≤ 160 }
-    ensures bytes { line.new.bytes ≡ line.old.bytes ++ (48 + digit) ∷ [] }
-    ensures len { array_string_len line.new ≡ array_string_len line.old + 1 }
-{
-    line.push(char::from(b'0' + digit));
-}
-
-// Appends a number that may be negative.
-fn push_whole(line: &mut ArrayString<160>, number: i32)
-    requires room { array_string_len line.old + 11 ≤ 160 }
-    ensures bytes { line.new.bytes ≡ line.old.bytes ++ whole_text number }
-    ensures len { array_string_len line.new ≤ array_string_len line.old + 11 }
-{
-    let mut digits = Buffer::new();
-    line.push_str(digits.format(number));
+    out.extend_from_slice(line.as_str().as_bytes())
 }
 
 // Appends a number of at most ten digits.
@@ -276,16 +57,6 @@ fn push_count(line: &mut ArrayString<160>, number: u32)
     requires room { array_string_len line.old + 10 ≤ 160 }
     ensures bytes { line.new.bytes ≡ line.old.bytes ++ decimal number }
     ensures len { array_string_len line.new ≤ array_string_len line.old + 10 }
-{
-    let mut digits = Buffer::new();
-    line.push_str(digits.format(number));
-}
-
-// Appends a number of at most twenty digits.
-fn push_number(line: &mut ArrayString<160>, number: u64)
-    requires room { array_string_len line.old + 20 ≤ 160 }
-    ensures bytes { line.new.bytes ≡ line.old.bytes ++ decimal number }
-    ensures len { array_string_len line.new ≤ array_string_len line.old + 20 }
 {
     let mut digits = Buffer::new();
     line.push_str(digits.format(number));

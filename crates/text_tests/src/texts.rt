@@ -1,9 +1,10 @@
 //! What rows say and how lines are written.
-use aid_replies::{Outcome, Reply};
+use aid_replies::{Outcome, Verdict};
 use aid_types::{Formula, Refusal, Way};
-use desk_forms::{Cause, RowError, put_error, put_line, rows_of};
+use desk_forms::{Cause, RowError, put_error, put_fine, put_tally, rows_of};
 use filing_numbers::numbers_in;
 use itoa::Buffer;
+use reply_lines::{put_answer, put_quote};
 use std::alloc::Global;
 use std::process::Abort;
 use std::test::Fail;
@@ -203,39 +204,35 @@ fn fields_are_counted_first(rt: HostRuntime) -> Result<(), Fail> {
 fn lines_are_written(rt: HostRuntime) -> Result<(), Fail> {
     let mut out = Vec::with_capacity(rt.alloc(), 4)?;
     let outcome = Outcome::Noted;
-    put_line(
-        1,
-        &Reply::Accepted {
-            position: 1,
-            front: 0,
-            outcome,
-        },
-        &mut out,
-    )?;
-    put_line(
-        7,
-        &Reply::Again {
-            position: 1,
-            front: 2,
-            outcome,
-        },
-        &mut out,
-    )?;
     let refusal = Refusal {
         rule: 15,
         kept: 2,
         bound: 2,
     };
-    put_line(1, &Reply::Refused { refusal, front: 2 }, &mut out)?;
-    put_error(
-        &RowError {
-            row: 3,
-            field: 0,
-            cause: Cause::WrongCount,
+    let error = RowError {
+        row: 3,
+        field: 0,
+        cause: Cause::WrongCount,
+    };
+    put_answer(1, 0, &Verdict::Admit(outcome), &mut out)?;
+    put_answer(
+        7,
+        2,
+        &Verdict::Again {
+            position: 1,
+            outcome,
         },
         &mut out,
     )?;
-    let lines = b"1 0 accepted 1 noted\n7 2 again 1 noted\n1 2 refused 15 2 2\n3 error 0 2\n";
+    put_answer(1, 2, &Verdict::Refused(refusal), &mut out)?;
+    put_answer(2, 2, &Verdict::Quoted(369_700), &mut out)?;
+    put_error(&error, &mut out)?;
+    put_fine(4, &mut out)?;
+    put_tally(4, 1, &mut out)?;
+    put_quote(369_700, &mut out)?;
+    put_quote(0, &mut out)?;
+    let lines =
+        b"1 0 accepted 1 noted\n7 2 again 1 noted\n1 2 refused 15 2 2\n3 error 0 2\n4 fine\nrows 4 errors 1\nquote 3697\nquote 0\n";
     assert_eq!(rt; out.as_slice(), lines.as_slice());
     Ok(())
 }
@@ -243,7 +240,7 @@ fn lines_are_written(rt: HostRuntime) -> Result<(), Fail> {
 #[test]
 fn outcomes_are_written(rt: HostRuntime) -> Result<(), Fail> {
     let cases: [(Outcome, &[u8]); 9] = [
-        (Outcome::Noted, b"1 0 accepted 2 noted\n"),
+        (Outcome::Noted, b"1 1 accepted 2 noted\n"),
         (
             Outcome::Indexed {
                 formula: Formula::A,
@@ -251,7 +248,7 @@ fn outcomes_are_written(rt: HostRuntime) -> Result<(), Fail> {
                 way: Way::Calculated,
                 scheduled: 2290,
             },
-            b"1 0 accepted 2 index A 5104 calculated 2290\n",
+            b"1 1 accepted 2 index A 5104 calculated 2290\n",
         ),
         (
             Outcome::Indexed {
@@ -260,7 +257,7 @@ fn outcomes_are_written(rt: HostRuntime) -> Result<(), Fail> {
                 way: Way::Calculated,
                 scheduled: 7395,
             },
-            b"1 0 accepted 2 index C -707 calculated 7395\n",
+            b"1 1 accepted 2 index C -707 calculated 7395\n",
         ),
         (
             Outcome::Indexed {
@@ -269,7 +266,7 @@ fn outcomes_are_written(rt: HostRuntime) -> Result<(), Fail> {
                 way: Way::Maximum,
                 scheduled: 7395,
             },
-            b"1 0 accepted 2 index B -1500 maximum 7395\n",
+            b"1 1 accepted 2 index B -1500 maximum 7395\n",
         ),
         (
             Outcome::Indexed {
@@ -278,7 +275,7 @@ fn outcomes_are_written(rt: HostRuntime) -> Result<(), Fail> {
                 way: Way::Minimum,
                 scheduled: 740,
             },
-            b"1 0 accepted 2 index B 0 minimum 740\n",
+            b"1 1 accepted 2 index B 0 minimum 740\n",
         ),
         (
             Outcome::Indexed {
@@ -287,18 +284,18 @@ fn outcomes_are_written(rt: HostRuntime) -> Result<(), Fail> {
                 way: Way::Nothing,
                 scheduled: 0,
             },
-            b"1 0 accepted 2 index A 999999 nothing 0\n",
+            b"1 1 accepted 2 index A 999999 nothing 0\n",
         ),
         (
             Outcome::Paid {
                 paid: 114500,
                 used: 50000,
             },
-            b"1 0 accepted 2 paid 1145.00 50000\n",
+            b"1 1 accepted 2 paid 1145.00 50000\n",
         ),
         (
             Outcome::Paid { paid: 5, used: 0 },
-            b"1 0 accepted 2 paid 0.05 0\n",
+            b"1 1 accepted 2 paid 0.05 0\n",
         ),
         (
             Outcome::Returned {
@@ -307,20 +304,12 @@ fn outcomes_are_written(rt: HostRuntime) -> Result<(), Fail> {
                 owed: 5144,
                 post: 0,
             },
-            b"1 0 accepted 2 returned 34.7 65.30 51.44 0.00\n",
+            b"1 1 accepted 2 returned 34.7 65.30 51.44 0.00\n",
         ),
     ];
     for (outcome, line) in cases.iter() {
         let mut out = Vec::new(rt.alloc());
-        put_line(
-            1,
-            &Reply::Accepted {
-                position: 2,
-                front: 0,
-                outcome: *outcome,
-            },
-            &mut out,
-        )?;
+        put_answer(1, 1, &Verdict::Admit(*outcome), &mut out)?;
         assert_eq!(rt; out.as_slice(), *line);
     }
     Ok(())
@@ -340,28 +329,34 @@ fn longest_lines(rt: HostRuntime) -> Result<(), Fail> {
         kept: u64::MAX,
         bound: u64::MAX,
     };
-    let cases: [(Reply, &[u8]); 2] = [
+    let cases: [(Verdict, &[u8]); 3] = [
         (
-            Reply::Accepted {
-                position: u32::MAX,
-                front: u32::MAX,
-                outcome,
-            },
-            b"4294967295 4294967295 accepted 4294967295 returned 6553.5 184467440737095516.15 184467440737095516.15 184467440737095516.15\n",
+            Verdict::Admit(outcome),
+            b"4294967295 4294967295 accepted 4294967296 returned 6553.5 184467440737095516.15 184467440737095516.15 184467440737095516.15\n",
         ),
         (
-            Reply::Refused {
-                refusal,
-                front: u32::MAX,
+            Verdict::Again {
+                position: u32::MAX,
+                outcome,
             },
+            b"4294967295 4294967295 again 4294967295 returned 6553.5 184467440737095516.15 184467440737095516.15 184467440737095516.15\n",
+        ),
+        (
+            Verdict::Refused(refusal),
             b"4294967295 4294967295 refused 65535 18446744073709551615 18446744073709551615\n",
         ),
     ];
-    for (reply, line) in cases.iter() {
+    for (verdict, line) in cases.iter() {
         let mut out = Vec::with_capacity(rt.alloc(), 160)?;
-        put_line(u32::MAX, reply, &mut out)?;
+        put_answer(u32::MAX, u32::MAX, verdict, &mut out)?;
         assert_eq!(rt; out.as_slice(), *line);
         assert_eq!(rt; out.capacity(), 160);
     }
+    let mut out = Vec::with_capacity(rt.alloc(), 160)?;
+    put_quote(u64::MAX, &mut out)?;
+    put_tally(u32::MAX, u32::MAX, &mut out)?;
+    let lines = b"quote 184467440737095516\nrows 4294967295 errors 4294967295\n";
+    assert_eq!(rt; out.as_slice(), lines.as_slice());
+    assert_eq!(rt; out.capacity(), 160);
     Ok(())
 }

@@ -1,7 +1,7 @@
 use Rattle.std.proofs.Common.{◌≡◌, ◌<◌, ◌/◌, ◌^◌, decimal, append_assoc, arith}
 use Rattle.aid_num.specs.Whole.{natural_text}
 use Rattle.aid_num.proofs.WholeLemmas.{decimal-natural_text}
-use Rattle.desk_forms.proofs.lines.push_cents.Goals as goal
+use Rattle.reply_lines.proofs.lines.push_cents.Goals as goal
 
 pub returns-clause-bytes : goal.returns-clause-bytes
 returns-clause-bytes c =

@@ -1,7 +1,7 @@
 use Rattle.std.proofs.Common.{rules, ◌≡◌, ◌<◌, ◌^◌, ◌++◌, ap, ◌∙◌, w32, to_z, of_z, arith}
 use Rattle.std.specs.Int.Signed.{mag}
-use Rattle.desk_forms.proofs.LinesLemmas.{signed_decimal-whole_text}
-use Rattle.desk_forms.proofs.lines.push_whole.Goals as goal
+use Rattle.reply_lines.proofs.LinesLemmas.{signed_decimal-whole_text}
+use Rattle.reply_lines.proofs.lines.push_whole.Goals as goal
 
 pub returns-clause-bytes : goal.returns-clause-bytes
 returns-clause-bytes c =

@@ -1,6 +1,6 @@
 use Rattle.std.proofs.Common.{◌≡◌, ◌+◌, ◌%◌, [], ◌∷◌, decimal, append_assoc, arith}
 use Rattle.std.proofs.lemmas.Fmt.{decimal_digit}
-use Rattle.desk_forms.proofs.lines.push_percent.Goals as goal
+use Rattle.reply_lines.proofs.lines.push_percent.Goals as goal
 
 pub returns-clause-bytes : goal.returns-clause-bytes
 returns-clause-bytes c =

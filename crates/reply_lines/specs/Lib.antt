@@ -1,0 +1,2 @@
+pub mod Lines
+pub use Rattle.aid_num.specs.Whole
