@@ -1,0 +1,29 @@
+-- The line of an error of a book's text. Own format.
+use Rattle.std.specs.Prelude.{ℕ, List, [], ◌++◌, Option, Some, None, codes, decimal}
+use Rattle.year_books.specs.Errors.{error_number}
+use Rattle.year_books.specs.declared.error.BookError.{BookError}
+use Rattle.year_books.specs.declared.error.BookError.TheVariants.{NotToml, Missing, WrongKind, OutOfRange, NotRising, Unknown, NoMemory}
+
+-- what an error names, each behind a space: a field, a table and a row of it, or a key
+abbrev pub details : BookError → List ℕ
+details NotToml = []
+details (Missing field) = codes " " ++ decimal field
+details (WrongKind field) = codes " " ++ decimal field
+details (OutOfRange field) = codes " " ++ decimal field
+details (NotRising table row) = codes " " ++ decimal table ++ codes " " ++ decimal row
+details (Unknown key) = codes " " ++ key
+details NoMemory = []
+
+-- 1 book ERROR DETAILS; what has no number has no line
+abbrev pub numbered_line : Option ℕ → List ℕ → List ℕ
+numbered_line None behind = []
+numbered_line (Some number) behind = codes "1 book " ++ decimal number ++ behind ++ codes "\n"
+
+-- the line of an error; want of memory has none
+abbrev pub book_error_line : BookError → List ℕ
+book_error_line error = numbered_line (error_number error) (details error)
+
+-- ---- what the code writes last
+abbrev pub key_in : BookError → List ℕ
+key_in (Unknown key) = key
+key_in _ = []
