@@ -19,7 +19,7 @@ def words():
     with open(PAGE) as page:
         lines = page.read().split("## A year book")[1].splitlines()
     cells = [line.split(" | ") for line in lines if line.startswith("| ")]
-    return {row[1]: row[2].replace(", in dollars", "").replace(", in years", "") for row in cells if len(row) == 4}
+    return {row[1]: row[2].replace(", in dollars, beyond", " beyond").replace(", in dollars", "").replace(", in years", "") for row in cells if len(row) == 4}
 
 
 def figure(number, unit):

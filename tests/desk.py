@@ -1,0 +1,244 @@
+"""A desk of the office in plain Python over tests/model.py, written apart from the proved code: what each command prints for
+its input, from the columns of a row to the lines of its answer."""
+import csv
+import io
+import os
+import re
+import sys
+from dataclasses import dataclass
+from datetime import date
+
+sys.path.append(os.path.join(os.path.dirname(os.path.dirname(os.path.abspath(__file__))), "scripts"))
+import model
+import year_book
+
+PROGRAM_WORDS = ["unsub", "sub", "plus", "pell", "fseog", "teach"]
+SPELLING, RANGE = 3, 4
+
+
+class Faulty(Exception):
+    """The cause that a column's text is none of its field."""
+
+
+def whole(low, high):
+    """A whole number in its one spelling."""
+    def read(text):
+        if not re.fullmatch("0|-?[1-9][0-9]*", text, re.ASCII):
+            raise Faulty(SPELLING)
+        if not low <= int(text) <= high:
+            raise Faulty(RANGE)
+        return int(text)
+    return read
+
+
+def cents(text):
+    """Dollars with two decimals."""
+    if not re.fullmatch("(0|[1-9][0-9]*)[.][0-9]{2}", text, re.ASCII):
+        raise Faulty(SPELLING)
+    if len(text) > len("999999.99"):
+        raise Faulty(RANGE)
+    return int(text.replace(".", ""))
+
+
+def day(text):
+    """A civil day from 1900 on."""
+    if not re.fullmatch("[0-9]{4}-[0-9]{2}-[0-9]{2}", text, re.ASCII):
+        raise Faulty(SPELLING)
+    try:
+        found = date.fromisoformat(text)
+    except ValueError:
+        raise Faulty(RANGE) from None
+    if found.year < 1900:
+        raise Faulty(RANGE)
+    return found
+
+
+def program(text):
+    """A program by its word."""
+    if text not in PROGRAM_WORDS:
+        raise Faulty(SPELLING)
+    return PROGRAM_WORDS.index(text)
+
+
+FLAG, EITHER_SIGN, AMOUNT = whole(0, 1), whole(-99_999_999, 99_999_999), whole(0, 99_999_999)
+STUDENT, YEAR, TERM, BREAKS = whole(1, 10**12 - 1), whole(2000, 2099), whole(1, 8), whole(0, 8)
+SIDE = [EITHER_SIGN, *[AMOUNT] * 8, EITHER_SIGN, *[AMOUNT] * 6]
+KEY = [whole(0, 999_999), whole(1, 10**12 - 1)]
+MONEY = [STUDENT, YEAR, TERM, program, cents]
+KINDS = {
+    "school": [whole(1, 999_999), whole(2, 3), whole(1, 40)],
+    "calendar": [YEAR, TERM, FLAG, day, day, BREAKS],
+    "prior": [STUDENT, whole(0, 2**32 - 1)],
+    "apply": [
+        STUDENT, YEAR, whole(1, 99), whole(1900, 2099), whole(0, 2), whole(1, 30), *[FLAG] * 10, FLAG, *SIDE, FLAG, FLAG,
+        whole(0, 120), *SIDE,
+    ],
+    "enrol": [STUDENT, YEAR, TERM, whole(0, 255)],
+    "originate": [STUDENT, YEAR, whole(0, 999_999)],
+    "pay": MONEY,
+    "withdraw": [STUDENT, YEAR, TERM, day, day, *[cents] * 7],
+    "repay": MONEY,
+    "adjust": MONEY,
+}
+
+
+@dataclass(frozen=True)
+class RowError:
+    """The column at which a row is none, 0 for all of them, and the cause."""
+    field: int
+    cause: int
+
+
+def columns_of(kind, columns):
+    """How the columns behind the kind are read, or none where there aren't as many as the kind has."""
+    fields = KEY + KINDS[kind]
+    if kind != "calendar":
+        return fields if len(columns) == len(fields) else None
+    if len(columns) < len(fields):
+        return None
+    try:
+        count = BREAKS(columns[len(fields) - 1])
+    except Faulty:
+        return fields
+    fields = fields + [day, day] * count
+    return fields if len(columns) == len(fields) else None
+
+
+def filing_of(row):
+    """The filing that a row is, or the first cause that it is none."""
+    kind, *columns = row
+    if kind not in KINDS:
+        return RowError(1, 1)
+    fields = columns_of(kind, columns)
+    if fields is None:
+        return RowError(0, 2)
+    numbers = []
+    for column, (read, text) in enumerate(zip(fields, columns), 2):
+        try:
+            numbers.append(read(text))
+        except Faulty as faulty:
+            return RowError(column, *faulty.args)
+    return made(kind, *numbers)
+
+
+def made(kind, school, number, *rest):
+    """The filing of a kind with these numbers."""
+    if kind == "calendar":
+        year, term, extra, first, last, _, *days = rest
+        return model.Calendar(school, number, year, term, bool(extra), first, last, tuple(zip(days[::2], days[1::2])))
+    if kind == "apply":
+        return application(school, number, *rest)
+    if kind == "withdraw":
+        return model.Withdrawal(school, number, *rest[:6], tuple(rest[6:]))
+    plain = {
+        "school": model.School, "prior": model.PriorUse, "enrol": model.Enrolment, "originate": model.Origination,
+        "pay": model.Payment, "repay": model.Repayment, "adjust": model.Adjustment,
+    }
+    return plain[kind](school, number, *rest)
+
+
+def application(school, number, student, year, transaction, birth_year, region, family, *rest):
+    """The application of these numbers."""
+    answers, student_file, rest = rest[:10], rest[10], rest[11:]
+    own, (parents_married, parents_file, parent_age), parents = rest[:16], rest[16:19], rest[19:]
+    names = ["married", "graduate", "bachelor", "veteran", "dependents", "orphan", "ward", "foster", "emancipated", "homeless"]
+    return model.Application(
+        school, number, student, year, transaction, birth_year, region, family, bool(student_file), bool(parents_file),
+        bool(parents_married), parent_age, model.Household(*own), model.Household(*parents),
+        **{name: bool(answer) for name, answer in zip(names, answers)},
+    )
+
+
+def rows_of(text):
+    """The rows of a text, without empty lines."""
+    return [row for row in csv.reader(io.StringIO(text.decode().removeprefix("\ufeff"), newline="")) if row]
+
+
+def book_of(tables):
+    """The year book of a text's tables."""
+    by_size = lambda section, key: model.BySize(tuple(tables[section][key]), tables[section][f"{key}_extra"])
+    rows = lambda table: tuple(model.Row(row["over"], row["base"], row["rate"]) for row in tables[table])
+    protection, schedule, payroll = tables["protection"], tables["schedule"], tables["payroll"]
+    return model.YearBook(
+        year=tables["year"], maximum=tables["pell"]["maximum"], minimum=tables["pell"]["minimum"], **tables["percent"],
+        poverty=tuple(by_size("poverty", region) for region in ("contiguous", "alaska", "hawaii")), **payroll,
+        parents=by_size("protection", "parents"), dependent_student=protection["dependent_student"],
+        single_student=protection["single_student"], married_student=protection["married_student"],
+        single_parent=by_size("protection", "single_parent"), married_parent=by_size("protection", "married_parent"),
+        employment_cap=tables["employment"]["cap"], employment_rate=tables["employment"]["rate"], **tables["assets"],
+        business=rows("business"), bracket=rows("bracket"),
+        age=tuple(model.AgeRow(row["from"], row["single"], row["married"]) for row in tables["age"]), **schedule,
+    )
+
+
+def money(amount):
+    """Whole dollars, a point, two digits."""
+    return f"{amount // 100}.{amount % 100:02}"
+
+
+def outcome_text(outcome):
+    """An outcome as a line tells it."""
+    if isinstance(outcome, model.Index):
+        return f"index {outcome.formula} {outcome.index} {outcome.way} {outcome.award}"
+    if isinstance(outcome, model.Paid):
+        return f"paid {money(outcome.net)} {outcome.used}"
+    if isinstance(outcome, model.Returned):
+        percent = f"{outcome.percent // 10}.{outcome.percent % 10}"
+        return f"returned {percent} {money(outcome.school)} {money(outcome.owed)} {money(outcome.post)}"
+    return "noted"
+
+
+class Desk:
+    """An office with its history."""
+
+    def __init__(self):
+        self.history = []
+
+    def line(self, row, filing):
+        """The line that answers a filing, which joins the history where it is admitted."""
+        front = len(self.history)
+        answer = model.file(self.history, filing)
+        if isinstance(answer, model.Refused):
+            return f"{row} {front} refused {answer.rule} {answer.kept} {answer.bound}\n"
+        if isinstance(answer, model.Again):
+            return f"{row} {front} again {answer.position} {outcome_text(answer.outcome)}\n"
+        return f"{row} {front} accepted {front + 1} {outcome_text(answer.outcome)}\n"
+
+    def file(self, text):
+        """What `file` prints."""
+        lines = []
+        for row, columns in enumerate(rows_of(text), 1):
+            filing = filing_of(columns)
+            if isinstance(filing, RowError):
+                lines.append(f"{row} error {filing.field} {filing.cause}\n")
+            else:
+                lines.append(self.line(row, filing))
+        return "".join(lines)
+
+    def book(self, number, text):
+        """What `book NUMBER` prints."""
+        try:
+            return self.line(1, model.Book(0, number, book_of(year_book.read(text))))
+        except year_book.NotABook as error:
+            return f"{error.line}\n"
+
+    def quote(self, school, student, year, term):
+        """What `quote SCHOOL STUDENT YEAR TERM` prints."""
+        return f"quote {model.quote(self.history, school, student, year, term) // 100}\n"
+
+
+def check_rows(text):
+    """What `check rows` prints."""
+    filings = [filing_of(columns) for columns in rows_of(text)]
+    errors = [filing for filing in filings if isinstance(filing, RowError)]
+    lines = [f"{row} error {filing.field} {filing.cause}\n" if filing in errors else f"{row} fine\n" for row, filing in enumerate(filings, 1)]
+    return "".join(lines) + f"rows {len(filings)} errors {len(errors)}\n"
+
+
+def check_book(text):
+    """What `check book` prints."""
+    try:
+        year_book.read(text)
+    except year_book.NotABook as error:
+        return f"{error.line}\n"
+    return "1 fine\n"

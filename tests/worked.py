@@ -1,0 +1,216 @@
+"""Worked offices: each is a list of runs on a journal of its own, with the words, the input, and the text that they print. The
+figures come from the law's worksheets and the office's own rules, worked by hand."""
+import os
+
+EXAMPLES = os.path.join(os.path.dirname(os.path.dirname(os.path.abspath(__file__))), "examples")
+
+
+def example(name):
+    """The text of an example."""
+    with open(os.path.join(EXAMPLES, name), "rb") as file:
+        return file.read()
+
+
+SPECIMEN = example("2025.toml")
+YEAR_ROWS = example("year.csv").decode().splitlines()
+
+
+def apply(key, student, **given):
+    """The row of an application: of a dependent student in a family of four without income, but for what is given."""
+    numbers = {"year": 2025, "transaction": 1, "birth_year": 2006, "region": 0, "family": 4}
+    numbers |= dict.fromkeys(
+        ["married", "graduate", "bachelor", "veteran", "dependents", "orphan", "ward", "foster", "emancipated", "homeless"], 0)
+    side = [
+        "agi", "ira", "interest", "ira_untaxed", "pension", "foreign", "grants", "credits", "work_study", "tax", "earned_first",
+        "earned_second", "support", "cash", "investments", "business",
+    ]
+    numbers |= {"student_file": 1} | dict.fromkeys(side, 0) | {"parents_married": 1, "parents_file": 1, "parent_age": 48}
+    numbers |= dict.fromkeys([f"parent_{name}" for name in side], 0)
+    assert given.keys() <= numbers.keys()
+    return ",".join(["apply", key, str(student), *map(str, (numbers | given).values())])
+
+
+def book(text=SPECIMEN, line="1 0 accepted 1 noted"):
+    """The specimen is filed."""
+    return ["book", "1"], text, line
+
+
+def rows(*pairs):
+    """Rows are filed, each with its line but for the numbers in front."""
+    text = "\n".join(row for row, _ in pairs)
+    return ["file"], text.encode(), [line for _, line in pairs]
+
+
+def filed(*rows_of_text):
+    """Rows are filed, and no line of them is compared."""
+    return ["file"], "\n".join(rows_of_text).encode(), None
+
+
+def quote(term, dollars, student=5001):
+    """What the office quotes at school 110."""
+    return ["quote", "110", str(student), "2025", str(term)], b"", f"quote {dollars}"
+
+
+# A school of two terms with 12 credits full time, a student with a Scheduled Award of 7,395 dollars, full time in both terms.
+SCHOOL = "school,0,2,110,2,12"
+TERMS = ["calendar,110,1,2025,1,0,2025-08-25,2025-12-02,0", "calendar,110,2,2025,2,0,2026-01-12,2026-04-21,0"]
+
+
+def base(student=5001, number=100, cost=24_000):
+    """The rows that bring a student to both terms."""
+    return [
+        apply(f"110,{number}", student, parents_file=0), f"enrol,110,{number + 1},{student},2025,1,12",
+        f"enrol,110,{number + 2},{student},2025,2,12", f"originate,110,{number + 3},{student},2025,{cost}",
+    ]
+
+
+BASE = [book(), filed(SCHOOL, *TERMS, *base())]
+PAID = "pay,110,9,5001,2025,1,pell,3698.00"
+
+
+def days_of(total):
+    """The last day of a term of so many days from 2027-01-01 on, by its first and last day."""
+    return {100: "2027-04-10", 111: "2027-04-21", 403: "2028-02-07"}[total]
+
+
+def completed(total, last, percent):
+    """A student leaves a term of so many days on this day, with nothing paid."""
+    rows_before = [
+        SCHOOL, f"calendar,110,1,2025,1,0,2027-01-01,{days_of(total)},0", apply("110,3", 5001), "enrol,110,4,5001,2025,1,12",
+        "originate,110,5,5001,2025,24000",
+    ]
+    leaving = f"withdraw,110,6,5001,2025,1,{last},{last},0.00,0.00,0.00,0.00,0.00,0.00,0.00"
+    return [book(), filed(*rows_before), rows((leaving, f"accepted 7 returned {percent} 0.00 0.00 0.00"))]
+
+
+def withdraw(last, charges, pell="0.00"):
+    """A withdrawal from term 1."""
+    return f"withdraw,110,20,5001,2025,1,{last},2025-12-02,{charges},0.00,0.00,0.00,{pell},0.00,0.00"
+
+
+BAD_ROWS = [
+    ("pay,110,6,5001,2025,1,pell,1145", "error 8 3"),
+    ("calendar,110,1,2025,1,0,2025-02-30,2025-12-12,0", "error 7 4"),
+    ("calendar,110,1,2025,1,0,2025-08-25,2025-12-12,1", "error 0 2"),
+    ("school,0,1,110,4,12", "error 5 4"),
+    ("prior,0,02,5001,1", "error 3 3"),
+    ("prior,0,2,5001,1", "fine"),
+]
+BAD_BOOKS = [
+    (SPECIMEN.replace(b"minimum = 740\n", b"minimum = 740\nbonus = 1\n"), "1 book 6 pell.bonus"),
+    (SPECIMEN.replace(b"minimum = 740\n", b"minimum = 7396\n"), "1 book 4 4"),
+    (SPECIMEN.replace(b"base = 11240\n", b"base = 11241\n"), "1 book 5 3 5"),
+    (SPECIMEN.replace(b"minimum = 740\n", b"bonus = 1\n"), "1 book 2 4"),
+    (b"form = ", "1 book 1"),
+]
+
+OFFICES = {
+    "a day's first rows": [
+        rows(("school,0,1,110,2,12", "accepted 1 noted"), ("prior,0,2,5001,550000", "accepted 2 noted")),
+        (["file"], b"", ""),
+        rows(("school,0,1,110,2,12", "again 1 noted"), ("prior,0,2,5001,550000", "again 2 noted")),
+        rows(("prior,0,2,5001,540000", "refused 15 2 2"), ("prior,0,x,5001,1", "error 3 3"), ("loan,0,9", "error 1 1")),
+        rows(
+            ("school,0,4,110,3,24", "refused 13 1 110"), ("prior,0,5,5001,1", "refused 80 2 5001"),
+            ("prior,0,6,5002,600001", "refused 81 600001 600000"), ("prior,110,1,5002,1", "refused 14 110 0"),
+        ),
+    ],
+    "credits in percent of full time": BASE + [
+        step for credits, dollars in [(1, 296), (7, 2145), (11, 3402), (12, 3698), (15, 3698)]
+        for step in (filed(f"enrol,110,{10 + credits},5001,2025,1,{credits}"), quote(1, dollars))
+    ],
+    "the year's limit": BASE + [
+        rows((PAID, "accepted 9 paid 3698.00 50007")),
+        quote(2, 3697),
+        rows(("pay,110,10,5001,2025,2,pell,3698.00", "refused 55 739600 739500")),
+        rows(("pay,110,10,5001,2025,2,pell,3697.00", "accepted 10 paid 7395.00 100000")),
+        filed("calendar,110,11,2025,3,1,2026-05-11,2026-08-07,0", "enrol,110,12,5001,2025,3,5"),
+        rows(("pay,110,13,5001,2025,3,pell,1553.00", "refused 55 894800 739500")),
+        filed("enrol,110,14,5001,2025,3,6"),
+        quote(3, 1849),
+        rows(("pay,110,13,5001,2025,3,pell,1849.00", "accepted 14 paid 9244.00 125003")),
+    ],
+    "the lifetime limit": [book(), filed("prior,0,3,5001,550000", SCHOOL, *TERMS, *base())] + [
+        quote(1, 3697), rows(("pay,110,9,5001,2025,1,pell,3698.00", "refused 56 600007 600000")),
+    ],
+    "a lifetime used up": [book(), filed("prior,0,3,5001,600000", SCHOOL, *TERMS, *base())] + [
+        quote(1, 0), rows(("pay,110,9,5001,2025,1,pell,1.00", "refused 56 600014 600000")),
+        rows(("prior,0,4,5002,600001", "refused 81 600001 600000")),
+    ],
+    "60 of 100 days": completed(100, "2027-03-01", "60.0"),
+    "61 of 100 days": completed(100, "2027-03-02", "100.0"),
+    "66 of 111 days": completed(111, "2027-03-07", "59.5"),
+    "67 of 111 days": completed(111, "2027-03-08", "100.0"),
+    "241 of 403 days": completed(403, "2027-08-29", "59.8"),
+    "242 of 403 days": completed(403, "2027-08-30", "100.0"),
+    "a return of a loan and a grant": BASE + [
+        filed("pay,110,9,5001,2025,1,pell,3000.00", "pay,110,10,5001,2025,1,unsub,2000.00"),
+        rows((withdraw("2025-09-23", "4000.00"), "accepted 11 returned 30.0 2800.00 0.00 0.00")),
+    ],
+    "a student owes": BASE + [
+        filed("pay,110,9,5001,2025,1,pell,3000.00"),
+        rows((withdraw("2025-09-03", "1000.00"), "accepted 10 returned 10.0 900.00 300.00 0.00")),
+    ],
+    "30 dollars are forgiven": BASE + [
+        filed("pay,110,9,5001,2025,1,pell,3000.00"),
+        rows((withdraw("2025-09-03", "1300.00"), "accepted 10 returned 10.0 1170.00 0.00 0.00")),
+    ],
+    "fewer credits": BASE + [
+        filed(PAID),
+        rows(
+            ("enrol,110,10,5001,2025,1,6", "refused 33 369800 184900"), ("adjust,110,11,5001,2025,1,pell,1849.00", "accepted 10 noted"),
+            ("enrol,110,10,5001,2025,1,6", "accepted 11 noted"),
+        ),
+    ],
+    "paid after a withdrawal": BASE + [
+        rows((withdraw("2025-09-23", "0.00", "1000.00"), "accepted 9 returned 30.0 0.00 0.00 300.00")),
+        rows(("pay,110,21,5001,2025,1,pell,301.00", "refused 52 30100 30000")),
+        rows(("pay,110,21,5001,2025,1,pell,300.00", "accepted 10 paid 300.00 4057")),
+    ],
+    "the cost of attendance": [book(), filed(SCHOOL, *TERMS, *base(cost=3_000))] + [
+        quote(1, 3000), rows(("pay,110,9,5001,2025,1,pell,3001.00", "refused 57 300100 300000")),
+    ],
+    "an independent student": [
+        book(),
+        rows(
+            (apply("0,10", 5002, birth_year=2000, family=1, agi=20_000, tax=600, earned_first=20_000, cash=1_000, parents_married=0,
+                   parents_file=0, parent_age=0), "accepted 2 index B -20 maximum 7395"),
+            (apply("0,11", 5002, birth_year=2000, family=2, agi=20_000), "refused 92 2 1"),
+            (apply("0,11", 5002, birth_year=2000, family=1, agi=20_000), "refused 91 1 1"),
+            (apply("0,12", 5003, birth_year=1990, family=2, dependents=1, agi=60_000, tax=3_000, earned_first=60_000,
+                   investments=40_000), "accepted 3 index C -707 calculated 7395"),
+        ),
+        (["quote", "110", "5009", "2025", "1"], b"", "quote 0"),
+    ],
+    "no book of the year": [rows((apply("0,1", 5001), "refused 10 2025 0"))],
+    "a book twice": [
+        book(), book(line="1 1 again 1 noted"), (["book", "2"], SPECIMEN, "1 1 refused 11 1 2025"),
+        (["book", "1"], SPECIMEN.replace(b"cap = 4730", b"cap = 4731"), "1 1 refused 15 1 1"),
+    ],
+    "texts that are no book": [(["book", "1"], text, line) for text, line in BAD_BOOKS] + [book()],
+    "terms and credits": [
+        book(), filed(*YEAR_ROWS[:6]),
+        rows(
+            ("calendar,110,9,2025,3,0,2026-04-27,2026-08-07,0", "refused 22 5 3"),
+            ("calendar,110,9,2025,3,0,2026-05-11,2026-08-07,0", "refused 24 2 2"),
+            ("calendar,110,9,2025,3,1,2026-05-11,2026-08-07,1,2026-05-11,2026-05-15", "refused 23 1 1"),
+            ("enrol,110,9,5001,2025,1,41", "refused 32 41 40"), ("originate,110,9,5001,2025,0", "refused 31 5001 2025"),
+        ),
+    ],
+    "a year": [book(), (["file"], example("year.csv"), example("year.txt").decode())],
+    "rows as they are written": [
+        (["check", "rows"], "\n".join(row for row, _ in BAD_ROWS).encode(),
+         "".join(f"{number} {line}\n" for number, (_, line) in enumerate(BAD_ROWS, 1)) + "rows 6 errors 5"),
+        (["check", "rows"], b"", "rows 0 errors 0"),
+    ],
+    "books as they are written": [(["check", "book"], text, line) for text, line in BAD_BOOKS + [(SPECIMEN, "1 fine")]],
+}
+
+
+def without_front(text):
+    """The lines of a text without the number of the row, and of filings that stood."""
+    lines = []
+    for line in text.splitlines():
+        words = line.split(" ")
+        lines.append(" ".join(words[2:] if words[1:2] and words[1].isdigit() else words[1:]))
+    return lines
