@@ -1,32 +1,104 @@
--- Rows that come one after the other.
-use Rattle.std.proofs.Common.{◌≡◌, ◌≤◌, ◌+◌, ℕ, suc, List, [], ◌∷◌, ◌++◌, length, Bool, true, false, refl, sym, ap, arith, ◌∙◌}
-use Rattle.std.specs.Prelude.{if◌then◌else◌, Option}
-use Rattle.csv.specs.Reading.{ExplainsRead, is_bom, stops_reader, strip_bom}
+-- Rows that are taken one after the other.
+use Rattle.std.proofs.Common.{◌≡◌, ◌≤◌, ◌+◌, ℕ, suc, List, [], ◌∷◌, length, Bool, true, false, refl, sym, ap, inl, arith, ◌∙◌}
+use Rattle.std.specs.Prelude.{if◌then◌else◌, ℤ, Option, Some, Result}
+use Rattle.csv.specs.Machine.{Read}
+use Rattle.csv.specs.Reading.{ExplainsRead, Reached, ReadRecord, default_config, is_bom, records, source_of, stops_reader, strip_bom}
 use Rattle.csv.specs.declared.error.ErrorKind.{ErrorKind}
 use Rattle.csv.specs.declared.error.ErrorKind.TheVariants as kind
+use Rattle.csv.specs.declared.parser.State.{State}
+use Rattle.csv.specs.declared.parser.State.TheVariants as st
 use Rattle.csv.specs.declared.reader.Reader.{Reader}
-use Rattle.desk_forms.specs.Rows.{row_meaning, meanings_from}
+use Rattle.csv.proofs.ReadFacts.{rows-end, rows-more}
+use Rattle.desk_forms.specs.Left.{IsNumbered, IsReading, left_of, line_ends, records_left}
+use Rattle.desk_forms.specs.Rows.{meanings_from, row_meaning}
+use Rattle.desk_forms.specs.declared.error.RowError.{RowError}
+use Rattle.filing_kinds.specs.declared.kind.Kind.{Kind}
+use Rattle.desk_forms.proofs.RecordsLemmas.{first_record, no_fewer, no_record, records_few}
 
--- one more row
-pub meanings_from-append : (n : ℕ) (rows : List (List (List ℕ))) (row : List (List ℕ))
-    → meanings_from n (rows ++ row ∷ []) ≡ meanings_from n rows ++ row_meaning (n + length rows) row ∷ []
-meanings_from-append n [] row = ap (λ k. row_meaning k row ∷ []) (omega arith)
-meanings_from-append n (r ∷ rows) row =
-    let same : suc n + length rows ≡ n + suc (length rows) = omega arith in
-    ap (λ more. row_meaning n r ∷ more) (meanings_from-append (suc n) rows row ∙ ap (λ k. meanings_from (suc n) rows ++ row_meaning k row ∷ []) same)
+abbrev Records : Type 0
+Records = List (List (List ℕ))
 
-shorter : (b : Bool) (a c : List ℕ) (n : ℕ) → length a ≤ n → length c ≤ n → length (if b then a else c) ≤ n
-shorter true a c n ha hc = ha
-shorter false a c n ha hc = hc
+-- ---- how many rows there are
+pub meanings_from-length : (n : ℕ) (rows : Records) → length (meanings_from n rows) ≡ length rows
+meanings_from-length n [] = refl
+meanings_from-length n (texts ∷ rows) = ap suc (meanings_from-length (suc n) rows)
+
+fewer : (b : Bool) (x y : List ℕ) (n : ℕ) → line_ends x ≤ n → line_ends y ≤ n → line_ends (if b then x else y) ≤ n
+fewer true x y n hx hy = hx
+fewer false x y n hx hy = hy
 
 -- a mark at the start is part of the text
-pub strip_bom-short : (text : List ℕ) → length (strip_bom text) ≤ length text
+strip_bom-few : (text : List ℕ) → line_ends (strip_bom text) ≤ line_ends text
 unfolding strip_bom
-strip_bom-short [] = omega arith
-strip_bom-short (a ∷ []) = omega arith
-strip_bom-short (a ∷ b ∷ []) = omega arith
-strip_bom-short (a ∷ b ∷ c ∷ rest) = shorter (is_bom a b c) rest (a ∷ b ∷ c ∷ rest) _ (omega arith) (omega arith)
+strip_bom-few [] = omega arith
+strip_bom-few (a ∷ []) = omega arith
+strip_bom-few (a ∷ b ∷ []) = omega arith
+strip_bom-few (a ∷ b ∷ c ∷ rest) =
+    fewer (is_bom a b c) rest (a ∷ b ∷ c ∷ rest) (line_ends (a ∷ b ∷ c ∷ rest))
+    (omega (arith, no_fewer c rest, no_fewer b (c ∷ rest), no_fewer a (b ∷ c ∷ rest)))
+    (omega arith)
 
+-- a text has at most one row more than it has bytes that end a line
+pub rows_few : (text : List ℕ) → length (records default_config (strip_bom text)) ≤ line_ends text + 1
+rows_few text = omega (arith, records_few (length (strip_bom text) + 1) st.StartRecord (strip_bom text), strip_bom-few text)
+
+-- ---- one row
+-- what is known of a reader behind a row
+pub record IsTaken {R : Type 0} (rem : R → Option (List ℕ)) (old new : Reader R) (fields : List (List ℕ)) : Type 0 where
+  pub left : records_left old.state (source_of rem old) ≡ fields ∷ records_left new.state (source_of rem new)
+  pub reading : IsReading rem new
+
+behind : (fields : List (List ℕ)) (p : Read) (s : State) (xs : List ℕ) → fields ≡ p.0 → p.1 ≡ s → p.2 ≡ xs
+    → p.0 ∷ records_left p.1 (Some p.2) ≡ fields ∷ records_left s (Some xs)
+behind fields p s xs is state rest = λ i. sym is i ∷ records_left (state i) (Some (rest i))
+
+-- the record that comes next is the first of those that are left
+pub is_taken : {R : Type 0} (rem : R → Option (List ℕ)) (old new : Reader R) (fields : List (List ℕ)) → IsReading rem old → ReadRecord rem old new true fields
+    → new.first ≡ true → new.flexible ≡ old.flexible → IsTaken rem old new fields
+unfolding Reached
+is_taken {R = R} rem old new fields r read first flexible =
+    let more = rows-more rem old new fields default_config old.state r.bytes r.bytes [] r.config r.known (refl, refl) read in
+    let next = more.2 in
+    let taken : records_left old.state (Some r.bytes) ≡ next.0.0 ∷ records_left next.0.1 (Some next.0.2) = first_record old.state r.bytes next.0 next.1 in
+    record {
+      left = ap (records_left old.state) r.known ∙ taken ∙ behind fields next.0 new.state more.0 next.2 next.3.0 next.3.1 ∙ ap (λ known. fields ∷ records_left new.state known) (sym more.1);
+      reading = record { bytes = more.0; known = more.1; ready = inl first; config = read.2 ∙ r.config; trim = read.3 ∙ r.trim; flexible = flexible ∙ r.flexible };
+    }
+
+-- where there is none, none are left
+pub none_left : {R : Type 0} (rem : R → Option (List ℕ)) (old new : Reader R) (fields : List (List ℕ)) → IsReading rem old → ReadRecord rem old new false fields
+    → records_left old.state (source_of rem old) ≡ []
+none_left rem old new fields r read =
+    ap (records_left old.state) r.known ∙ no_record old.state r.bytes (rows-end rem old new fields default_config r.bytes r.config r.known read)
+
+one_on : (n : ℕ) → suc n ≡ n + 1
+one_on n = omega arith
+
+-- what is left has numbers one further on
+pub next_numbered : {R : Type 0} (rem : R → Option (List ℕ)) (ended : Bool) (old new : Reader R) (fields : List (List ℕ)) (number at_most : ℕ) → ended ≡ false → IsTaken rem old new fields
+    → IsNumbered number (left_of rem ended old) at_most → IsNumbered (number + 1) (left_of rem ended new) at_most
+next_numbered rem true old new fields number at_most before taken numbered = absurd cc
+next_numbered rem false old new fields number at_most before taken numbered =
+    record { first = omega (arith, numbered.first); few = omega (arith, ap length taken.left, numbered.few); bound = numbered.bound }
+
+-- and means what it meant
+pub next_means : {R : Type 0} (rem : R → Option (List ℕ)) (ended : Bool) (old new : Reader R) (fields : List (List ℕ)) (number : ℕ) (row : Result (Kind × List ℤ) RowError)
+    → ended ≡ false → IsTaken rem old new fields → row ≡ row_meaning number fields → meanings_from number (left_of rem ended old) ≡ row ∷ meanings_from (number + 1) (left_of rem ended new)
+next_means rem true old new fields number row before taken is = absurd cc
+next_means rem false old new fields number row before taken is =
+    ap (meanings_from number) taken.left ∙ (λ i. sym is i ∷ meanings_from (one_on number i) (records_left new.state (source_of rem new)))
+
+-- where none are left nothing is meant
+pub none_mean : {R : Type 0} (rem : R → Option (List ℕ)) (ended : Bool) (old new : Reader R) (fields : List (List ℕ)) (number : ℕ)
+    → ended ≡ false → IsReading rem old → ReadRecord rem old new false fields → meanings_from number (left_of rem ended old) ≡ []
+none_mean rem true old new fields number before reading read = absurd cc
+none_mean rem false old new fields number before reading read = ap (meanings_from number) (none_left rem old new fields reading read)
+
+-- rows that are left mean no more than there is room for
+pub means_few : (number at_most : ℕ) (left : Records) → IsNumbered number left at_most → length (meanings_from number left) ≤ at_most
+means_few number at_most left numbered = omega (arith, meanings_from-length number left, numbered.first, numbered.few)
+
+-- ---- errors
 -- a flexible reader of bytes fails for the reader underneath or for memory alone
 pub only_stops : {R : Type 0} (rem : R → Option (List ℕ)) (old new : Reader R) (why : ErrorKind) → old.flexible ≡ true → ExplainsRead rem old new false why → stops_reader why ≡ true
 only_stops rem old new (kind.Io e) f h = refl

@@ -1,5 +1,6 @@
 pub mod Causes
 pub mod Fields
+pub mod Left
 pub mod Lines
 pub mod Numbers
 pub mod Rows

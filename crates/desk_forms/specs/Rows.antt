@@ -1,5 +1,5 @@
 -- The rows of a text, and why a row is no filing. Own format.
-use Rattle.std.specs.Prelude.{◌≡◌, ℕ, suc, ℤ, Bool, true, false, List, [], ◌∷◌, map, drop, if◌then◌else◌, Option, Some, None, option_and_then, Result, Ok, Err}
+use Rattle.std.specs.Prelude.{ℕ, suc, ℤ, Bool, true, false, List, [], ◌∷◌, drop, if◌then◌else◌, Option, Some, None, option_and_then, Result, Ok, Err}
 use Rattle.csv.specs.Reading.{default_config, records, strip_bom}
 use Rattle.csv.specs.Records.{field_at}
 use Rattle.aid_filings.specs.declared.filing.Filing.{Filing}
@@ -50,7 +50,3 @@ meanings text = meanings_from 1 (records default_config (strip_bom text))
 abbrev pub said : Result Filing RowError → Result (Kind × List ℤ) RowError
 said (Ok filing) = Ok (kind_of filing.what, numbers_of filing)
 said (Err e) = Err e
-
--- these are the rows of a text: they say, one for one, what its rows mean
-abbrev pub AreRowsOf : List ℕ → List (Result Filing RowError) → Type 0
-AreRowsOf text rows = map said rows ≡ meanings text

@@ -12,4 +12,4 @@ mod rows;
 pub use error::{Cause, RowError};
 pub use laws::once;
 pub use lines::{put_error, put_fine, put_tally};
-pub use rows::{Rows, rows_of};
+pub use rows::Rows;

@@ -1,98 +1,132 @@
 //! The filings of a text of rows.
-ghost use Rattle.std.specs.Prelude.{◌≡◌, ◌≢◌, ◌≤◌, [], ◌∷◌, ◌++◌, true, IfOk, IsTrue, length};
+ghost use Rattle.std.specs.Prelude.{◌≡◌, ◌≢◌, ◌≤◌, ◌+◌, [], ◌∷◌, true, IfOk, MatchOption, OnErr, length};
 ghost use Rattle.csv.specs.Reading.{stops_reader};
-ghost use Rattle.desk_forms.specs.Rows.{AreRowsOf};
+ghost use Rattle.desk_forms.specs.Left.{line_ends};
+ghost use Rattle.desk_forms.specs.Rows.{meanings, said};
 
 use crate::error::RowError;
 use crate::row::filing_of_row;
 use aid_filings::Filing;
-use csv::{ErrorKind, ReaderBuilder};
+use csv::{ByteRecord, ErrorKind, Reader, ReaderBuilder};
 use std::alloc::{AllocError, Global};
+use std::io::Cursor;
 use std::marker::Model;
 
-/// The rows of a text in order, each a filing or the error that says why it is none. A contract sees the list.
+/// The rows of a text that were not taken yet. A contract sees what they mean. They are read as they are taken, each into
+/// the room of the one before it.
 #[derive(Drop)]
 pub struct Rows {
-    rows: Vec<Result<Filing, RowError>>,
+    alloc: Global,
+    reader: Reader<Cursor<Vec<u8>>>,
+    texts: ByteRecord,
+    number: u32,
+    at_most: u32,
+    ended: bool,
 }
 
 impl Model for Rows {
-    ghost use Rattle.std.specs.Prelude.{List, Result};
-    ghost use Rattle.aid_filings.specs.declared.filing.Filing.{Filing};
+    ghost use Rattle.std.specs.Prelude.{◌≡◌, ℤ, List, Result, Some, false};
+    ghost use Rattle.std.specs.Io.Cursor.{cursor_remaining};
+    ghost use Rattle.filing_kinds.specs.declared.kind.Kind.{Kind};
+    ghost use Rattle.desk_forms.specs.Left.{IsNumbered, IsReading, left_of};
+    ghost use Rattle.desk_forms.specs.Rows.{meanings_from};
     ghost use Rattle.desk_forms.specs.declared.error.RowError.{RowError};
 
-    ghost Value = { List (Result Filing RowError) };
+    ghost Value = { List (Result (Kind × List ℤ) RowError) };
 
-    ghost view = { λ r. r.rows.items };
+    ghost view = { λ r. meanings_from r.number (left_of (cursor_remaining (λ v. Some v.items)) r.ended r.reader) };
+
+    ghost invariant = { λ r. (r.ended ≡ false → IsReading (cursor_remaining (λ v. Some v.items)) r.reader)
+        × IsNumbered r.number (left_of (cursor_remaining (λ v. Some v.items)) r.ended r.reader) r.at_most };
 }
 
-impl Rows {
-    /// The list. It takes no memory.
-    pub fn into_rows(self) -> Vec<Result<Filing, RowError>>
-        ensures { result.items ≡ self }
-    {
-        self.rows
-    }
-}
-
-/// Why rows were not read.
+/// Why a row was not read.
 #[derive(Clone, Copy, PartialEq, Eq, Debug)]
 enum Fault {
-    /// Memory ran out, or the reader underneath failed, which one over a slice does not do.
+    /// Memory ran out, or the reader underneath failed, which one over a vector does not do.
     Stopped,
     /// Anything else.
     Other,
 }
 
-/// The rows of a text of comma-separated values. They are read one at a time, and only what each of them says is kept.
-pub fn rows_of(alloc: Global, text: &[u8]) -> Result<Rows, AllocError>
-    requires { length text.now ≤ 16777216 }
-    ensures rows { IfOk result (λ rows. AreRowsOf text.now rows) }
-{
-    match read_rows(alloc, text) {
-        Ok(rows) => Ok(Rows { rows }),
-        Err(_) => Err(AllocError),
-    }
-}
-
-// The rows of a text, which nothing but want of memory keeps.
-fn read_rows(alloc: Global, text: &[u8]) -> Result<Vec<Result<Filing, RowError>>, Fault>
-    requires { length text.now ≤ 16777216 }
-    ensures rows { IfOk result (λ rows. AreRowsOf text.now rows.items) }
-    ensures fault { result ≢ Err Fault.Other }
-{
-    let reader = ReaderBuilder::new()
-        .has_headers(false)
-        .flexible(true)
-        .from_reader(alloc, text);
-    let mut rows = Vec::new(alloc);
-    let mut number: u32 = 1;
-    for row in reader.into_byte_records() {
-        match row {
-            Ok(texts) => {
-                if !keep(&mut rows, filing_of_row(alloc, number, &texts)) {
-                    return Err(Fault::Stopped);
-                }
-            }
-            Err(error) => return Err(fault_of(error.kind())),
+impl Rows {
+    /// The rows of a text of comma-separated values. It takes no memory.
+    pub fn new(alloc: Global, text: Vec<u8>) -> Rows
+        requires { length text.items ≤ 16777216 }
+        ensures { result ≡ meanings text.items }
+    {
+        let at_most = line_ends_in(&text) + 1;
+        let reader = ReaderBuilder::new()
+            .has_headers(false)
+            .flexible(true)
+            .from_reader(alloc, Cursor::new(text));
+        Rows {
+            alloc,
+            reader,
+            texts: ByteRecord::new(alloc),
+            number: 1,
+            at_most,
+            ended: false,
         }
-        number += 1;
     }
-    Ok(rows)
+
+    /// At most so many rows are left: one more than the text has line feeds and carriage returns. It does not fall as rows
+    /// are taken.
+    pub fn at_most(&self) -> u32
+        ensures bound { length self.now ≤ result }
+        ensures few { result ≤ 16777217 }
+    {
+        self.at_most
+    }
+
+    /// The next row, a filing or the error that says why it is none, and `None` behind the last. An `Err` is want of memory,
+    /// and then no rows are left.
+    pub fn next(&mut self) -> Result<Option<Result<Filing, RowError>>, AllocError>
+        ensures row { IfOk result (λ next. MatchOption next ((self.old ≡ []) × (self.new ≡ [])) (λ row. self.old ≡ said row ∷ self.new)) }
+        ensures err { OnErr result (self.new ≡ []) }
+    {
+        match self.take() {
+            Ok(row) => Ok(row),
+            Err(_) => Err(AllocError),
+        }
+    }
+
+    // The next row, which nothing but want of memory keeps.
+    fn take(&mut self) -> Result<Option<Result<Filing, RowError>>, Fault>
+        ensures row { IfOk result (λ next. MatchOption next ((self.old ≡ []) × (self.new ≡ [])) (λ row. self.old ≡ said row ∷ self.new)) }
+        ensures err { OnErr result (self.new ≡ []) }
+        ensures fault { result ≢ Err Fault.Other }
+    {
+        if self.ended {
+            return Ok(None);
+        }
+        match self.reader.read_byte_record(&mut self.texts) {
+            Ok(true) => {
+                let row = filing_of_row(self.alloc, self.number, &self.texts);
+                self.number += 1;
+                Ok(Some(row))
+            }
+            Ok(false) => {
+                self.ended = true;
+                Ok(None)
+            }
+            Err(error) => {
+                self.ended = true;
+                Err(fault_of(error.kind()))
+            }
+        }
+    }
 }
 
-// Adds what a row says, if there is memory. The filing is bound, so that the proof knows the type of what it holds.
-fn keep(rows: &mut Vec<Result<Filing, RowError>>, row: Result<Filing, RowError>) -> bool
-    ensures { IsTrue result → rows.new.items ≡ rows.old.items ++ row ∷ [] }
+// How many bytes of a text end a line.
+fn line_ends_in(text: &[u8]) -> u32
+    requires { length text.now ≤ 16777216 }
+    ensures ends { result ≡ line_ends text.now }
+    ensures few { result ≤ 16777216 }
 {
-    if rows.reserve(1).is_err() {
-        return false;
-    }
-    match row {
-        Ok(filing) => rows.push_reserved(Ok(filing)),
-        Err(error) => rows.push_reserved(Err(error)),
-    }
-    true
+    text.iter()
+        .filter(|byte| **byte == b'\r' || **byte == b'\n')
+        .count() as u32
 }
 
 // The fault of an error.

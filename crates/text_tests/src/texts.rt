@@ -1,32 +1,49 @@
 //! What rows say and how lines are written.
+use aid_filings::Filing;
 use aid_replies::{Outcome, Verdict};
 use aid_types::{Formula, Refusal, Way};
-use desk_forms::{Cause, RowError, put_error, put_fine, put_tally, rows_of};
+use desk_forms::{Cause, RowError, Rows, put_error, put_fine, put_tally};
 use filing_numbers::numbers_in;
 use itoa::Buffer;
 use reply_lines::{put_answer, put_quote};
-use std::alloc::Global;
+use std::alloc::{AllocError, Global};
 use std::process::Abort;
 use std::test::Fail;
 
 // What the rows of a text say: the numbers of each filing, or the line of its error.
 fn told(rt: &impl Abort, alloc: Global, text: &[u8]) -> Result<Vec<u8>, Fail> {
-    assert!(rt; text.len() <= 16_777_216);
     let mut out = Vec::new(alloc);
-    for row in rows_of(alloc, text)?.into_rows() {
+    let mut rows = rows_in(rt, alloc, text)?;
+    for _ in 0..rows.at_most() {
+        let Some(row) = rows.next()? else {
+            return Ok(out);
+        };
         match row {
-            Ok(filing) => {
-                for number in numbers_in(&filing).as_slice() {
-                    let mut digits = Buffer::new();
-                    out.extend_from_slice(digits.format(*number).as_bytes())?;
-                    out.push(b' ')?;
-                }
-                out.push(b'\n')?;
-            }
+            Ok(filing) => put_numbers(&filing, &mut out)?,
             Err(error) => put_error(&error, &mut out)?,
         }
     }
+    assert!(rt; rows.next()?.is_none());
     Ok(out)
+}
+
+// The rows of a copy of a text.
+fn rows_in(rt: &impl Abort, alloc: Global, text: &[u8]) -> Result<Rows, Fail> {
+    let mut copy = Vec::new(alloc);
+    copy.extend_from_slice(text)?;
+    assert!(rt; copy.len() <= 16_777_216);
+    Ok(Rows::new(alloc, copy))
+}
+
+// Appends the numbers of a filing, and a line feed.
+fn put_numbers(filing: &Filing, out: &mut Vec<u8>) -> Result<(), AllocError> {
+    for number in numbers_in(filing).as_slice() {
+        let mut digits = Buffer::new();
+        out.extend_from_slice(digits.format(*number).as_bytes())?;
+        out.push(b' ')?;
+    }
+    out.push(b'\n')?;
+    Ok(())
 }
 
 #[test]
@@ -311,6 +328,30 @@ fn outcomes_are_written(rt: HostRuntime) -> Result<(), Fail> {
         let mut out = Vec::new(rt.alloc());
         put_answer(1, 1, &Verdict::Admit(*outcome), &mut out)?;
         assert_eq!(rt; out.as_slice(), *line);
+    }
+    Ok(())
+}
+
+// Room for one row more than there are ends of lines, and none behind the last row.
+#[test]
+fn rows_are_taken(rt: HostRuntime) -> Result<(), Fail> {
+    let cases: [(&[u8], u32, u32); 6] = [
+        (b"", 1, 0),
+        (b"loan", 1, 1),
+        (b"loan\nloan\n", 3, 2),
+        (b"loan\r\n\r\nloan\r", 6, 2),
+        (b"\"a\nb\",c\n", 3, 1),
+        (b"\xef\xbb\xbf\n\n", 3, 0),
+    ];
+    for (text, room, count) in cases.iter() {
+        let mut rows = rows_in(&rt, rt.alloc(), text)?;
+        assert_eq!(rt; rows.at_most(), *room);
+        for _ in 0..*count {
+            assert!(rt; rows.next()?.is_some());
+        }
+        assert!(rt; rows.next()?.is_none());
+        assert!(rt; rows.next()?.is_none());
+        assert_eq!(rt; rows.at_most(), *room);
     }
     Ok(())
 }
