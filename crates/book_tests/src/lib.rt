@@ -111,4 +111,6 @@ base = 11240\n\
 rate = 4700\n";
 
 #[cfg(test)]
+mod rows;
+#[cfg(test)]
 mod tests;

@@ -1,6 +1,5 @@
-//! What texts give: the worked rows, and each field missing, of a wrong kind and out of its range.
+//! What texts give: each field missing, of a wrong kind and out of its range.
 use super::specimen_text;
-use specimen::specimen_book;
 use std::alloc::{AllocError, Global};
 use std::process::Abort;
 use std::test::Fail;
@@ -29,15 +28,18 @@ fn printed_error(alloc: Global, error: BookError) -> Result<String, AllocError> 
     }
 }
 
-// What is printed of the specimen with other lines in place of one.
-fn changed(alloc: Global, line: &str, other: &str) -> Result<String, AllocError> {
+// The specimen with other lines in place of one.
+pub fn with_lines(alloc: Global, line: &str, other: &str) -> Result<String, AllocError> {
     let specimen = specimen_text();
     let text = format!(in alloc; "\n{specimen}")?;
     let old = format!(in alloc; "\n{line}\n")?;
     let new = format!(in alloc; "\n{other}\n")?;
-    let text = text
-        .as_str()
-        .replacen(alloc, old.as_str(), new.as_str(), 1)?;
+    text.as_str().replacen(alloc, old.as_str(), new.as_str(), 1)
+}
+
+// What is printed of the specimen with other lines in place of one.
+fn changed(alloc: Global, line: &str, other: &str) -> Result<String, AllocError> {
+    let text = with_lines(alloc, line, other)?;
     printed(alloc, text.as_str().as_bytes())
 }
 
@@ -50,28 +52,6 @@ fn all_print(rt: &impl Abort, alloc: Global, cases: &[Case]) -> Result<(), Alloc
         let (other, want) = (case.1, case.2);
         assert!(rt; got.as_str() == want, "{other}: {got}");
     }
-    Ok(())
-}
-
-static WORKED: [Case; 4] = [
-    Case("minimum = 740", "minimum = 740\nbonus = 1", "6 pell.bonus"),
-    Case("minimum = 740", "minimum = 7396", "4 4"),
-    Case("base = 11240", "base = 11241", "5 3 5"),
-    Case("minimum = 740", "bonus = 1", "2 4"),
-];
-
-fn worked() -> &'static [Case] {
-    &WORKED
-}
-
-#[test]
-fn worked_rows(rt: HostRuntime) -> Result<(), Fail> {
-    let alloc = rt.alloc();
-    match book_of(alloc, specimen_text().as_bytes()) {
-        Ok(book) => assert!(rt; book == specimen_book()),
-        Err(error) => assert!(rt; false, "{error}"),
-    }
-    all_print(&rt, alloc, worked())?;
     Ok(())
 }
 
