@@ -1,7 +1,5 @@
 """A desk of the office in plain Python over tests/model.py, written apart from the proved code: what each command prints for
 its input, from the columns of a row to the lines of its answer."""
-import csv
-import io
 import os
 import re
 import sys
@@ -150,8 +148,25 @@ def application(school, number, student, year, transaction, birth_year, region, 
 
 
 def rows_of(text):
-    """The rows of a text, without empty lines."""
-    return [row for row in csv.reader(io.StringIO(text.decode().removeprefix("\ufeff"), newline="")) if row]
+    """The records of comma-separated values behind one byte order mark, without empty lines: a field may stand in quotes, in which
+    two quotes are one; CR, LF or both end a record. Bytes are told by the characters of their codes."""
+    rows, row, field, state = [], [], "", "start"
+    for sign in text.removeprefix(b"\xef\xbb\xbf").decode("latin-1"):
+        if state == "quoted":
+            state, field = ("quote", field) if sign == '"' else ("quoted", field + sign)
+        elif state == "quote" and sign == '"':
+            state, field = "quoted", field + sign
+        elif sign in "\r\n":
+            if state != "start":
+                rows.append([*row, field])
+            row, field, state = [], "", "start"
+        elif sign == ",":
+            row, field, state = [*row, field], "", "field"
+        elif sign == '"' and state in ("start", "field"):
+            state = "quoted"
+        else:
+            state, field = "inside", field + sign
+    return rows if state == "start" else [*rows, [*row, field]]
 
 
 def book_of(tables):

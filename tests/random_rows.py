@@ -32,7 +32,7 @@ class Rows:
             if self.rng.random() < 0.4:
                 rows.append(self.prior(student))
             for code in self.rng.sample(self.codes, self.rng.randint(1, len(self.codes))):
-                year = self.rng.choice(self.years)
+                year = self.years[0] if self.rng.random() < 0.6 else self.rng.choice(self.years)
                 rows += [self.application(code, student, year, transaction=1), self.originate(code, student, year)]
                 rows += [self.enrol(code, student, year, term) for term in (1, 2, 3) if self.rng.random() < 1.1 - 0.2 * term]
         return rows
@@ -55,7 +55,7 @@ class Rows:
     def of_any_kind(self):
         """A row of some kind, those of money most often."""
         kinds = [self.pay] * 10 + [self.withdraw] * 3 + [self.repay] * 3 + [self.adjust] * 3 + [self.enrol] * 3
-        kinds += [self.application] * 3 + [self.originate] * 2 + [self.calendar] * 2 + [self.school, self.prior]
+        kinds += [self.application] * 3 + [self.originate] * 2 + [self.calendar] * 2 + [self.school] + [self.prior] * 2
         return self.rng.choice(kinds)()
 
     # Keys, places and figures
@@ -85,10 +85,14 @@ class Rows:
         return self.rng.choice(filings) if filings else None
 
     def place(self, kind=model.Enrolment):
-        """A school, student, year and term: mostly of a filing that stands."""
+        """A school, student, year and term: mostly of a filing that stands, and sometimes any term of an origination."""
         filing = self.any(kind) or self.any(model.Enrolment)
-        if filing is None or self.rng.random() < 0.08:
-            return self.rng.choice(self.codes), self.rng.choice(self.students), self.rng.choice(self.years), self.rng.randint(1, 4)
+        way, term = self.rng.random(), self.rng.randint(1, 4)
+        if filing is None or way < 0.05:
+            return self.rng.choice(self.codes), self.rng.choice(self.students), self.rng.choice(self.years), term
+        if way < 0.15:
+            filing = self.any(model.Origination) or filing
+            return filing.school, filing.student, filing.year, term
         return filing.school, filing.student, filing.year, filing.term
 
     def near(self, *bounds):
@@ -168,7 +172,7 @@ class Rows:
 
     def enrol(self, code=None, student=None, year=None, term=None):
         place = self.place(model.Payment) if code is None else (code, student, year, term)
-        credits = self.rng.choice([12, 12, 12, 9, 6, 5, 3, 1, 15, 40, 0, 41] if code is None else [12, 12, 9, 6, 5, 40])
+        credits = self.rng.choice([12, 12, 9, 6, 6, 5, 3, 3, 1, 1, 15, 40, 0, 41] if code is None else [12, 12, 9, 6, 5, 40])
         return self.row("enrol", *place, credits)
 
     def originate(self, code=None, student=None, year=None):
