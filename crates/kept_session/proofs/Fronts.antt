@@ -1,16 +1,17 @@
 -- What each image recovers at each moment of a session.
-use Rattle.std.proofs.Common.{◌≡◌, inl, inr, ℕ, zero, suc, List, [], ◌∷◌, ◌++◌, take, Result, Ok, Err, refl, sym, ap, subst, append_assoc, IsTrue}
+use Rattle.std.proofs.Common.{◌≡◌, inl, inr, ℕ, zero, suc, List, [], ◌∷◌, ◌++◌, take, map, Result, Ok, Err, refl, sym, ◌∙◌, ap, subst, IsTrue}
+use Rattle.std.proofs.lemmas.List.{append-nil}
 use Rattle.disk_model.specs.Telling.{EachImage, EachMoment, IsHonest}
 use Rattle.disk_model.specs.declared.disk.Disk.{Ghosts}
 use Rattle.disk_model.proofs.Moments.{join, started, weaken}
 use Rattle.kept_list.specs.Scheme.{Scheme, Judging}
 use Rattle.kept_list.specs.Recovers.{Recovers, RecoversEither}
-use Rattle.kept_session.specs.Edges.{Output}
+use Rattle.kept_session.specs.Edges.{Input, Output}
 use Rattle.kept_session.specs.Texts.{Texts, after_row, after_rows}
-use Rattle.kept_session.specs.Links.{Runs, begun, answered, RecoversFront}
-use Rattle.kept_session.specs.Sessions.{Files, Opens, all, unwritten, faulted, starved, unopened, opened}
+use Rattle.kept_session.specs.Links.{Runs, begun, answered, RecoversFront, RecoversTaken}
+use Rattle.kept_session.specs.Sessions.{Files, Takes, Opens, Session, all, unwritten, faulted, starved, unopened, opened, unread, read}
 use Rattle.kept_session.specs.declared.stop.FileStop.{FileStop}
-use Rattle.kept_session.specs.declared.stop.Stop.{Stop}
+use Rattle.kept_session.specs.declared.stop.SessionStop.{SessionStop}
 use Rattle.kept_session.proofs.Runs.{after_rows-push, runs-honest}
 
 -- a front of a front, and a front itself
@@ -22,6 +23,12 @@ front_of_front (suc k) (x ∷ a) b = let (j, is) = front_of_front k a b in (suc 
 front_whole : {A : Type 0} (a b : List A) → (j : ℕ) × (take j (a ++ b) ≡ a)
 front_whole [] b = (0, refl)
 front_whole (x ∷ a) b = let (j, is) = front_whole a b in (suc j, ap (λ (l : List _). x ∷ l) is)
+
+-- what is behind a front, where the list is told by what its items say
+behind_front : {A B : Type 0} (f : A → B) (k : ℕ) (a : List A) (rest : List B) → (later : List B) × (map f a ++ rest ≡ map f (take k a) ++ later)
+behind_front f zero a rest = (map f a ++ rest, refl)
+behind_front f (suc k) [] rest = (rest, refl)
+behind_front f (suc k) (x ∷ a) rest = let (later, is) = behind_front f k a rest in (later, ap (λ (l : List _). f x ∷ l) is)
 
 module _ {D Entry Ask Verdict Error : Type 0} (disk : Ghosts D) (scheme : Scheme Entry) (judging : Judging Entry Ask Verdict) (only : (d : D) (c : List ℕ) → IsHonest (disk.tells d) → (disk.tells d).image_since (disk.tells d).moment c → (disk.tells d).image c) where
   more : (past : List Entry) (a b : List (Result Ask Error)) (c : List ℕ) → RecoversFront scheme judging past a c → RecoversFront scheme judging past (a ++ b) c
@@ -62,59 +69,89 @@ module _ {D Entry Ask Verdict Error : Type 0} (disk : Ghosts D) (scheme : Scheme
       (mid, answered row front past old at mid link before, behind, moments)
 
   module _ (texts : Texts Ask Verdict Error) (output : Output) where
-    -- rows that were filed, or some of them
-    pub moments_of_files : (rows : List (Result Ask Error)) (ended : Result (Unit {0}) FileStop) (past : List Entry) (old new : D) → IsHonest (disk.tells old) → EachImage (disk.tells old) (λ file. Recovers scheme file past)
+    -- rows that were filed, or those up to a stop
+    moments_of_files : (rows : List (Result Ask Error)) (ended : Result (Unit {0}) FileStop) (past : List Entry) (old new : D) → IsHonest (disk.tells old) → EachImage (disk.tells old) (λ file. Recovers scheme file past)
         → Files disk scheme judging texts past old new output rows ended → EachMoment (disk.tells old) (disk.tells new) (RecoversFront scheme judging past rows)
     moments_of_files rows ended past old new honest each (all _ runs _) = moments_of_runs rows past old new honest each runs
-    moments_of_files rows ended past old new honest each (unwritten front rest row runs _) =
-        subst (λ (l : List (Result Ask Error)). EachMoment (disk.tells old) (disk.tells new) (RecoversFront scheme judging past l)) (append_assoc front (row ∷ []) rest)
-        (weaken (disk.tells old) (disk.tells new) (RecoversFront scheme judging past (front ++ row ∷ [])) (RecoversFront scheme judging past ((front ++ row ∷ []) ++ rest)) (more past (front ++ row ∷ []) rest)
-        (moments_of_runs (front ++ row ∷ []) past old new honest each runs))
-    moments_of_files rows ended past old new honest each (starved front rest runs _) =
-        weaken (disk.tells old) (disk.tells new) (RecoversFront scheme judging past front) (RecoversFront scheme judging past (front ++ rest)) (more past front rest)
-        (moments_of_runs front past old new honest each runs)
-    moments_of_files rows ended past old new honest each (faulted front rest row last undecided runs fault _) =
-        join (disk.tells old) (disk.tells last) (disk.tells new) (RecoversFront scheme judging past (front ++ row ∷ rest))
-        (weaken (disk.tells old) (disk.tells last) (RecoversFront scheme judging past front) (RecoversFront scheme judging past (front ++ row ∷ rest)) (more past front (row ∷ rest))
+    moments_of_files rows ended past old new honest each (unwritten front row runs _) = moments_of_runs (front ++ row ∷ []) past old new honest each runs
+    moments_of_files rows ended past old new honest each (starved _ runs _) = moments_of_runs rows past old new honest each runs
+    moments_of_files rows ended past old new honest each (faulted front row last undecided runs fault _) =
+        join (disk.tells old) (disk.tells last) (disk.tells new) (RecoversFront scheme judging past (front ++ row ∷ []))
+        (weaken (disk.tells old) (disk.tells last) (RecoversFront scheme judging past front) (RecoversFront scheme judging past (front ++ row ∷ [])) (more past front (row ∷ []))
         (moments_of_runs front past old last honest each runs))
-        (weaken (disk.tells last) (disk.tells new) (RecoversEither scheme (after_rows judging past front) (after_row judging (after_rows judging past front) row)) (RecoversFront scheme judging past (front ++ row ∷ rest)) at_fault
+        (weaken (disk.tells last) (disk.tells new) (RecoversEither scheme (after_rows judging past front) (fault.entry ∷ after_rows judging past front)) (RecoversFront scheme judging past (front ++ row ∷ [])) at_fault
         (fault.moments (subst IsTrue (sym (runs-honest judging disk scheme past old last front runs)) honest)))
       where
-        at_fault : (c : List ℕ) → RecoversEither scheme (after_rows judging past front) (after_row judging (after_rows judging past front) row) c → RecoversFront scheme judging past (front ++ row ∷ rest) c
-        at_fault c (inl r) = whole past front (row ∷ rest) c r
+        at_fault : (c : List ℕ) → RecoversEither scheme (after_rows judging past front) (fault.entry ∷ after_rows judging past front) c → RecoversFront scheme judging past (front ++ row ∷ []) c
+        at_fault c (inl r) = whole past front (row ∷ []) c r
         at_fault c (inr r) =
-            subst (λ (l : List (Result Ask Error)). RecoversFront scheme judging past l c) (append_assoc front (row ∷ []) rest)
-            (whole past (front ++ row ∷ []) rest c (subst (λ (h : List Entry). Recovers scheme c h) (sym (after_rows-push judging past front row)) r))
+            subst (λ (l : List (Result Ask Error)). RecoversFront scheme judging past l c) (append-nil (front ++ row ∷ []))
+            (whole past (front ++ row ∷ []) [] c (subst (λ (h : List Entry). Recovers scheme c h) (sym (after_rows-push judging past front row ∙ fault.adds)) r))
 
-    -- a session, whatever it came to, where a file recovers one list at most
-    pub moments_of_opens : ((d : D) → IsHonest (disk.tells d) → (disk.tells d).image (disk.tells d).reads)
-        → ((file : List ℕ) (one other : List Entry) → Recovers scheme file one → Recovers scheme file other → one ≡ other)
-        → (rows : List (Result Ask Error)) (ended : Result (Unit {0}) Stop) (past : List Entry) (old new : D) → IsHonest (disk.tells old) → EachImage (disk.tells old) (λ file. Recovers scheme file past)
-        → Opens disk scheme judging texts old new output rows ended → EachMoment (disk.tells old) (disk.tells new) (RecoversFront scheme judging past rows)
-    moments_of_opens here once rows ended past old new honest each (unopened error not _) =
-        weaken (disk.tells old) (disk.tells new) (λ file. Recovers scheme file past) (RecoversFront scheme judging past rows) (λ c r. (0, r)) (not.moments honest past each)
-    moments_of_opens here once rows ended past old new honest each (opened list at filing is files) =
-        let same : list ≡ past = once (disk.tells old).reads list past (is.recovers honest) (each (disk.tells old).reads (here old honest)) in
-        subst (λ (h : List Entry). EachMoment (disk.tells old) (disk.tells new) (RecoversFront scheme judging h rows)) same
-        (join (disk.tells old) (disk.tells at) (disk.tells new) (RecoversFront scheme judging list rows)
-        (weaken (disk.tells old) (disk.tells at) (λ file. Recovers scheme file list) (RecoversFront scheme judging list rows) (λ c r. (0, r))
-        (is.moments honest (subst (λ (h : List Entry). EachImage (disk.tells old) (λ file. Recovers scheme file h)) (sym same) each)))
-        (moments_of_files rows filing list at new (subst IsTrue (sym is.honest) honest) (is.images honest) files))
+    -- rows that were taken from those that were left
+    moments_of_takes : (left : List texts.Meaning) (ended : Result (Unit {0}) FileStop) (past now : List Entry) (old new : D) → IsHonest (disk.tells old) → EachImage (disk.tells old) (λ file. Recovers scheme file past)
+        → Takes disk scheme judging texts past now old new output left ended → EachMoment (disk.tells old) (disk.tells new) (RecoversTaken scheme judging texts past left)
+    moments_of_takes left ended past now old new honest each takes =
+        weaken (disk.tells old) (disk.tells new) (RecoversFront scheme judging past takes.rows) (RecoversTaken scheme judging texts past left) taken
+        (moments_of_files takes.rows ended past old new honest each takes.files)
+      where
+        taken : (c : List ℕ) → RecoversFront scheme judging past takes.rows c → RecoversTaken scheme judging texts past left c
+        taken c (k, r) = let (later, is) = behind_front texts.said k takes.rows takes.rest in (take k takes.rows, later, takes.taken ∙ is, r)
 
     -- what rows leave that were all filed
     images_of_files : (rows : List (Result Ask Error)) (ended : Result (Unit {0}) FileStop) (past : List Entry) (old new : D) → ended ≡ Ok tt → IsHonest (disk.tells old) → EachImage (disk.tells old) (λ file. Recovers scheme file past)
         → Files disk scheme judging texts past old new output rows ended → EachImage (disk.tells new) (λ file. Recovers scheme file (after_rows judging past rows))
     images_of_files rows ended past old new well honest each (all _ runs _) = images_of_runs rows past old new honest each runs
-    images_of_files rows ended past old new well honest each (unwritten front rest row runs _) = absurd (let bad : ⊥ = cc in bad)
-    images_of_files rows ended past old new well honest each (starved front rest runs _) = absurd (let bad : ⊥ = cc in bad)
-    images_of_files rows ended past old new well honest each (faulted front rest row last undecided runs fault _) = absurd (let bad : ⊥ = cc in bad)
+    images_of_files rows ended past old new well honest each (unwritten front row runs _) = absurd (let bad : ⊥ = cc in bad)
+    images_of_files rows ended past old new well honest each (starved front runs _) = absurd (let bad : ⊥ = cc in bad)
+    images_of_files rows ended past old new well honest each (faulted front row last undecided runs fault _) = absurd (let bad : ⊥ = cc in bad)
 
-    -- and what a session leaves that ended well
-    pub images_of_opens : ((file : List ℕ) (one other : List Entry) → Recovers scheme file one → Recovers scheme file other → one ≡ other)
-        → (rows : List (Result Ask Error)) (ended : Result (Unit {0}) Stop) (past : List Entry) (old new : D) → ended ≡ Ok tt → IsHonest (disk.tells old) → Recovers scheme (disk.tells old).reads past
-        → Opens disk scheme judging texts old new output rows ended → EachImage (disk.tells new) (λ file. Recovers scheme file (after_rows judging past rows))
-    images_of_opens once rows ended past old new well honest reads (unopened error not _) = absurd (let bad : ⊥ = cc in bad)
-    images_of_opens once rows ended past old new well honest reads (opened list at (Err stop) is files) = absurd (let bad : ⊥ = cc in bad)
-    images_of_opens once rows ended past old new well honest reads (opened list at (Ok done) is files) =
-        subst (λ (h : List Entry). EachImage (disk.tells new) (λ file. Recovers scheme file (after_rows judging h rows))) (once (disk.tells old).reads list past (is.recovers honest) reads)
-        (images_of_files rows (Ok done) list at new refl (subst IsTrue (sym is.honest) honest) (is.images honest) files)
+    -- where a file recovers one list at most
+    module _ (once : (file : List ℕ) (one other : List Entry) → Recovers scheme file one → Recovers scheme file other → one ≡ other) where
+      -- a list that was opened, or not, whatever came of its rows
+      moments_of_opens : ((d : D) → IsHonest (disk.tells d) → (disk.tells d).image (disk.tells d).reads)
+          → (left : List texts.Meaning) (ended : Result (Unit {0}) SessionStop) (past : List Entry) (old new : D) → IsHonest (disk.tells old) → EachImage (disk.tells old) (λ file. Recovers scheme file past)
+          → Opens disk scheme judging texts old new output left ended → EachMoment (disk.tells old) (disk.tells new) (RecoversTaken scheme judging texts past left)
+      moments_of_opens here left ended past old new honest each (unopened error not _) =
+          weaken (disk.tells old) (disk.tells new) (λ file. Recovers scheme file past) (RecoversTaken scheme judging texts past left) (λ c r. ([], left, refl, r)) (not.moments honest past each)
+      moments_of_opens here left ended past old new honest each (opened list now at filing is takes) =
+          let same : list ≡ past = once (disk.tells old).reads list past (is.recovers honest) (each (disk.tells old).reads (here old honest)) in
+          subst (λ (h : List Entry). EachMoment (disk.tells old) (disk.tells new) (RecoversTaken scheme judging texts h left)) same
+          (join (disk.tells old) (disk.tells at) (disk.tells new) (RecoversTaken scheme judging texts list left)
+          (weaken (disk.tells old) (disk.tells at) (λ file. Recovers scheme file list) (RecoversTaken scheme judging texts list left) (λ c r. ([], left, refl, r))
+          (is.moments honest (subst (λ (h : List Entry). EachImage (disk.tells old) (λ file. Recovers scheme file h)) (sym same) each)))
+          (moments_of_takes left filing list now at new (subst IsTrue (sym is.honest) honest) (is.images honest) takes))
+
+      -- what a list leaves that was opened, and whose rows were all filed
+      images_of_opens : (left : List texts.Meaning) (ended : Result (Unit {0}) SessionStop) (past : List Entry) (old new : D) → ended ≡ Ok tt → IsHonest (disk.tells old) → Recovers scheme (disk.tells old).reads past
+          → Opens disk scheme judging texts old new output left ended
+          → (rows : List (Result Ask Error)) × (map texts.said rows ≡ left) × EachImage (disk.tells new) (λ file. Recovers scheme file (after_rows judging past rows))
+      images_of_opens left ended past old new well honest reads (unopened error not _) = absurd (let bad : ⊥ = cc in bad)
+      images_of_opens left ended past old new well honest reads (opened list now at (Err stop) is takes) = absurd (let bad : ⊥ = cc in bad)
+      images_of_opens left ended past old new well honest reads (opened list now at (Ok done) is takes) =
+          let none : takes.rest ≡ [] = takes.whole refl in (
+            takes.rows,
+            sym (takes.taken ∙ ap (λ (l : List texts.Meaning). map texts.said takes.rows ++ l) none ∙ append-nil (map texts.said takes.rows)),
+            subst (λ (h : List Entry). EachImage (disk.tells new) (λ file. Recovers scheme file (after_rows judging h takes.rows))) (once (disk.tells old).reads list past (is.recovers honest) reads)
+                (images_of_files takes.rows (Ok done) list at new refl (subst IsTrue (sym is.honest) honest) (is.images honest) takes.files),
+          )
+
+      module _ (rows_of : List ℕ → List texts.Meaning) (limit : ℕ) (input : Input) (sincere : IsTrue input.honest) where
+        -- a session, whatever it came to
+        pub moments_of_session : ((d : D) → IsHonest (disk.tells d) → (disk.tells d).image (disk.tells d).reads)
+            → (ended : Result (Unit {0}) SessionStop) (past : List Entry) (old new : D) → IsHonest (disk.tells old) → EachImage (disk.tells old) (λ file. Recovers scheme file past)
+            → Session disk scheme judging texts rows_of limit old new input output ended → EachMoment (disk.tells old) (disk.tells new) (RecoversTaken scheme judging texts past (rows_of input.before))
+        moments_of_session here ended past old new honest each (unread stop why same _) =
+            subst (λ (d : D). EachMoment (disk.tells old) (disk.tells d) (RecoversTaken scheme judging texts past (rows_of input.before))) (sym same)
+            (started (disk.tells old) (RecoversTaken scheme judging texts past (rows_of input.before)) (λ c since. ([], rows_of input.before, refl, each c (only old c honest since))))
+        moments_of_session here ended past old new honest each (read left _ is are opens) =
+            subst (λ (l : List texts.Meaning). EachMoment (disk.tells old) (disk.tells new) (RecoversTaken scheme judging texts past l)) (are sincere)
+            (moments_of_opens here left ended past old new honest each opens)
+
+        -- and what one leaves that ended well
+        pub images_of_session : (ended : Result (Unit {0}) SessionStop) (past : List Entry) (old new : D) → ended ≡ Ok tt → IsHonest (disk.tells old) → Recovers scheme (disk.tells old).reads past
+            → Session disk scheme judging texts rows_of limit old new input output ended
+            → (rows : List (Result Ask Error)) × (map texts.said rows ≡ rows_of input.before) × EachImage (disk.tells new) (λ file. Recovers scheme file (after_rows judging past rows))
+        images_of_session ended past old new well honest reads (unread stop why same _) = absurd (let bad : ⊥ = cc in bad)
+        images_of_session ended past old new well honest reads (read left _ is are opens) =
+            let (rows, said, each) = images_of_opens left ended past old new well honest reads opens in (rows, said ∙ are sincere, each)

@@ -18,14 +18,15 @@ settled scheme told list past (Some entry) is same sound = absurd (let bad : ⊥
 -- a list and its disk, before a call and after
 module _ {D Entry : Type 0} (disk : Ghosts D) (scheme : Scheme Entry) (past : List Entry) (pending : Option Entry) (old new : D) where
   -- the list was opened
-  pub opened_from : (disk.tells new).honest ≡ (disk.tells old).honest → pending ≡ None
+  pub opened_from : (disk.tells new).honest ≡ (disk.tells old).honest → scheme.IsLegal past → pending ≡ None
       → (IsHonest (disk.tells old) → Recovers scheme (disk.tells old).reads past) → (IsHonest (disk.tells old) → IsQuiet (disk.tells new))
       → (IsHonest (disk.tells old) → (disk.tells old).moment ≤ (disk.tells new).moment)
       → (IsHonest (disk.tells old) → IsSound scheme (disk.tells new) past pending)
       → (IsHonest (disk.tells old) → (history : List Entry) → EachImage (disk.tells old) (λ file. Recovers scheme file history) → EachMoment (disk.tells old) (disk.tells new) (λ file. Recovers scheme file history))
       → IsOpened disk scheme past old new
-  opened_from honest decided recovers quiet elapsed sound moments = record {
+  opened_from honest legal decided recovers quiet elapsed sound moments = record {
     honest = honest;
+    legal = legal;
     recovers = recovers;
     quiet = quiet;
     later = elapsed;

@@ -3,3 +3,4 @@ pub mod Edges
 pub mod Texts
 pub mod Links
 pub mod Sessions
+pub mod Checks

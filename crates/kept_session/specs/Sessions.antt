@@ -1,5 +1,5 @@
 -- What a session does, with a constructor for each way to end.
-use Rattle.std.specs.Prelude.{◌≡◌, ◌⊎◌, ◌+◌, ◌++◌, ℕ, Bool, true, false, IsTrue, List, [], ◌∷◌, length, Option, Result, Ok, Err}
+use Rattle.std.specs.Prelude.{◌≡◌, ◌⊎◌, ◌+◌, ◌++◌, ℕ, Bool, true, false, IsTrue, IsOk, List, [], ◌∷◌, length, map, Option, Result, Ok, Err}
 use Rattle.disk_model.specs.Telling.{EachImage, EachMoment, IsHonest, IsQuiet, IsRead}
 use Rattle.disk_model.specs.declared.disk.Disk.{Ghosts}
 use Rattle.filing_journal.specs.Founded.{UnbornOrEmpty}
@@ -11,24 +11,24 @@ use Rattle.kept_list.specs.Scheme.{Scheme, Judging}
 use Rattle.kept_list.specs.Recovers.{Recovers}
 use Rattle.kept_list.specs.Faulty.{IsFaultyAt}
 use Rattle.kept_list.specs.declared.kept.FoundFault.{FoundFault}
-use Rattle.kept_list.specs.declared.kept.FoundFault.TheVariants.{Exists, NotJournal, NoMemory as NoPlace}
+use Rattle.kept_list.specs.declared.kept.FoundFault.TheVariants as founding
 use Rattle.kept_session.specs.Edges.{Input, Output, IsReadWhole, IsReadWithin, IsReadPast, HasWritten, HasWrittenShort}
 use Rattle.kept_session.specs.Texts.{Texts, after_rows, lines_of, row_line}
 use Rattle.kept_session.specs.Links.{IsFaulted, IsOpened, Runs}
 use Rattle.kept_session.specs.declared.stop.ReadStop.{ReadStop}
-use Rattle.kept_session.specs.declared.stop.ReadStop.TheVariants.{Read, TooLong, NoMemory as NoRoom}
+use Rattle.kept_session.specs.declared.stop.ReadStop.TheVariants as reading
 use Rattle.kept_session.specs.declared.stop.FileStop.{FileStop}
-use Rattle.kept_session.specs.declared.stop.FileStop.TheVariants.{Write, DiskFault, NoMemory}
-use Rattle.kept_session.specs.declared.stop.Stop.{Stop}
-use Rattle.kept_session.specs.declared.stop.Stop.TheVariants.{Reading, Opening, Filing}
+use Rattle.kept_session.specs.declared.stop.FileStop.TheVariants as filing
+use Rattle.kept_session.specs.declared.stop.SessionStop.{SessionStop}
+use Rattle.kept_session.specs.declared.stop.SessionStop.TheVariants.{Reading, Opening, Filing}
 use Rattle.kept_session.specs.declared.stop.FoundStop.{FoundStop}
-use Rattle.kept_session.specs.declared.stop.FoundStop.TheVariants.{Founding, Write as Unsaid}
+use Rattle.kept_session.specs.declared.stop.FoundStop.TheVariants as unfounded
 
 -- a stop in the turn of a row, before its line: the disk failed, or there was no memory and nothing was done
 abbrev pub StopsRow : {D Entry Ask Verdict Error : Type 0} (disk : Ghosts D) → Scheme Entry → Judging Entry Ask Verdict → FileStop → Result Ask Error → List Entry → D → D → Type 0
-StopsRow disk scheme judging Write row past old new = ⊥
-StopsRow disk scheme judging (DiskFault undecided) row past old new = IsFaulted disk scheme judging undecided row past old new
-StopsRow disk scheme judging NoMemory row past old new = new ≡ old
+StopsRow disk scheme judging filing.Write row past old new = ⊥
+StopsRow disk scheme judging (filing.DiskFault undecided) row past old new = IsFaulted disk scheme judging undecided row past old new
+StopsRow disk scheme judging filing.NoMemory row past old new = new ≡ old
 
 -- Rows filed into an open list of `past`, from one state of the disk to another, with what was written: all of them, or
 -- up to a stop. Each row before the stop has its line, and stands in the chain.
@@ -38,18 +38,28 @@ pub data Files {D Entry Ask Verdict Error : Type 0} (disk : Ghosts D) (scheme : 
       → HasWritten (lines_of judging texts past 1 rows) output
       → Files disk scheme judging texts past old new output rows (Ok tt)
   -- the line of a row was cut short; what the row adds stands
-  unwritten : (front rest : List (Result Ask Error)) (row : Result Ask Error) → Runs disk scheme judging (front ++ row ∷ []) past old new
+  unwritten : (front : List (Result Ask Error)) (row : Result Ask Error) → Runs disk scheme judging (front ++ row ∷ []) past old new
       → HasWrittenShort (lines_of judging texts past 1 front) (row_line judging texts (after_rows judging past front) (length front + 1) row) output
-      → Files disk scheme judging texts past old new output (front ++ row ∷ rest) (Err Write)
+      → Files disk scheme judging texts past old new output (front ++ row ∷ []) (Err filing.Write)
   -- the disk failed in the turn of a row
-  faulted : (front rest : List (Result Ask Error)) (row : Result Ask Error) (last : D) (undecided : Option ℕ) → Runs disk scheme judging front past old last
+  faulted : (front : List (Result Ask Error)) (row : Result Ask Error) (last : D) (undecided : Option ℕ) → Runs disk scheme judging front past old last
       → IsFaulted disk scheme judging undecided row (after_rows judging past front) last new
       → HasWritten (lines_of judging texts past 1 front) output
-      → Files disk scheme judging texts past old new output (front ++ row ∷ rest) (Err (DiskFault undecided))
-  -- there was no memory for a row, or for its line, or, before the first row, for the entries that the rows may add
-  starved : (front rest : List (Result Ask Error)) → Runs disk scheme judging front past old new
+      → Files disk scheme judging texts past old new output (front ++ row ∷ []) (Err (filing.DiskFault undecided))
+  -- there was no memory for a further row, or for its line, or, before the first row, for the entries that the rows may add
+  starved : (front : List (Result Ask Error)) → Runs disk scheme judging front past old new
       → HasWritten (lines_of judging texts past 1 front) output
-      → Files disk scheme judging texts past old new output (front ++ rest) (Err NoMemory)
+      → Files disk scheme judging texts past old new output front (Err filing.NoMemory)
+
+-- Of the rows that are left some in front are taken and filed, and all of them where nothing stops that. `now` is the list
+-- that is open then.
+pub record Takes {D Entry Ask Verdict Error : Type 0} (disk : Ghosts D) (scheme : Scheme Entry) (judging : Judging Entry Ask Verdict) (texts : Texts Ask Verdict Error) (past now : List Entry) (old new : D) (output : Output) (left : List texts.Meaning) (ended : Result Unit FileStop) : Type 0 where
+  pub rows : List (Result Ask Error)
+  pub rest : List texts.Meaning
+  pub taken : left ≡ map texts.said rows ++ rest
+  pub whole : IsOk ended → rest ≡ []
+  pub list : IsOk ended → now ≡ after_rows judging past rows
+  pub files : Files disk scheme judging texts past old new output rows ended
 
 -- why no list was opened: what the bytes of the file show, and what was written to the disk
 pub record IsUnopened {D Entry : Type 0} (disk : Ghosts D) (scheme : Scheme Entry) (error : OpenError) (old new : D) : Type 0 where
@@ -65,52 +75,49 @@ pub record IsUnopened {D Entry : Type 0} (disk : Ghosts D) (scheme : Scheme Entr
   pub moments : IsHonest (disk.tells old) → (past : List Entry) → EachImage (disk.tells old) (λ file. Recovers scheme file past)
       → EachMoment (disk.tells old) (disk.tells new) (λ file. Recovers scheme file past)
 
--- the rows that were read: those of the input, where the source is honest
-abbrev pub AreRowsOf : {Ask Verdict Error : Type 0} → Texts Ask Verdict Error → Input → List (Result Ask Error) → Type 0
-AreRowsOf texts input rows = IsTrue input.honest → texts.AreRows input.before rows
-
 -- why an input wasn't read: never more than one byte past the limit is
 abbrev pub IsUnread : ReadStop → ℕ → Input → Type 0
-IsUnread Read limit input = IsReadWithin limit input
-IsUnread TooLong limit input = IsReadPast limit input
-IsUnread NoRoom limit input = IsReadWithin (limit + 1) input
+IsUnread reading.Read limit input = IsReadWithin limit input
+IsUnread reading.TooLong limit input = IsReadPast limit input
+IsUnread reading.NoMemory limit input = IsReadWithin (limit + 1) input
 
 -- how a session ended whose list was opened
-abbrev pub ended_filing : Result Unit FileStop → Result Unit Stop
+abbrev pub ended_filing : Result Unit FileStop → Result Unit SessionStop
 ended_filing (Ok done) = Ok tt
 ended_filing (Err stop) = Err (Filing stop)
 
 -- the disk refused a call
-abbrev pub is_disk_fault : Stop → Bool
+abbrev pub is_disk_fault : SessionStop → Bool
 is_disk_fault (Reading stop) = false
 is_disk_fault (Opening opening.NoOffice) = false
 is_disk_fault (Opening opening.NotJournal) = false
 is_disk_fault (Opening (opening.Damaged place)) = false
 is_disk_fault (Opening opening.DiskFault) = true
 is_disk_fault (Opening opening.NoMemory) = false
-is_disk_fault (Filing Write) = false
-is_disk_fault (Filing (DiskFault undecided)) = true
-is_disk_fault (Filing NoMemory) = false
+is_disk_fault (Filing filing.Write) = false
+is_disk_fault (Filing (filing.DiskFault undecided)) = true
+is_disk_fault (Filing filing.NoMemory) = false
 
--- The journal is opened, and then the rows are filed.
-pub data Opens {D Entry Ask Verdict Error : Type 0} (disk : Ghosts D) (scheme : Scheme Entry) (judging : Judging Entry Ask Verdict) (texts : Texts Ask Verdict Error) (old new : D) (output : Output) (rows : List (Result Ask Error)) : Result Unit Stop → Type 0 where
+-- The journal is opened, and then the rows that are left are filed.
+pub data Opens {D Entry Ask Verdict Error : Type 0} (disk : Ghosts D) (scheme : Scheme Entry) (judging : Judging Entry Ask Verdict) (texts : Texts Ask Verdict Error) (old new : D) (output : Output) (left : List texts.Meaning) : Result Unit SessionStop → Type 0 where
   -- no list was opened
   unopened : (error : OpenError) → IsUnopened disk scheme error old new → output.after ≡ output.before
-      → Opens disk scheme judging texts old new output rows (Err (Opening error))
-  -- a list was opened, and the rows were filed, or some of them
-  opened : (past : List Entry) (at : D) (ended : Result Unit FileStop) → IsOpened disk scheme past old at
-      → Files disk scheme judging texts past at new output rows ended
-      → Opens disk scheme judging texts old new output rows (ended_filing ended)
+      → Opens disk scheme judging texts old new output left (Err (Opening error))
+  -- a list was opened, and the rows were filed, or some of them in front
+  opened : (past now : List Entry) (at : D) (ended : Result Unit FileStop) → IsOpened disk scheme past old at
+      → Takes disk scheme judging texts past now at new output left ended
+      → Opens disk scheme judging texts old new output left (ended_filing ended)
 
 -- A session over the rows of an input: the input is read whole, then the journal is opened, then the rows are filed.
-pub data Session {D Entry Ask Verdict Error : Type 0} (disk : Ghosts D) (scheme : Scheme Entry) (judging : Judging Entry Ask Verdict) (texts : Texts Ask Verdict Error) (limit : ℕ) (old new : D) (input : Input) (output : Output) : Result Unit Stop → Type 0 where
+-- `rows_of` tells what the rows of a text say.
+pub data Session {D Entry Ask Verdict Error : Type 0} (disk : Ghosts D) (scheme : Scheme Entry) (judging : Judging Entry Ask Verdict) (texts : Texts Ask Verdict Error) (rows_of : List ℕ → List texts.Meaning) (limit : ℕ) (old new : D) (input : Input) (output : Output) : Result Unit SessionStop → Type 0 where
   -- the input wasn't read: the disk is as it was
   unread : (stop : ReadStop) → IsUnread stop limit input → new ≡ old → output.after ≡ output.before
-      → Session disk scheme judging texts limit old new input output (Err (Reading stop))
+      → Session disk scheme judging texts rows_of limit old new input output (Err (Reading stop))
   -- it was
-  read : (rows : List (Result Ask Error)) (ended : Result Unit Stop) → IsReadWhole limit input → AreRowsOf texts input rows
-      → Opens disk scheme judging texts old new output rows ended
-      → Session disk scheme judging texts limit old new input output ended
+  read : (left : List texts.Meaning) (ended : Result Unit SessionStop) → IsReadWhole limit input → (IsTrue input.honest → left ≡ rows_of input.before)
+      → Opens disk scheme judging texts old new output left ended
+      → Session disk scheme judging texts rows_of limit old new input output ended
 
 -- a list without entries was founded
 pub record IsFounded {D Entry : Type 0} (disk : Ghosts D) (scheme : Scheme Entry) (old new : D) : Type 0 where
@@ -123,14 +130,14 @@ pub record IsFounded {D Entry : Type 0} (disk : Ghosts D) (scheme : Scheme Entry
 -- why no list was founded: what the bytes of the file show, and what was written to the disk
 pub record IsNotFounded {D Entry : Type 0} (disk : Ghosts D) (scheme : Scheme Entry) (fault : FoundFault) (old new : D) : Type 0 where
   pub honest : (disk.tells new).honest ≡ (disk.tells old).honest
-  pub exists : IsHonest (disk.tells old) → fault ≡ Exists → IsBorn scheme.header (disk.tells old).reads × IsRead (disk.tells old) (disk.tells new)
-  pub foreign : IsHonest (disk.tells old) → fault ≡ NotJournal → IsForeign scheme.header (disk.tells old).reads × IsRead (disk.tells old) (disk.tells new)
-  pub unfounded : fault ≡ NoPlace → new ≡ old
+  pub exists : IsHonest (disk.tells old) → fault ≡ founding.Exists → IsBorn scheme.header (disk.tells old).reads × IsRead (disk.tells old) (disk.tells new)
+  pub foreign : IsHonest (disk.tells old) → fault ≡ founding.NotJournal → IsForeign scheme.header (disk.tells old).reads × IsRead (disk.tells old) (disk.tells new)
+  pub unfounded : fault ≡ founding.NoMemory → new ≡ old
   pub untouched : IsHonest (disk.tells old) → IsUnborn (disk.tells old).reads ⊎ IsRead (disk.tells old) (disk.tells new)
   pub moments : IsHonest (disk.tells old) → EachImage (disk.tells old) (UnbornOrEmpty scheme.header) → EachMoment (disk.tells old) (disk.tells new) (UnbornOrEmpty scheme.header)
 
 -- A founding, and the line that says so.
 pub data FoundSession {D Entry : Type 0} (disk : Ghosts D) (scheme : Scheme Entry) (old new : D) (line : List ℕ) (output : Output) : Result Unit FoundStop → Type 0 where
   founded : IsFounded disk scheme old new → HasWritten line output → FoundSession disk scheme old new line output (Ok tt)
-  unsaid : IsFounded disk scheme old new → HasWrittenShort [] line output → FoundSession disk scheme old new line output (Err Unsaid)
-  refused : (fault : FoundFault) → IsNotFounded disk scheme fault old new → output.after ≡ output.before → FoundSession disk scheme old new line output (Err (Founding fault))
+  unsaid : IsFounded disk scheme old new → HasWrittenShort [] line output → FoundSession disk scheme old new line output (Err unfounded.Write)
+  refused : (fault : FoundFault) → IsNotFounded disk scheme fault old new → output.after ≡ output.before → FoundSession disk scheme old new line output (Err (unfounded.Founding fault))

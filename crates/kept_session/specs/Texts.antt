@@ -3,10 +3,12 @@ use Rattle.std.specs.Prelude.{ℕ, ◌+◌, List, [], ◌∷◌, ◌++◌, lengt
 use Rattle.kept_list.specs.Scheme.{Judging}
 use Rattle.kept_list.specs.Turns.{after_ask}
 
--- how a desk reads and writes
+-- what the rows of a desk say, and the lines that answer them
 pub record Texts (Ask Verdict Error : Type 0) : Type 1 where
-  -- these are the rows of a text, each an ask or why it is none
-  pub AreRows : List ℕ → List (Result Ask Error) → Type 0
+  -- what a row may say
+  pub Meaning : Type 0
+  -- what a row says that is an ask, or why it is none
+  pub said : Result Ask Error → Meaning
   -- the line that answers the row with a number, on a list of so many entries
   pub answer_line : ℕ → ℕ → Verdict → List ℕ
   -- the line of a row that is no ask

@@ -2,11 +2,11 @@
 ghost use Rattle.std.specs.Prelude.{◌≡◌, ◌≢◌, ◌≤◌, ◌<◌, ◌^◌, ℕ, false, Option, Ok, Err, IfErr, None, OnOk, length};
 ghost use Rattle.aid_edges.specs.Faults.{Rose};
 ghost use Rattle.kept_list.specs.Turns.{after_ask};
-ghost use Rattle.kept_session.specs.Texts.{after_row, after_rows, row_line};
+ghost use Rattle.kept_session.specs.Texts.{after_row, row_line};
 ghost use Rattle.kept_session.specs.Links.{IsLink};
-ghost use Rattle.kept_session.specs.Sessions.{Files, StopsRow, is_disk_fault};
+ghost use Rattle.kept_session.specs.Sessions.{StopsRow, Takes, is_disk_fault};
 
-use crate::{FileStop, Forms, Stop};
+use crate::{FileStop, Rows, SessionStop};
 use aid_edges::{Sink, write_whole};
 use disk_model::Disk;
 use kept_list::{Docket, KeptList, ListReply};
@@ -16,18 +16,18 @@ use std::alloc::Global;
 const LINE: usize = 160;
 
 // Answers one ask, and puts its line in place of what the vector holds.
-fn file_one<D: Disk, R: Docket, F: Forms<R>>(
+fn file_one<D: Disk, R: Docket, L: Rows<R>>(
     kept: &mut KeptList<D, R>,
     number: u32,
     ask: R::Ask,
     line: &mut Vec<u8>,
 ) -> Result<(), FileStop>
     requires decided { kept.old.pending ≡ None }
-    ensures line { OnOk result (line.new.items ≡ row_line R.judging F.texts kept.old.history number (Ok ask)) }
+    ensures line { OnOk result (line.new.items ≡ row_line R.judging L.texts kept.old.history number (Ok ask)) }
     ensures list { OnOk result (kept.new.history ≡ after_ask R.judging kept.old.history ask) }
     ensures decided { OnOk result (kept.new.pending ≡ None) }
-    ensures link { OnOk result (IsLink {Error = F.Error} D.Disk R.scheme R.judging (Ok ask) kept.old.history kept.old.disk kept.new.disk) }
-    ensures stops { IfErr result (λ stop. StopsRow {Error = F.Error} D.Disk R.scheme R.judging stop (Ok ask) kept.old.history kept.old.disk kept.new.disk) }
+    ensures link { OnOk result (IsLink {Error = L.Error} D.Disk R.scheme R.judging (Ok ask) kept.old.history kept.old.disk kept.new.disk) }
+    ensures stops { IfErr result (λ stop. StopsRow {Error = L.Error} D.Disk R.scheme R.judging stop (Ok ask) kept.old.history kept.old.disk kept.new.disk) }
     ensures honest { (D.tells kept.new.disk).honest ≡ (D.tells kept.old.disk).honest }
     ensures later { D.faults kept.old.disk ≤ D.faults kept.new.disk }
     ensures cause { IfErr result (λ stop. (undecided : Option ℕ) → stop ≡ FileStop.DiskFault undecided → Rose (D.faults kept.old.disk) (D.faults kept.new.disk)) }
@@ -40,7 +40,7 @@ fn file_one<D: Disk, R: Docket, F: Forms<R>>(
     }
     match kept.turn(ask) {
         ListReply::Answered { verdict, front } => {
-            let _ = F::put_answer(number, front, &verdict, line);
+            let _ = L::put_answer(number, front, &verdict, line);
             Ok(())
         }
         ListReply::DiskFault { undecided } => Err(FileStop::DiskFault { undecided }),
@@ -49,14 +49,14 @@ fn file_one<D: Disk, R: Docket, F: Forms<R>>(
 }
 
 // Takes one row, and puts its line in place of what the vector holds.
-fn file_row<D: Disk, R: Docket, F: Forms<R>>(
+fn file_row<D: Disk, R: Docket, L: Rows<R>>(
     kept: &mut KeptList<D, R>,
     number: u32,
-    row: Result<R::Ask, F::Error>,
+    row: Result<R::Ask, L::Error>,
     line: &mut Vec<u8>,
 ) -> Result<(), FileStop>
     requires decided { kept.old.pending ≡ None }
-    ensures line { OnOk result (line.new.items ≡ row_line R.judging F.texts kept.old.history number row) }
+    ensures line { OnOk result (line.new.items ≡ row_line R.judging L.texts kept.old.history number row) }
     ensures list { OnOk result (kept.new.history ≡ after_row R.judging kept.old.history row) }
     ensures decided { OnOk result (kept.new.pending ≡ None) }
     ensures link { OnOk result (IsLink D.Disk R.scheme R.judging row kept.old.history kept.old.disk kept.new.disk) }
@@ -67,11 +67,11 @@ fn file_row<D: Disk, R: Docket, F: Forms<R>>(
     ensures unmoved { OnOk result (D.faults kept.new.disk ≡ D.faults kept.old.disk) }
 {
     match row {
-        Ok(ask) => file_one::<D, R, F>(kept, number, ask, line),
+        Ok(ask) => file_one::<D, R, L>(kept, number, ask, line),
         Err(error) => {
             kept.sound();
             line.clear();
-            match F::put_error(&error, line) {
+            match L::put_error(&error, line) {
                 Ok(()) => Ok(()),
                 Err(_) => Err(FileStop::NoMemory),
             }
@@ -81,44 +81,42 @@ fn file_row<D: Disk, R: Docket, F: Forms<R>>(
 
 /// Files the rows that are left, in order, into an open list. Each row's line is written before the next row is filed.
 /// Room for what they may add is made before the first.
-pub fn file_rows<D: Disk, K: Sink, R: Docket, F: Forms<R>>(
+pub fn file_rows<D: Disk, K: Sink, R: Docket, L: Rows<R>>(
     alloc: Global,
     kept: &mut KeptList<D, R>,
-    rows: F::Rows,
+    mut rows: L,
     out: &mut K,
 ) -> Result<(), FileStop>
-    requires few { length (F.left rows) < 2 ^ 32 }
+    requires few { length (L.left rows) < 2 ^ 32 }
     requires decided { kept.old.pending ≡ None }
-    ensures files { Files D.Disk R.scheme R.judging F.texts kept.old.history kept.old.disk kept.new.disk
-        (record { honest = K.honest out.old; before = K.text out.old; after = K.text out.new }) (F.left rows) result }
-    ensures list { OnOk result (kept.new.history ≡ after_rows R.judging kept.old.history (F.left rows)) }
+    ensures files { Takes D.Disk R.scheme R.judging L.texts kept.old.history kept.new.history kept.old.disk kept.new.disk
+        (record { honest = K.honest out.old; before = K.text out.old; after = K.text out.new }) (L.left rows) result }
     ensures decided { OnOk result (kept.new.pending ≡ None) }
     ensures write_fault { result ≡ Err FileStop.Write → Rose (K.faults out.old) (K.faults out.new) }
     ensures disk_fault { IfErr result (λ stop. (undecided : Option ℕ) → stop ≡ FileStop.DiskFault undecided → Rose (D.faults kept.old.disk) (D.faults kept.new.disk)) }
     ensures disk_unmoved { OnOk result (D.faults kept.new.disk ≡ D.faults kept.old.disk) }
     ensures sink_unmoved { OnOk result (K.faults out.new ≡ K.faults out.old) }
-    ensures disk_unmoved_err { IfErr result (λ stop. is_disk_fault (Stop.Filing stop) ≡ false → D.faults kept.new.disk ≡ D.faults kept.old.disk) }
+    ensures disk_unmoved_err { IfErr result (λ stop. is_disk_fault (SessionStop.Filing stop) ≡ false → D.faults kept.new.disk ≡ D.faults kept.old.disk) }
     ensures sink_unmoved_err { IfErr result (λ stop. stop ≢ FileStop.Write → K.faults out.new ≡ K.faults out.old) }
     ensures disk_later { D.faults kept.old.disk ≤ D.faults kept.new.disk }
     ensures sink_later { K.faults out.old ≤ K.faults out.new }
     ensures disk_honest { (D.tells kept.new.disk).honest ≡ (D.tells kept.old.disk).honest }
     ensures sink_honest { K.honest out.new ≡ K.honest out.old }
 {
-    let most = F::most().saturating_sub(kept.docket().front());
-    if kept.reserve(F::at_most(&rows).min(most)).is_err() {
+    let most = L::most().saturating_sub(kept.docket().front());
+    if kept.reserve(rows.at_most().min(most)).is_err() {
         return Err(FileStop::NoMemory);
     }
-    let mut rows = rows;
     let mut line = Vec::new(alloc);
     let mut number = 0;
     loop {
-        let row = match F::next(&mut rows) {
+        let row = match rows.next() {
             Ok(Some(row)) => row,
             Ok(None) => return Ok(()),
             Err(_) => return Err(FileStop::NoMemory),
         };
         number += 1;
-        file_row::<D, R, F>(kept, number, row, &mut line)?;
+        file_row::<D, R, L>(kept, number, row, &mut line)?;
         if write_whole(out, &line).is_err() {
             return Err(FileStop::Write);
         }

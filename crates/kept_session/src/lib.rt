@@ -2,16 +2,20 @@
 //! in order, each answered by a line before the next is filed.
 #![tactic(auto)]
 
+mod checking;
 mod filing;
 mod forms;
 mod founding;
 mod laws;
+mod rows;
 mod session;
 mod stop;
 
+pub use checking::{CheckStop, Tally, check};
 pub use filing::file_rows;
 pub use forms::Forms;
 pub use founding::found;
 pub use laws::{all_stands, answered_stands, each_moment, each_moment_of_session};
-pub use session::{INPUT_LIMIT, file};
-pub use stop::{FileStop, FoundStop, ReadStop, Stop};
+pub use rows::Rows;
+pub use session::{INPUT_LIMIT, answer, file};
+pub use stop::{FileStop, FoundStop, ReadStop, SessionStop};

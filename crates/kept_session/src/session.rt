@@ -3,9 +3,9 @@ ghost use Rattle.std.specs.Prelude.{◌≡◌, ◌≢◌, ◌≤◌, ◌<◌, �
 ghost use Rattle.aid_edges.specs.Faults.{Rose};
 ghost use Rattle.disk_model.specs.Telling.{IsHonest};
 ghost use Rattle.kept_session.specs.Edges.{IsReadWhole};
-ghost use Rattle.kept_session.specs.Sessions.{AreRowsOf, IsUnread, Opens, Session, is_disk_fault};
+ghost use Rattle.kept_session.specs.Sessions.{IsUnread, Opens, Session, is_disk_fault};
 
-use crate::{FileStop, Forms, ReadStop, Stop, file_rows};
+use crate::{FileStop, Forms, ReadStop, Rows, SessionStop, file_rows};
 use aid_edges::{ReadError, Sink, Source, read_to_limit};
 use disk_model::Disk;
 use kept_list::{Docket, KeptList};
@@ -15,12 +15,13 @@ use std::alloc::Global;
 pub const INPUT_LIMIT: usize = 16_777_216;
 
 // Reads the whole input, and begins to read its rows.
-fn read_rows<S: Source, R: Docket, F: Forms<R>>(
+pub(crate) fn read_rows<S: Source, R: Docket, F: Forms<R>>(
     alloc: Global,
+    forms: &F,
     input: &mut S,
 ) -> Result<F::Rows, ReadStop>
-    ensures rows { IfOk result (λ rows. AreRowsOf F.texts (record { honest = S.honest input.old; before = S.left input.old; after = S.left input.new }) (F.left rows)) }
-    ensures few { IfOk result (λ rows. length (F.left rows) ≤ 16777217) }
+    ensures rows { IfOk result (λ rows. IsTrue (S.honest input.old) → F.Rows.left rows ≡ F.Rows.rows_of forms.now (S.left input.old)) }
+    ensures few { IfOk result (λ rows. length (F.Rows.left rows) ≤ 16777217) }
     ensures whole { OnOk result (IsReadWhole INPUT_LIMIT (record { honest = S.honest input.old; before = S.left input.old; after = S.left input.new })) }
     ensures unread { IfErr result (λ stop. IsUnread stop INPUT_LIMIT (record { honest = S.honest input.old; before = S.left input.old; after = S.left input.new })) }
     ensures cause { result ≡ Err ReadStop.Read → Rose (S.faults input.old) (S.faults input.new) }
@@ -35,28 +36,36 @@ fn read_rows<S: Source, R: Docket, F: Forms<R>>(
         Err(ReadError::TooLong) => return Err(ReadStop::TooLong),
         Err(ReadError::NoMemory) => return Err(ReadStop::NoMemory),
     };
-    match F::read(alloc, text) {
+    match forms.read(alloc, text) {
         Ok(rows) => Ok(rows),
         Err(_) => Err(ReadStop::NoMemory),
     }
 }
 
-// Opens the list of the disk's file, and files the rows into it.
-fn file_into<D: Disk, K: Sink, R: Docket, F: Forms<R>>(
+// The entries that stand are legal. Nothing is done.
+fn legal<D: Disk, R: Docket>(kept: &KeptList<D, R>)
+    ensures { R.scheme.IsLegal kept.now.history }
+{
+    let _ = kept.docket().front();
+}
+
+/// Opens the list of the disk's file, and answers the rows that are left: each is filed, and its line is written, before
+/// the next is taken.
+pub fn answer<D: Disk, K: Sink, R: Docket, L: Rows<R>>(
     alloc: Global,
-    rows: F::Rows,
     disk: D,
+    rows: L,
     out: &mut K,
-) -> (Result<(), Stop>, D)
-    requires few { length (F.left rows) < 2 ^ 32 }
-    ensures session { Opens D.Disk R.scheme R.judging F.texts disk result.1
-        (record { honest = K.honest out.old; before = K.text out.old; after = K.text out.new }) (F.left rows) result.0 }
-    ensures write_fault { result.0 ≡ Err (Stop.Filing FileStop.Write) → Rose (K.faults out.old) (K.faults out.new) }
+) -> (Result<(), SessionStop>, D)
+    requires few { length (L.left rows) < 2 ^ 32 }
+    ensures session { Opens D.Disk R.scheme R.judging L.texts disk result.1
+        (record { honest = K.honest out.old; before = K.text out.old; after = K.text out.new }) (L.left rows) result.0 }
+    ensures write_fault { result.0 ≡ Err (SessionStop.Filing FileStop.Write) → Rose (K.faults out.old) (K.faults out.new) }
     ensures disk_fault { IfErr result.0 (λ stop. IsTrue (is_disk_fault stop) → Rose (D.faults disk) (D.faults result.1)) }
     ensures disk_unmoved { OnOk result.0 (D.faults result.1 ≡ D.faults disk) }
     ensures sink_unmoved { OnOk result.0 (K.faults out.new ≡ K.faults out.old) }
     ensures disk_unmoved_err { IfErr result.0 (λ stop. is_disk_fault stop ≡ false → D.faults result.1 ≡ D.faults disk) }
-    ensures sink_unmoved_err { IfErr result.0 (λ stop. stop ≢ Stop.Filing FileStop.Write → K.faults out.new ≡ K.faults out.old) }
+    ensures sink_unmoved_err { IfErr result.0 (λ stop. stop ≢ SessionStop.Filing FileStop.Write → K.faults out.new ≡ K.faults out.old) }
     ensures disk_later { D.faults disk ≤ D.faults result.1 }
     ensures sink_later { K.faults out.old ≤ K.faults out.new }
     ensures disk_honest { (D.tells result.1).honest ≡ (D.tells disk).honest }
@@ -64,11 +73,12 @@ fn file_into<D: Disk, K: Sink, R: Docket, F: Forms<R>>(
 {
     let mut kept = match KeptList::<D, R>::recover(alloc, disk) {
         Ok(kept) => kept,
-        Err((error, disk)) => return (Err(Stop::Opening(error)), disk),
+        Err((error, disk)) => return (Err(SessionStop::Opening(error)), disk),
     };
-    match file_rows::<D, K, R, F>(alloc, &mut kept, rows, out) {
+    legal(&kept);
+    match file_rows::<D, K, R, L>(alloc, &mut kept, rows, out) {
         Ok(()) => (Ok(()), kept.into_disk()),
-        Err(stop) => (Err(Stop::Filing(stop)), kept.into_disk()),
+        Err(stop) => (Err(SessionStop::Filing(stop)), kept.into_disk()),
     }
 }
 
@@ -77,23 +87,24 @@ fn file_into<D: Disk, K: Sink, R: Docket, F: Forms<R>>(
 pub fn file<D: Disk, S: Source, K: Sink, R: Docket, F: Forms<R>>(
     alloc: Global,
     disk: D,
+    forms: &F,
     input: &mut S,
     out: &mut K,
-) -> (Result<(), Stop>, D)
-    ensures session { Session D.Disk R.scheme R.judging F.texts INPUT_LIMIT disk result.1
+) -> (Result<(), SessionStop>, D)
+    ensures session { Session D.Disk R.scheme R.judging F.Rows.texts (F.Rows.rows_of forms.now) INPUT_LIMIT disk result.1
         (record { honest = S.honest input.old; before = S.left input.old; after = S.left input.new })
         (record { honest = K.honest out.old; before = K.text out.old; after = K.text out.new }) result.0 }
 
     // A fault is told only where its count rose, and no fault is passed over: every other answer leaves the count as it was.
-    ensures read_fault { result.0 ≡ Err (Stop.Reading ReadStop.Read) → Rose (S.faults input.old) (S.faults input.new) }
-    ensures write_fault { result.0 ≡ Err (Stop.Filing FileStop.Write) → Rose (K.faults out.old) (K.faults out.new) }
+    ensures read_fault { result.0 ≡ Err (SessionStop.Reading ReadStop.Read) → Rose (S.faults input.old) (S.faults input.new) }
+    ensures write_fault { result.0 ≡ Err (SessionStop.Filing FileStop.Write) → Rose (K.faults out.old) (K.faults out.new) }
     ensures disk_fault { IfErr result.0 (λ stop. IsTrue (is_disk_fault stop) → Rose (D.faults disk) (D.faults result.1)) }
     ensures source_unmoved { OnOk result.0 (S.faults input.new ≡ S.faults input.old) }
     ensures sink_unmoved { OnOk result.0 (K.faults out.new ≡ K.faults out.old) }
     ensures disk_unmoved { OnOk result.0 (D.faults result.1 ≡ D.faults disk) }
-    ensures source_unmoved_err { IfErr result.0 (λ stop. stop ≢ Stop.Reading ReadStop.Read → S.faults input.new ≡ S.faults input.old) }
+    ensures source_unmoved_err { IfErr result.0 (λ stop. stop ≢ SessionStop.Reading ReadStop.Read → S.faults input.new ≡ S.faults input.old) }
     ensures disk_unmoved_err { IfErr result.0 (λ stop. is_disk_fault stop ≡ false → D.faults result.1 ≡ D.faults disk) }
-    ensures sink_unmoved_err { IfErr result.0 (λ stop. stop ≢ Stop.Filing FileStop.Write → K.faults out.new ≡ K.faults out.old) }
+    ensures sink_unmoved_err { IfErr result.0 (λ stop. stop ≢ SessionStop.Filing FileStop.Write → K.faults out.new ≡ K.faults out.old) }
     ensures source_later { S.faults input.old ≤ S.faults input.new }
     ensures sink_later { K.faults out.old ≤ K.faults out.new }
     ensures disk_later { D.faults disk ≤ D.faults result.1 }
@@ -101,8 +112,8 @@ pub fn file<D: Disk, S: Source, K: Sink, R: Docket, F: Forms<R>>(
     ensures sink_honest { K.honest out.new ≡ K.honest out.old }
     ensures disk_honest { (D.tells result.1).honest ≡ (D.tells disk).honest }
 {
-    match read_rows::<S, R, F>(alloc, input) {
-        Ok(rows) => file_into::<D, K, R, F>(alloc, rows, disk, out),
-        Err(stop) => (Err(Stop::Reading(stop)), disk),
+    match read_rows::<S, R, F>(alloc, forms, input) {
+        Ok(rows) => answer::<D, K, R, F::Rows>(alloc, disk, rows, out),
+        Err(stop) => (Err(SessionStop::Reading(stop)), disk),
     }
 }

@@ -1,6 +1,6 @@
 // Why a session ends early.
 ghost use Rattle.std.specs.Prelude.{◌≡◌};
-ghost use Rattle.kept_session.specs.declared.stop.Stop.TheVariants.{Reading, Opening, Filing};
+ghost use Rattle.kept_session.specs.declared.stop.SessionStop.TheVariants.{Reading, Opening, Filing};
 
 use kept_list::{FoundFault, OpenError};
 
@@ -28,7 +28,7 @@ pub enum FileStop {
 
 /// Why a session ended before its input was answered.
 #[derive(Clone, Copy, Debug, PartialEq, Eq)]
-pub enum Stop {
+pub enum SessionStop {
     /// While the input was read.
     Reading(ReadStop),
     /// While the journal was opened.
@@ -46,26 +46,26 @@ pub enum FoundStop {
     Write,
 }
 
-impl From<ReadStop> for Stop {
+impl From<ReadStop> for SessionStop {
     ghost from_gives = { λ stop ended. ended ≡ Reading stop };
 
-    fn from(stop: ReadStop) -> Stop {
-        Stop::Reading(stop)
+    fn from(stop: ReadStop) -> SessionStop {
+        SessionStop::Reading(stop)
     }
 }
 
-impl From<OpenError> for Stop {
+impl From<OpenError> for SessionStop {
     ghost from_gives = { λ error ended. ended ≡ Opening error };
 
-    fn from(error: OpenError) -> Stop {
-        Stop::Opening(error)
+    fn from(error: OpenError) -> SessionStop {
+        SessionStop::Opening(error)
     }
 }
 
-impl From<FileStop> for Stop {
+impl From<FileStop> for SessionStop {
     ghost from_gives = { λ stop ended. ended ≡ Filing stop };
 
-    fn from(stop: FileStop) -> Stop {
-        Stop::Filing(stop)
+    fn from(stop: FileStop) -> SessionStop {
+        SessionStop::Filing(stop)
     }
 }

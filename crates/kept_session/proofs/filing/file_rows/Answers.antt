@@ -1,11 +1,11 @@
 use Rattle.std.proofs.Common.{rules}
-use Rattle.kept_session.specs.Sessions.{Files}
+use Rattle.kept_session.specs.Sessions.{Takes}
 use Rattle.kept_session.proofs.Filed.{at_err, none_filed, all_filed, starved_here, stopped_here, unwritten_here, next_filed}
 use Rattle.kept_session.proofs.filing.file_rows.Goals as goal
 
 pub returns-then-is_err-clause-files : goal.returns-then-is_err-clause-files
 returns-then-is_err-clause-files g c =
-    rw c.reserve.ensures.disk (starved_here (none_filed (g.K.Sink.honest c.args.out.now) (g.K.Sink.text c.args.out.now)))
+    rw c.reserve.ensures.disk (starved_here (none_filed (g.K.Sink.honest c.args.out.now) (g.K.Sink.text c.args.out.now)) c.reserve.new.self.history)
 
 pub loop-row-init : goal.loop-row-init
 loop-row-init g c = record {
@@ -21,20 +21,20 @@ pub returns-in-Ok-None-clause-files : goal.returns-in-Ok-None-clause-files
 returns-in-Ok-None-clause-files g c = all_filed c.loop-row.invariant.filed (search rules)
 
 pub returns-in-Err-clause-files : goal.returns-in-Err-clause-files
-returns-in-Err-clause-files g c = starved_here c.loop-row.invariant.filed
+returns-in-Err-clause-files g c = starved_here c.loop-row.invariant.filed c.loop-row.kept.history
 
 pub returns-in_err-file_row-clause-files : goal.returns-in_err-file_row-clause-files
 returns-in_err-file_row-clause-files g c =
     at_err c.from_residual.result c.in_err-file_row.field-0.0
-    (λ ended. Files g.D.Disk g.R.Docket.scheme g.R.Docket.judging g.F.Forms.texts c.args.kept.now.history c.args.kept.now.disk c.file_row.new.kept.disk (record { honest = g.K.Sink.honest c.args.out.now; before = g.K.Sink.text c.args.out.now; after = g.K.Sink.text c.loop-row.out }) (g.F.Forms.left c.args.rows) ended)
+    (λ ended. Takes g.D.Disk g.R.Docket.scheme g.R.Docket.judging g.L.Rows.texts c.args.kept.now.history c.file_row.new.kept.history c.args.kept.now.disk c.file_row.new.kept.disk (record { honest = g.K.Sink.honest c.args.out.now; before = g.K.Sink.text c.args.out.now; after = g.K.Sink.text c.loop-row.out }) (g.L.Rows.left c.args.rows) ended)
     c.from_residual.ensures.1 (stopped_here c.loop-row.invariant.filed
-    c.in-Ok-Some.row (g.F.Forms.left c.next.new.rows) (search rules) c.file_row.new.kept.disk _ c.in_err-file_row.ensures.stops)
+    c.in-Ok-Some.row (g.L.Rows.left c.next.new.self) (search rules) c.file_row.new.kept.disk c.file_row.new.kept.history _ c.in_err-file_row.ensures.stops)
 
 pub returns-then-is_err-2-clause-files : goal.returns-then-is_err-2-clause-files
 returns-then-is_err-2-clause-files g c =
     unwritten_here c.loop-row.invariant.filed
-    c.in-Ok-Some.row (g.F.Forms.left c.next.new.rows) (search rules) c.file_row.new.kept.disk c.in_ok-file_row.ensures.link
-    c.file_row.new.line.items (g.K.Sink.text c.write_whole.new.sink) c.in_ok-file_row.ensures.line
+    c.in-Ok-Some.row (g.L.Rows.left c.next.new.self) (search rules) c.file_row.new.kept.disk c.in_ok-file_row.ensures.link
+    c.file_row.new.line.items (g.K.Sink.text c.write_whole.new.sink) c.in_ok-file_row.ensures.line c.file_row.new.kept.history
     (λ honest. (search rules))
 
 pub loop-row-preserved : goal.loop-row-preserved
@@ -42,7 +42,7 @@ loop-row-preserved g c =
     let loop = c.loop-row.invariant in
     record {
       filed = next_filed loop.filed
-          c.in-Ok-Some.row (g.F.Forms.left c.next.new.rows) (search rules) c.file_row.new.kept.disk c.in_ok-file_row.ensures.link
+          c.in-Ok-Some.row (g.L.Rows.left c.next.new.self) (search rules) c.file_row.new.kept.disk c.in_ok-file_row.ensures.link
           c.file_row.new.line.items (g.K.Sink.text c.write_whole.new.sink) c.in_ok-file_row.ensures.line
           (λ honest. (search rules)) c.file_row.new.kept.history c.in_ok-file_row.ensures.list;
       decided = c.in_ok-file_row.ensures.decided;

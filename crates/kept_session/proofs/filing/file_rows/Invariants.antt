@@ -4,7 +4,7 @@ use Rattle.kept_session.proofs.filing.file_rows.Given as goal
 
 abbrev pub invariant-loop-row : goal.invariant-loop-row
 invariant-loop-row g l = record {
-  filed : HasFiled g.D.Disk g.R.Docket.scheme g.R.Docket.judging g.F.Forms.texts (g.F.Forms.left l.fn.rows) (g.F.Forms.left l.rows) l.fn.kept.history l.kept.history l.fn.kept.disk l.kept.disk
+  filed : HasFiled g.D.Disk g.R.Docket.scheme g.R.Docket.judging g.L.Rows.texts (g.L.Rows.left l.fn.rows) (g.L.Rows.left l.rows) l.fn.kept.history l.kept.history l.fn.kept.disk l.kept.disk
       (record { honest = g.K.Sink.honest l.fn.out; before = g.K.Sink.text l.fn.out; after = g.K.Sink.text l.out }) l.number;
   decided : l.kept.pending ≡ None;
   disk_unmoved : g.D.Disk.faults l.kept.disk ≡ g.D.Disk.faults l.fn.kept.disk;
@@ -14,4 +14,4 @@ invariant-loop-row g l = record {
 }
 
 abbrev pub decreases-loop-row : goal.decreases-loop-row
-decreases-loop-row g l = length (g.F.Forms.left l.rows)
+decreases-loop-row g l = length (g.L.Rows.left l.rows)

@@ -3,7 +3,7 @@ use Rattle.kept_session.specs.Sessions.{unread, read}
 use Rattle.kept_session.proofs.session.file.Goals as goal
 
 pub returns-in-Ok-clause-session : goal.returns-in-Ok-clause-session
-returns-in-Ok-clause-session g c = read (g.F.Forms.left c.in-Ok.rows) c.file_into.result.0 c.in-Ok.ensures.whole c.in-Ok.ensures.rows c.file_into.ensures.session
+returns-in-Ok-clause-session g c = read (g.F.Rows.Rows.left c.in-Ok.rows) c.answer.result.0 c.in-Ok.ensures.whole c.in-Ok.ensures.rows c.answer.ensures.session
 
 pub returns-in-Err-clause-session : goal.returns-in-Err-clause-session
 returns-in-Err-clause-session g c = unread c.in-Err.stop c.in-Err.ensures.unread refl refl
