@@ -4,3 +4,4 @@ pub mod NumbersLemmas
 pub mod ReadingLemmas
 pub mod RecordsLemmas
 pub mod RowsLemmas
+pub mod TextLaws

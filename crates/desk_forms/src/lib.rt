@@ -10,6 +10,6 @@ mod row;
 mod rows;
 
 pub use error::{Cause, RowError};
-pub use laws::once;
+pub use laws::{once, one_text};
 pub use lines::{put_error, put_fine, put_tally};
 pub use rows::Rows;
