@@ -1,5 +1,6 @@
 """The text of a year book: its fields with ranges and units, and the first thing that is wrong with a text. It is written
-apart from the proved code, so that the two can be compared."""
+apart from the proved code, so that the two can be compared. Python reads TOML 1.0; the office also takes what 1.1 adds, as a
+line end in an inline table."""
 import tomllib
 
 AMOUNT = 0, 99_999_999
