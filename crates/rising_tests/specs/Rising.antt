@@ -1,5 +1,5 @@
 -- Numbers that rise, kept and filed. A list is read newest first.
-use Rattle.std.specs.Prelude.{◌≡◌, ◌==◌, ⊤, ℕ, Bool, true, false, IsTrue, List, [], ◌∷◌, map, nat_lt, codes, refl, if◌then◌else◌, Option, Some, None, Result, Ok, Err}
+use Rattle.std.specs.Prelude.{◌==◌, ⊤, ℕ, Bool, true, false, IsTrue, List, [], ◌∷◌, map, nat_lt, codes, refl, if◌then◌else◌, Option, Some, None, Result, Ok, Err}
 use Rattle.filing_journal.specs.declared.header.Header.{Header}
 use Rattle.kept_list.specs.Scheme.{Scheme, Judging}
 use Rattle.kept_session.specs.Texts.{Texts}
@@ -43,13 +43,19 @@ rising_judging = record { answer = is_next; added = next_of }
 abbrev pub row_of : ℕ → Result ℕ ℕ
 row_of b = if b == 0 then Err b else Ok b
 
+-- the rows of a text
+abbrev pub byte_rows : List ℕ → List (Result ℕ ℕ)
+byte_rows text = map row_of text
+
 abbrev pub answer_text : ℕ → ℕ → Bool → List ℕ
 answer_text number front true = codes "kept\n"
 answer_text number front false = codes "refused\n"
 
+-- a row says what it is
 abbrev pub rising_texts : Texts ℕ Bool ℕ
 rising_texts = record {
-  AreRows = λ text rows. rows ≡ map row_of text;
+  Meaning = Result ℕ ℕ;
+  said = λ row. row;
   answer_line = answer_text;
   error_line = λ b. codes "no number\n";
 }

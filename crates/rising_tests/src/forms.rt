@@ -2,7 +2,7 @@
 ghost use Rattle.std.specs.Prelude.{◌≡◌, ◌≤◌, length};
 
 use crate::Rising;
-use kept_session::Forms;
+use kept_session::{Forms, Rows};
 use std::alloc::{AllocError, Global};
 use std::vec::IntoIter;
 
@@ -16,34 +16,29 @@ pub struct BytesLeft {
     ghost few: { length bytes.rest.items ≤ 16777216 },
 }
 
-impl Forms<Rising> for ByteForms {
-    ghost use Rattle.std.specs.Prelude.{map};
-    ghost use Rattle.rising_tests.specs.Rising.{row_of, rising_texts};
-
-    type Rows = BytesLeft;
+impl Rows<Rising> for BytesLeft {
+    ghost use Rattle.rising_tests.specs.Rising.{byte_rows, rising_texts};
 
     type Error = u8;
 
+    type Forms = ByteForms;
+
     ghost texts = { rising_texts };
 
-    ghost left = { λ rows. map row_of rows.bytes.rest.items };
+    ghost left = { λ rows. byte_rows rows.bytes.rest.items };
 
-    fn read(_alloc: Global, text: Vec<u8>) -> Result<BytesLeft, AllocError> {
-        Ok(BytesLeft {
-            bytes: text.into_iter(),
-        })
-    }
+    ghost rows_of = { λ forms. byte_rows };
 
-    fn at_most(rows: &BytesLeft) -> u32 {
-        rows.bytes.len() as u32
+    fn at_most(&self) -> u32 {
+        self.bytes.len() as u32
     }
 
     fn most() -> u32 {
         1000
     }
 
-    fn next(rows: &mut BytesLeft) -> Result<Option<Result<u8, u8>>, AllocError> {
-        Ok(match rows.bytes.next() {
+    fn next(&mut self) -> Result<Option<Result<u8, u8>>, AllocError> {
+        Ok(match self.bytes.next() {
             Some(0) => Some(Err(0)),
             Some(byte) => Some(Ok(byte)),
             None => None,
@@ -62,5 +57,23 @@ impl Forms<Rising> for ByteForms {
 
     fn put_error(_error: &u8, out: &mut Vec<u8>) -> Result<(), AllocError> {
         out.extend_from_slice(b"no number\n")
+    }
+}
+
+impl Forms<Rising> for ByteForms {
+    ghost use Rattle.std.specs.Prelude.{codes};
+
+    type Rows = BytesLeft;
+
+    ghost fine_line = { λ number. codes "fine\n" };
+
+    fn read(&self, _alloc: Global, text: Vec<u8>) -> Result<BytesLeft, AllocError> {
+        Ok(BytesLeft {
+            bytes: text.into_iter(),
+        })
+    }
+
+    fn put_fine(_number: u32, out: &mut Vec<u8>) -> Result<(), AllocError> {
+        out.extend_from_slice(b"fine\n")
     }
 }

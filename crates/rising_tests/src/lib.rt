@@ -1,9 +1,8 @@
 //! A kept list and a session over numbers that rise: what an office of another kind has to bring.
 #![tactic(auto)]
 
-ghost use Rattle.std.specs.Prelude.{◌≡◌, ◌≤◌, OnOk};
 ghost use Rattle.kept_session.specs.Sessions.{Session};
-ghost use Rattle.rising_tests.specs.Rising.{rising_judging, rising_scheme, rising_texts};
+ghost use Rattle.rising_tests.specs.Rising.{byte_rows, rising_judging, rising_scheme, rising_texts};
 
 mod forms;
 mod rising;
@@ -13,7 +12,7 @@ mod tests;
 use aid_edges::{Sink, Source};
 use disk_model::Disk;
 pub use forms::ByteForms;
-use kept_session::{INPUT_LIMIT, Stop, file};
+use kept_session::{INPUT_LIMIT, SessionStop, file};
 pub use rising::Rising;
 use std::alloc::Global;
 
@@ -23,10 +22,10 @@ pub fn file_numbers<D: Disk, S: Source, K: Sink>(
     disk: D,
     input: &mut S,
     out: &mut K,
-) -> (Result<(), Stop>, D)
-    ensures session { Session D.Disk rising_scheme rising_judging rising_texts INPUT_LIMIT disk result.1
+) -> (Result<(), SessionStop>, D)
+    ensures session { Session D.Disk rising_scheme rising_judging rising_texts byte_rows INPUT_LIMIT disk result.1
         (record { honest = S.honest input.old; before = S.left input.old; after = S.left input.new })
         (record { honest = K.honest out.old; before = K.text out.old; after = K.text out.new }) result.0 }
 {
-    file::<D, S, K, Rising, ByteForms>(alloc, disk, input, out)
+    file::<D, S, K, Rising, ByteForms>(alloc, disk, &ByteForms, input, out)
 }

@@ -87,16 +87,10 @@ impl Docket for Rising {
     }
 
     fn judge(&self, ask: u8) -> Judged<u8, bool> {
-        if self.admits(&ask) {
-            Judged {
-                verdict: true,
-                added: Some(ask),
-            }
-        } else {
-            Judged {
-                verdict: false,
-                added: None,
-            }
+        let verdict = self.admits(&ask);
+        Judged {
+            verdict,
+            added: verdict.then_some(ask),
         }
     }
 

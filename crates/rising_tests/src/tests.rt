@@ -1,8 +1,8 @@
-// Numbers are filed, kept and filed again.
-use crate::{Rising, file_numbers};
+// Numbers are filed, kept and filed again, or only looked at.
+use crate::{ByteForms, Rising, file_numbers};
 use aid_edges::{MemorySink, SteadySource};
 use disk_model::MemoryDisk;
-use kept_session::found;
+use kept_session::{Tally, check, found};
 use std::test::Fail;
 
 #[test]
@@ -30,5 +30,22 @@ fn numbers_are_kept(rt: HostRuntime) -> Result<(), Fail> {
         disk = next;
     }
     assert_eq!(rt; disk.image().len(), 17 + 3 * 6);
+    Ok(())
+}
+
+#[test]
+fn numbers_are_looked_at(rt: HostRuntime) -> Result<(), Fail> {
+    let alloc = rt.alloc();
+    let mut source = SteadySource::new(b"\x05\x05\x00\x09".to_vec(alloc)?);
+    let mut sink = MemorySink::new(alloc, Vec::new(alloc));
+    let tally = check::<SteadySource, MemorySink, Rising, ByteForms>(
+        alloc,
+        &ByteForms,
+        &mut source,
+        &mut sink,
+    )?;
+    assert_eq!(rt; tally, Tally { rows: 4, errors: 1 });
+    let lines: &[u8] = b"fine\nfine\nno number\nfine\n";
+    assert_eq!(rt; sink.text(), lines);
     Ok(())
 }
