@@ -1,1 +1,3 @@
+pub mod Rows
+pub mod Totals
 pub mod Used

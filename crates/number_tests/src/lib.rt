@@ -8,4 +8,6 @@ mod numbers;
 #[cfg(test)]
 mod terms;
 #[cfg(test)]
+mod totals;
+#[cfg(test)]
 mod worksheets;

@@ -1,9 +1,7 @@
--- Whole dollars between two amounts, and the cents whose lifetime use is within so many units.
-use Rattle.std.proofs.Common.{◌≡◌, ℕ, zero, suc, ◌+◌, ◌-◌, ◌*◌, ◌/◌, ◌≤◌, ◌<◌, Bool, true, false, nat_lt, refl, arith, ltb-true, ltb-false, zero-le}
-use Rattle.std.proofs.lemmas.Nat.{le-div, div_below}
+-- Whole dollars between two amounts.
+use Rattle.std.proofs.Common.{ℕ, ◌+◌, ◌-◌, ◌*◌, ◌/◌, ◌≤◌, ◌<◌, arith}
+use Rattle.std.proofs.lemmas.Nat.{le-div}
 use Rattle.std.proofs.Math.Nat.{div-mul-le_self}
-use Rattle.aid_num.specs.Nearest.{half_up}
-use Rattle.lifetime_ledger.specs.Used.{use_of}
 
 -- the whole dollars between two amounts are those that fit
 pub fits : (have limit dollars : ℕ) → 0 < dollars → dollars ≤ (limit - have) / 100 → have + 100 * dollars ≤ limit
@@ -13,38 +11,3 @@ fits have limit dollars pos le =
 
 pub fits_only : (have limit dollars : ℕ) → have + 100 * dollars ≤ limit → dollars ≤ (limit - have) / 100
 fits_only have limit dollars le = le-div dollars (limit - have) 100 (omega arith) (omega arith)
-
--- the most cents whose use of a Scheduled Award is at most so many units
-abbrev pub cents_within : ℕ → ℕ → ℕ
-cents_within scheduled units = (scheduled * (2 * units + 1) - 1) / 2000
-
--- they are those whose use is within the units, both ways
-pub use_fits : (scheduled units cents : ℕ) → 0 < scheduled → cents ≤ cents_within scheduled units → use_of cents scheduled ≤ units
-unfolding use_of half_up
-use_fits scheduled units zero pos le = zero-le
-use_fits scheduled units (suc n) pos le =
-    let k : cents_within scheduled units * 2000 ≤ scheduled * (2 * units + 1) - 1 = div-mul-le_self (scheduled * (2 * units + 1) - 1) 2000 in
-    let p : (units + 1) * (2 * scheduled) ≡ scheduled * (2 * units + 1) + scheduled = grind arith in
-    let b : (2 * (suc n * 1000) + scheduled) / (2 * scheduled) < units + 1 =
-    div_below (2 * (suc n * 1000) + scheduled) (2 * scheduled) (units + 1) (omega arith) (omega arith) in
-    omega arith
-
--- a quotient that is at most m
-below_next : (n k m : ℕ) → 0 < k → n / k ≤ m → n < (m + 1) * k
-below_next n k m pos le = go (nat_lt n ((m + 1) * k)) refl
-  where
-    go : (b : Bool) → nat_lt n ((m + 1) * k) ≡ b → n < (m + 1) * k
-    go true e = ltb-true n ((m + 1) * k) e
-    go false e =
-        let f : (m + 1) * k ≤ n = ltb-false n ((m + 1) * k) e in
-        let d : m + 1 ≤ n / k = le-div (m + 1) n k pos f in
-        absurd (omega arith)
-
-pub use_needs : (scheduled units cents : ℕ) → 0 < scheduled → use_of cents scheduled ≤ units → cents ≤ cents_within scheduled units
-unfolding use_of half_up
-use_needs scheduled units zero pos le = zero-le
-use_needs scheduled units (suc n) pos le =
-    let b : 2 * (suc n * 1000) + scheduled < (units + 1) * (2 * scheduled) =
-    below_next (2 * (suc n * 1000) + scheduled) (2 * scheduled) units (omega arith) le in
-    let p : (units + 1) * (2 * scheduled) ≡ scheduled * (2 * units + 1) + scheduled = grind arith in
-    le-div (suc n) (scheduled * (2 * units + 1) - 1) 2000 (omega arith) (omega arith)

@@ -1,18 +1,9 @@
 -- The most whole dollars within all that bounds them.
-use Rattle.std.proofs.Common.{◌≡◌, ◌↔◌, ℕ, ◌+◌, ◌-◌, ◌*◌, ◌≤◌, ◌<◌, min, arith, slice_index}
+use Rattle.std.proofs.Common.{◌≡◌, ℕ, ◌+◌, ◌*◌, ◌≤◌, ◌<◌, min, arith, slice_index}
 use Rattle.filing_rules.specs.declared.facts.Facts.{Facts}
 use Rattle.filing_rules.specs.Rules.{payment_here, year_limit}
 use Rattle.lifetime_ledger.specs.Used.{use_of}
 use Rattle.pell_quote.specs.Limits.{IsAffordable, IsMostDollars, IsWithinLimits, IsWithinPost}
-use Rattle.pell_quote.proofs.Amounts.{cents_within, use_fits, use_needs}
-
--- the cents within the lifetime limit
-pub lifetime_within : (scheduled used cents : ℕ) → 0 < scheduled → used ≤ 600000 →
-    (cents ≤ cents_within scheduled (600000 - used)) ↔ (used + use_of cents scheduled ≤ 600000)
-lifetime_within scheduled used cents awarded low = (
-  λ le. let u = use_fits scheduled (600000 - used) cents awarded le in omega arith,
-  λ h. use_needs scheduled (600000 - used) cents awarded (omega arith),
-)
 
 -- after a withdrawal
 pub post_most : (f : Facts) (could post : ℕ) → IsMostDollars (λ cents. f.after + cents ≤ slice_index f.could 3) could →

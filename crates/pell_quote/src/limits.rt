@@ -6,7 +6,8 @@ ghost use Rattle.filing_rules.specs.InRange.{AreFactsInRange};
 ghost use Rattle.pell_quote.specs.Limits.{IsAffordable, IsMostDollars, IsWithinLimits, IsWithinPost, MayBePaid};
 
 use aid_types::Program;
-use filing_rules::{Facts, MOST_FILINGS, MOST_UNITS, limit_of_year, payment_at};
+use filing_rules::{Facts, MOST_FILINGS, limit_of_year, payment_at};
+use lifetime_ledger::{MOST_UNITS, most_cents};
 
 /// Whether Pell may be paid at all, whatever the amount.
 pub(crate) fn may_be_paid(f: &Facts) -> bool
@@ -51,19 +52,16 @@ fn limit_dollars(f: &Facts) -> u64
     of_term.min(of_year).min(of_lifetime).min(of_cost)
 }
 
-/// The most cents of the year that are within the lifetime limit, 0 where none is. A year's use is rounded to the nearest
-/// unit, so its cents are within so many units as long as they use less than half a unit more (HEA 401(d)(5)).
+/// The most cents of the year that are within the lifetime limit, 0 where none is (HEA 401(d)(5)).
 fn lifetime_cents(f: &Facts) -> u64
     requires facts { AreFactsInRange f.now }
     requires may_be_paid { MayBePaid f.now }
     ensures { (cents : ℕ) → 0 < cents → (cents ≤ result) ↔ (f.now.used_else + use_of cents f.now.scheduled ≤ 600000) }
 {
-    let used = u64::from(f.used_else);
-    if used > MOST_UNITS {
-        return 0;
+    match MOST_UNITS.checked_sub(f.used_else) {
+        Some(units) => most_cents(f.scheduled, units),
+        None => 0,
     }
-    let units = MOST_UNITS - used;
-    (u64::from(f.scheduled) * (2 * units + 1) - 1) / 2000
 }
 
 /// The most whole dollars that may be disbursed after a withdrawal: within what could have been disbursed of Pell, and

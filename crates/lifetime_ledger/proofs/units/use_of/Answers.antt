@@ -1,6 +1,6 @@
 use Rattle.std.proofs.Common.{◌*◌, arith}
 use Rattle.aid_num.proofs.NearestLemmas.{half_up-le}
-use Rattle.lifetime_ledger.proofs.use_of.Goals as goal
+use Rattle.lifetime_ledger.proofs.units.use_of.Goals as goal
 
 pub overflow_cast-result : goal.overflow_cast-result
 overflow_cast-result c =

@@ -1,0 +1,4 @@
+pub mod Cents
+pub mod Sums
+pub mod Tied
+pub mod Written
