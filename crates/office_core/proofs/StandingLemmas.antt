@@ -11,7 +11,7 @@ use Rattle.office_history.proofs.Recorded.{answer_of-repeated, outcome_at-stays}
 use Rattle.office_core.specs.Register.{filing_in}
 
 -- the filing at an index of the list, which is read oldest first
-standing_at : (h : List Filing) (i : ℕ) (f : Filing) → IsLegal (reverse h) → slice_get h i ≡ Some f → answer_of (reverse h) f ≡ Again (suc i) (outcome_at (reverse h) (suc i))
+pub standing_at : (h : List Filing) (i : ℕ) (f : Filing) → IsLegal (reverse h) → slice_get h i ≡ Some f → answer_of (reverse h) f ≡ Again (suc i) (outcome_at (reverse h) (suc i))
 standing_at h i f legal at =
     let lt : i < length h = slice_get_within h i f at in
     let newer = reverse (drop (suc i) h) in

@@ -1,7 +1,12 @@
 -- An office as its callers see it.
-use Rattle.std.specs.Prelude.{ℕ, zero, suc, List, reverse, Option, None}
+use Rattle.std.specs.Prelude.{◌≡◌, ◌≢◌, ℕ, zero, suc, ◌*◌, List, [], ◌∷◌, ◌++◌, reverse, Option, Some, None}
 use Rattle.std.specs.List.{slice_get}
+use Rattle.aid_filings.specs.declared.filing.Amount.{Amount}
 use Rattle.aid_filings.specs.declared.filing.Filing.{Filing}
+use Rattle.aid_filings.specs.declared.filing.What.TheVariants.{Pay}
+use Rattle.aid_types.specs.declared.number.Program.TheVariants.{Pell}
+use Rattle.aid_replies.specs.declared.reply.Outcome.{Outcome}
+use Rattle.office_history.specs.Answer.{outcome_of}
 
 -- its filings, the newest first, and how many more it takes without asking for memory
 pub record Register : Type 0 where
@@ -12,3 +17,18 @@ pub record Register : Type 0 where
 abbrev pub filing_in : List Filing → ℕ → Option Filing
 filing_in past zero = None
 filing_in past (suc i) = slice_get (reverse past) i
+
+-- at a position stands another filing with a filing's key
+abbrev pub IsKeyUsedAt : List Filing → ℕ → Filing → Type 0
+IsKeyUsedAt past position f = (other : Filing) × (filing_in past position ≡ Some other) × (other.key ≡ f.key) × (other ≢ f)
+
+-- with what each filing was admitted, the oldest first
+abbrev pub outcomes_of : List Filing → List Outcome
+outcomes_of [] = []
+outcomes_of (f ∷ past) = outcomes_of past ++ outcome_of past f ∷ []
+
+-- a filing is a payment of so many whole dollars of Pell by a school to a student for a term
+abbrev pub IsPellPayment : Filing → ℕ → ℕ → ℕ → ℕ → ℕ → Type 0
+IsPellPayment f school student year term dollars =
+    (a : Amount) × (f.what ≡ Pay a) × (a.program ≡ Pell) × (a.cents ≡ 100 * dollars) × (f.key.school ≡ school)
+    × (a.student ≡ student) × (a.year ≡ year) × (a.term ≡ term)

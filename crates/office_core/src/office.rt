@@ -1,25 +1,28 @@
 //! The office over a list of filings.
-ghost use Rattle.std.specs.Prelude.{◌≡◌, ◌≢◌, ◌↔◌, ◌+◌, ◌*◌, ◌<◌, ◌≤◌, ◌∷◌, [], ℕ, Some, None, max, length, IsTrue, IsOk, IsSome, IfSome, OnOk, OnErr};
+ghost use Rattle.std.specs.Prelude.{◌≡◌, ◌≢◌, ◌↔◌, ◌+◌, ◌*◌, ◌<◌, ◌≤◌, ◌∷◌, [], ℕ, Some, None, max, length, reverse, IsTrue, IsOk, IsSome, IfSome, OnOk, OnErr};
 ghost use Rattle.std.specs.List.{AllPairs};
 ghost use Rattle.std.specs.Option.{option_copied};
 ghost use Rattle.aid_filings.specs.declared.filing.Amount.{Amount};
 ghost use Rattle.aid_filings.specs.declared.filing.Filing.{Filing as Filed};
 ghost use Rattle.aid_filings.specs.declared.filing.What.TheVariants.{Pay};
+ghost use Rattle.aid_types.specs.declared.award.Refusal.{Refusal as Refusing};
 ghost use Rattle.aid_types.specs.declared.number.Program.TheVariants.{Pell};
-ghost use Rattle.aid_replies.specs.declared.reply.Ask.TheVariants.{File as FileAsked, Quote as QuoteAsked};
-ghost use Rattle.aid_replies.specs.declared.reply.Verdict.TheVariants.{Admit, Again, Quoted};
+ghost use Rattle.aid_replies.specs.declared.reply.Ask.TheVariants.{File as FileAsked, Quote as QuoteAsked, Standing as StandingAsked};
+ghost use Rattle.aid_replies.specs.declared.reply.Outcome.{Outcome as Brought};
+ghost use Rattle.aid_replies.specs.declared.reply.StandingRow.{StandingRow as Row};
+ghost use Rattle.aid_replies.specs.declared.reply.Verdict.TheVariants.{Admit, Again, Quoted, Refused, Standing};
 ghost use Rattle.aid_types.specs.Programs.{rank as rank_of};
-ghost use Rattle.office_history.specs.Answer.{breaks, outcome_of, outcome_at, answer_of, answer_to, is_admit, IsLegal};
+ghost use Rattle.office_history.specs.Answer.{breaks, outcome_of, outcome_at, answer_of, answer_to, is_admit, quote_of, standing_of, IsLegal};
 ghost use Rattle.office_history.specs.FactsOf.{cell_at};
 ghost use Rattle.office_history.specs.Net.{net_at as net_of_cell};
 ghost use Rattle.office_history.specs.Past.{key_at};
 ghost use Rattle.office_history.specs.Within.{IsWithinEveryLimit};
-ghost use Rattle.office_core.specs.Register.{filing_in};
+ghost use Rattle.office_core.specs.Register.{filing_in, IsKeyUsedAt, IsPellPayment};
 
-use crate::answers::is_admitted;
-use crate::{answer, outcome, past_outcome, quote, standing};
+use crate::answers::{answer_on_record, is_admitted};
+use crate::{outcome, quote, standing};
 use aid_filings::Filing;
-use aid_replies::{Ask, Outcome, Verdict};
+use aid_replies::{Ask, Outcome, StandingRow, Verdict};
 use aid_types::{Program, School, Student, Year};
 use on_file::net_at;
 use std::alloc::{AllocError, Global};
@@ -27,24 +30,26 @@ use std::marker::Model;
 use std::sync::ledger::Ledger;
 use steps::Steps;
 
-/// An office: the filings that were admitted, and room for more. A contract sees its history, the newest filing first,
-/// and its spare room. The history of every office is legal.
+/// An office: the filings that were admitted, each with the outcome of its admission, and room for more. A contract sees
+/// its history, the newest filing first, and its spare room. The history of every office is legal.
 #[derive(Drop)]
 pub struct Office {
     filings: Vec<Filing>,
+    outcomes: Vec<Outcome>,
     spare: u32,
 }
 
 impl Model for Office {
-    ghost use Rattle.std.specs.Prelude.{◌+◌, ◌≤◌, reverse, vec_len, vec_capacity};
+    ghost use Rattle.std.specs.Prelude.{◌≡◌, ◌+◌, ◌≤◌, reverse, vec_len, vec_capacity};
     ghost use Rattle.office_history.specs.Answer.{IsLegal};
-    ghost use Rattle.office_core.specs.Register.{Register};
+    ghost use Rattle.office_core.specs.Register.{Register, outcomes_of};
 
     ghost Value = { Register };
 
     ghost view = { λ o. record { history = reverse o.filings.items; spare = o.spare } };
 
-    ghost invariant = { λ o. IsLegal (reverse o.filings.items) × (vec_len o.filings + o.spare ≤ vec_capacity o.filings) };
+    ghost invariant = { λ o. IsLegal (reverse o.filings.items) × (o.outcomes.items ≡ outcomes_of (reverse o.filings.items))
+        × (vec_len o.filings + o.spare ≤ vec_capacity o.filings) × (vec_len o.outcomes + o.spare ≤ vec_capacity o.outcomes) };
 }
 
 impl Office {
@@ -55,6 +60,7 @@ impl Office {
     {
         Office {
             filings: Vec::new(alloc),
+            outcomes: Vec::new(alloc),
             spare: 0,
         }
     }
@@ -68,6 +74,7 @@ impl Office {
     {
         if self.spare < n {
             self.filings.reserve(n as usize)?;
+            self.outcomes.reserve(n as usize)?;
             self.spare = n;
         }
         Ok(())
@@ -84,6 +91,13 @@ impl Office {
         ensures keys { AllPairs (λ f g. f.key ≢ g.key) self.now.history }
     {
         self.filings.as_slice().len() as u32
+    }
+
+    /// The filings, the oldest first.
+    pub fn filings(&self) -> &[Filing]
+        ensures { reverse result.now ≡ self.now.history }
+    {
+        self.filings.as_slice()
     }
 
     /// The filing at this position, counted from 1; `None` where there is no such position.
@@ -105,7 +119,8 @@ impl Office {
         if position == 0 || position > self.front() {
             return None;
         }
-        Some(past_outcome(self.filings.as_slice(), position))
+        let index = position as usize - 1;
+        Some(self.outcomes.as_slice()[index])
     }
 
     /// The net of a program in a student's term at a school, in cents: payments less school returns, repayments and
@@ -132,36 +147,96 @@ impl Office {
         )
     }
 
-    /// The verdict on an ask. It changes nothing and takes no memory. `steps` counts the looks at rows of an index, of
-    /// which there is none.
+    /// The verdict on a filing. It changes nothing and takes no memory.
+    pub fn judge(&self, filing: &Filing) -> Verdict
+        ensures answer { result ≡ answer_of self.now.history filing.now }
+
+        // A filing that stands is answered by its position and the outcome of its admission, and no other is.
+        ensures again { (position : ℕ) → filing_in self.now.history position ≡ Some filing.now
+            → result ≡ Again position (outcome_at self.now.history position) }
+        ensures stands { (position : ℕ) → (outcome : Brought) → result ≡ Again position outcome
+            → filing_in self.now.history position ≡ Some filing.now }
+
+        // A filing with a new key is admitted where it breaks no rule, and else refused by the first that it breaks.
+        ensures accepts { key_at filing.now.key self.now.history ≡ 0 → breaks self.now.history filing.now ≡ None
+            → result ≡ Admit (outcome_of self.now.history filing.now) }
+        ensures refuses { (refusal : Refusing) → key_at filing.now.key self.now.history ≡ 0
+            → breaks self.now.history filing.now ≡ Some refusal → result ≡ Refused refusal }
+
+        // Rule 15 refuses a filing only where another one has its key.
+        ensures used { (refusal : Refusing) → result ≡ Refused refusal → refusal.rule ≡ 15
+            → IsKeyUsedAt self.now.history refusal.kept filing.now × (refusal.bound ≡ filing.now.key.number) }
+    {
+        answer_on_record(self.filings.as_slice(), self.outcomes.as_slice(), filing)
+    }
+
+    /// The greatest Pell payment in cents, of whole dollars, that the school could file for the student's term under a new
+    /// key; 0 where there is none. It changes nothing and takes no memory.
+    pub fn quote(&self, school: School, student: Student, year: Year, term: u8) -> u64
+        ensures value { result ≡ quote_of self.now.history school student year term }
+
+        // Every Pell payment of whole dollars up to it breaks no rule, and every one above it breaks one.
+        ensures payable { (filing : Filed) → (dollars : ℕ) → IsPellPayment filing school student year term dollars → 0 < dollars
+            → 100 * dollars ≤ result → breaks self.now.history filing ≡ None }
+        ensures greatest { (filing : Filed) → (dollars : ℕ) → IsPellPayment filing school student year term dollars
+            → result < 100 * dollars → breaks self.now.history filing ≢ None }
+    {
+        quote(self.filings.as_slice(), school, student, year, term)
+    }
+
+    /// Where a student stands in a year. It changes nothing and takes no memory.
+    pub fn standing(&self, student: Student, year: Year) -> StandingRow
+        ensures value { result ≡ standing_of self.now.history student year }
+
+        // Without an application in force nothing is paid.
+        ensures unpaid { result.transaction ≡ 0 → result.paid ≡ 0 }
+    {
+        standing(self.filings.as_slice(), student, year)
+    }
+
+    /// The verdict on an ask: `judge`, `quote` or `standing`. It changes nothing and takes no memory. `steps` counts the
+    /// looks at rows of an index, of which there is none.
     pub fn ask<L: Ledger>(&self, ask: &Ask, steps: &mut Steps<L>) -> Verdict
         ensures answer { result ≡ answer_to self.now.history ask.now }
 
-        // A filing that stands is answered by its position and the outcome of its admission.
+        // A filing that stands is answered by its position and the outcome of its admission, and no other is.
         ensures again { (filing : Filed) → (position : ℕ) → ask.now ≡ FileAsked filing → filing_in self.now.history position ≡ Some filing
             → result ≡ Again position (outcome_at self.now.history position) }
+        ensures stands { (filing : Filed) → (position : ℕ) → (outcome : Brought) → ask.now ≡ FileAsked filing
+            → result ≡ Again position outcome → filing_in self.now.history position ≡ Some filing }
 
-        // A filing with a new key that breaks no rule is admitted.
+        // A filing with a new key is admitted where it breaks no rule, and else refused by the first that it breaks.
         ensures accepts { (filing : Filed) → ask.now ≡ FileAsked filing → key_at filing.key self.now.history ≡ 0
             → breaks self.now.history filing ≡ None → result ≡ Admit (outcome_of self.now.history filing) }
+        ensures refuses { (filing : Filed) → (refusal : Refusing) → ask.now ≡ FileAsked filing → key_at filing.key self.now.history ≡ 0
+            → breaks self.now.history filing ≡ Some refusal → result ≡ Refused refusal }
 
-        // Every Pell payment of whole dollars up to its quote breaks no rule.
+        // Rule 15 refuses a filing only where another one has its key.
+        ensures used { (filing : Filed) → (refusal : Refusing) → ask.now ≡ FileAsked filing → result ≡ Refused refusal → refusal.rule ≡ 15
+            → IsKeyUsedAt self.now.history refusal.kept filing × (refusal.bound ≡ filing.key.number) }
+
+        // Every Pell payment of whole dollars up to its quote breaks no rule, and every one above it breaks one.
         ensures quoted { (filing : Filed) → (payment : Amount) → (dollars cents : ℕ) → filing.what ≡ Pay payment → payment.program ≡ Pell
             → payment.cents ≡ 100 * dollars → 0 < dollars → ask.now ≡ QuoteAsked filing.key.school payment.student payment.year payment.term
             → result ≡ Quoted cents → payment.cents ≤ cents → breaks self.now.history filing ≡ None }
+        ensures greatest { (filing : Filed) → (payment : Amount) → (dollars cents : ℕ) → filing.what ≡ Pay payment → payment.program ≡ Pell
+            → payment.cents ≡ 100 * dollars → ask.now ≡ QuoteAsked filing.key.school payment.student payment.year payment.term
+            → result ≡ Quoted cents → cents < payment.cents → breaks self.now.history filing ≢ None }
+
+        // Without an application in force nothing is paid.
+        ensures unpaid { (student year : ℕ) → (row : Row) → ask.now ≡ StandingAsked student year → result ≡ Standing row
+            → row.transaction ≡ 0 → row.paid ≡ 0 }
         ensures counted { steps.new ≡ steps.old }
     {
         match ask {
-            Ask::File(filing) => answer(self.filings.as_slice(), filing),
+            Ask::File(filing) => self.judge(filing),
             Ask::Quote {
                 school,
                 student,
                 year,
                 term,
-            } => Verdict::Quoted(quote(self.filings.as_slice(), *school, *student, *year, *term)),
-            Ask::Standing { student, year } => {
-                Verdict::Standing(standing(self.filings.as_slice(), *student, *year))
-            }
+            } => Verdict::Quoted(self.quote(*school, *student, *year, *term)),
+            Ask::Standing { student, year } => Verdict::Standing(self.standing(*student, *year)),
         }
     }
 
@@ -169,7 +244,7 @@ impl Office {
     pub fn admits(&self, filing: &Filing) -> bool
         ensures { result ≡ is_admit (answer_of self.now.history filing.now) }
     {
-        is_admitted(answer(self.filings.as_slice(), filing))
+        is_admitted(self.judge(filing))
     }
 
     /// Appends a filing that the office admits, and answers its outcome. It takes no memory, but one of the places of
@@ -183,6 +258,7 @@ impl Office {
     {
         let outcome = outcome(self.filings.as_slice(), &filing);
         self.filings.push_reserved(filing);
+        self.outcomes.push_reserved(outcome);
         self.spare -= 1;
         outcome
     }

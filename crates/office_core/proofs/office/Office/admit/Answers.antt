@@ -1,10 +1,10 @@
-use Rattle.std.proofs.Common.{◌≡◌, ◌∷◌, ◌∙◌, [], List, ap, reverse, subst, sym, rules}
+use Rattle.std.proofs.Common.{◌≡◌, ◌∷◌, ◌++◌, ◌∙◌, [], List, ap, reverse, subst, sym, rules}
 use Rattle.std.proofs.lemmas.List.{reverse-append}
 use Rattle.aid_filings.specs.declared.filing.Filing.{Filing}
 use Rattle.aid_replies.specs.declared.reply.Verdict.TheVariants.{Admit}
 use Rattle.office_history.specs.Answer.{IsLegal, outcome_of}
 use Rattle.office_history.proofs.Admitted.{admitted_is, admitted_legal}
-use Rattle.office_core.specs.Register.{Register}
+use Rattle.office_core.specs.Register.{Register, outcomes_of}
 use Rattle.office_core.proofs.office.Office.admit.Goals as goal
 
 pub outcome-outcome-requires : goal.outcome-outcome-requires
@@ -22,7 +22,11 @@ invariant_of-self c =
     let whole : IsLegal (c.args.filing ∷ past) = admitted_legal past c.args.filing (subst IsLegal view c.self.invariant.0) c.requires.admitted in
     let grown : reverse c.push_reserved.new.self.items ≡ c.args.filing ∷ reverse c.self.inside.filings.items =
     ap (λ (h : List Filing). reverse h) c.push_reserved.ensures.items ∙ reverse-append c.self.inside.filings.items (c.args.filing ∷ []) in
-    (subst IsLegal (sym (grown ∙ ap (λ (h : List Filing). c.args.filing ∷ h) view)) whole, search rules)
+    let brought : c.outcome-outcome.result ≡ outcome_of (reverse c.self.inside.filings.items) c.args.filing =
+    c.outcome-outcome.ensures ∙ ap (λ (h : List Filing). outcome_of (reverse h) c.args.filing) c.as_slice.ensures.value in
+    let recorded : c.push_reserved-2.new.self.items ≡ outcomes_of (reverse c.push_reserved.new.self.items) =
+    c.push_reserved-2.ensures.items ∙ (λ i. c.self.invariant.1 i ++ brought i ∷ []) ∙ sym (ap outcomes_of grown) in
+    (subst IsLegal (sym (grown ∙ ap (λ (h : List Filing). c.args.filing ∷ h) view)) whole, recorded, search rules, search rules)
 
 pub returns-clause-outcome : goal.returns-clause-outcome
 returns-clause-outcome c =

@@ -1,0 +1,88 @@
+-- The filing at a position that a search tells.
+use Rattle.std.proofs.Common.{◌≡◌, ℕ, zero, suc, ◌+◌, ◌<◌, refl, sym, ap, subst, ◌∙◌, arith, Bool, true, false, List, [], ◌∷◌, ◌++◌, length, reverse, Option, Some, None}
+use Rattle.std.specs.List.{slice_get}
+use Rattle.std.proofs.lemmas.List.{length-reverse, reverse-append}
+use Rattle.aid_types.specs.declared.number.Key.{Key}
+use Rattle.aid_types.proofs.Same.{tells_key}
+use Rattle.aid_filings.specs.declared.filing.Filing.{Filing}
+use Rattle.aid_filings.proofs.SameFiling.{tells_filing}
+use Rattle.office_history.specs.Answer.{IsLegal}
+use Rattle.office_history.specs.Past.{filing_at, first_at, first_of_two, key_at, same_filing, same_key}
+use Rattle.office_history.proofs.Legal.{filing_at-new}
+use Rattle.office_core.specs.Register.{filing_in}
+
+-- an element stays where others are appended, and the first of these comes after the list
+stays : (xs ys : List Filing) (i : ℕ) (x : Filing) → slice_get xs i ≡ Some x → slice_get (xs ++ ys) i ≡ Some x
+stays [] ys i x h = absurd cc
+stays (z ∷ xs) ys zero x h = h
+stays (z ∷ xs) ys (suc i) x h = stays xs ys i x h
+
+comes : (xs : List Filing) (x : Filing) (i : ℕ) → i ≡ length xs → slice_get (xs ++ x ∷ []) i ≡ Some x
+comes [] x i e = ap (slice_get (x ∷ [])) e
+comes (z ∷ xs) x zero e = absurd (omega arith)
+comes (z ∷ xs) x (suc i) e = comes xs x i (omega arith)
+
+-- a newer filing leaves those at the positions before it
+older : (past : List Filing) (f g : Filing) (n : ℕ) → filing_in past (suc n) ≡ Some g → filing_in (f ∷ past) (suc n) ≡ Some g
+older past f g n h = ap (λ (l : List Filing). slice_get l n) (reverse-append (f ∷ []) past) ∙ stays (reverse past) (f ∷ []) n g h
+
+newest : (past : List Filing) (f : Filing) (n : ℕ) → length past + 1 ≡ suc n → filing_in (f ∷ past) (suc n) ≡ Some f
+newest past f n e =
+    ap (λ (l : List Filing). slice_get l n) (reverse-append (f ∷ []) past)
+    ∙ comes (reverse past) f n (omega (arith, length-reverse past))
+
+-- what a search finds stands at its position and passes its test
+abbrev Finds : (Filing → Bool) → List Filing → ℕ → Type 0
+Finds p past n = (g : Filing) × (filing_in past (suc n) ≡ Some g) × (p g ≡ true)
+
+pub found : (p : Filing → Bool) (past : List Filing) (n : ℕ) → first_at p past ≡ suc n → Finds p past n
+found p [] n h = absurd (omega arith)
+found p (f ∷ past) n h = go (found p past n) (p f) (first_at p past) refl refl h
+  where
+    before : Finds p past n → Finds p (f ∷ past) n
+    before w = (w.0, older past f w.0 n w.1, w.2)
+
+    go : (first_at p past ≡ suc n → Finds p past n) → (b : Bool) (k : ℕ) → p f ≡ b → first_at p past ≡ k →
+        first_of_two b k (length past + 1) ≡ suc n → Finds p (f ∷ past) n
+    go ih false k t e h = before (ih (e ∙ h))
+    go ih true zero t e h = (f, newest past f n h, t)
+    go ih true (suc k) t e h = before (ih (e ∙ h))
+
+-- a filing that stands is at its position
+pub filing_found : (past : List Filing) (f : Filing) (n : ℕ) → filing_at f past ≡ suc n → filing_in past (suc n) ≡ Some f
+filing_found past f n h =
+    let w = found (λ g. same_filing f g) past n h in
+    w.1 ∙ ap (λ (g : Filing). Some g) (sym (tells_filing.same f w.0 w.2))
+
+-- in a legal history its key is there too
+pub key_stands : (past : List Filing) (f : Filing) (n : ℕ) → IsLegal past → filing_at f past ≡ suc n → key_at f.key past ≡ suc n
+key_stands [] f n legal h = absurd (omega arith)
+key_stands (g ∷ past) f n legal h = go (key_stands past f n legal.0) (same_filing f g) refl h
+  where
+    either : (b : Bool) (k m : ℕ) → k ≡ suc n → first_of_two b k m ≡ suc n
+    either false k m e = e
+    either true zero m e = absurd (omega arith)
+    either true (suc k) m e = e
+
+    go : (filing_at f past ≡ suc n → key_at f.key past ≡ suc n) → (b : Bool) → same_filing f g ≡ b →
+        first_of_two b (filing_at f past) (length past + 1) ≡ suc n →
+        first_of_two (same_key f.key g.key) (key_at f.key past) (length past + 1) ≡ suc n
+    go ih false t h = either (same_key f.key g.key) (key_at f.key past) (length past + 1) (ih h)
+    go ih true t h =
+        let same : f ≡ g = tells_filing.same f g t in
+        let key : same_key f.key g.key ≡ true = subst (λ (x : Filing). same_key f.key x.key ≡ true) same (tells_key.told f.key) in
+        let new : key_at f.key past ≡ 0 = subst (λ (x : Filing). key_at x.key past ≡ 0) (sym same) legal.1 in
+        let nowhere : filing_at f past ≡ 0 = filing_at-new past f new in
+        rw (key, new) (rw nowhere at h)
+
+-- so where another filing has its key, it stands nowhere
+pub other_stands : (past : List Filing) (f g : Filing) (n : ℕ) → IsLegal past → key_at f.key past ≡ suc n → filing_in past (suc n) ≡ Some g →
+    (g ≡ f → ⊥) → filing_at f past ≡ 0
+other_stands past f g n legal key at other = go (filing_at f past) refl
+  where
+    go : (k : ℕ) → filing_at f past ≡ k → k ≡ 0
+    go zero e = refl
+    go (suc k) e =
+        let same : suc k ≡ suc n = sym (key_stands past f k legal e) ∙ key in
+        let here : filing_in past (suc n) ≡ Some f = subst (λ (m : ℕ). filing_in past m ≡ Some f) same (filing_found past f k e) in
+        absurd (other cc)

@@ -1,0 +1,151 @@
+-- Rule 15 is no rule of a kind's own.
+use Rattle.std.proofs.Common.{◌≡◌, ℕ, ◌+◌, ◌<◌, refl, ap, subst, ◌∙◌, cond, Bool, true, false, not, ◌&&◌, List, [], ◌∷◌, ◌++◌, Option, Some, None}
+use Rattle.std.specs.Prelude.{◌==◌, ◌*◌, nat_le, nat_lt, slice_index, sum}
+use Rattle.std.proofs.lemmas.Bool.{and_parts}
+use Rattle.aid_types.specs.Programs.{rank}
+use Rattle.aid_types.specs.declared.award.Refusal.{Refusal}
+use Rattle.aid_types.specs.declared.number.Key.{Key}
+use Rattle.aid_types.specs.declared.term.Term.{Term}
+use Rattle.aid_types.specs.declared.application.Application.{Application}
+use Rattle.aid_books.specs.declared.book.Book.{Book}
+use Rattle.aid_filings.specs.Calendars.{term_of}
+use Rattle.aid_filings.specs.declared.filing.Filing.{Filing}
+use Rattle.aid_filings.specs.declared.filing.What.{What}
+use Rattle.aid_filings.specs.declared.filing.WithdrawFacts.{WithdrawFacts}
+use Rattle.lifetime_ledger.specs.Used.{use_of}
+use Rattle.aid_filings.specs.declared.filing.What.TheVariants.{Book as BookFiled, School, Calendar, Prior, Apply, Enrol, Originate, Pay, Withdraw, Repay, Adjust}
+use Rattle.sai_index.specs.Fits.{is_size, size_for, unfit}
+use Rattle.sai_index.specs.Formulas.{formula}
+use Rattle.filing_rules.specs.declared.facts.Facts.{Facts}
+use Rattle.filing_rules.specs.Rules.{Check, breaks_in_order, breaks_inside, broken_of, first_break_in_order, first_broken, lines_of, only, past_cost, past_fseog, past_lifetime, past_payment, past_year, rule_10, rule_12, rule_21, rule_22, rule_23, rule_24, rule_40, rule_52, rule_58, rule_62, rule_63, rule_91, rule_93, told, told_by, too_early, where_true, year_of_program, over}
+use Rattle.office_history.specs.Award.{unfit_under}
+use Rattle.office_history.specs.FactsOf.{facts_of, told_over}
+use Rattle.office_history.specs.Past.{OnFile, the_book}
+use Rattle.office_history.specs.Answer.{breaks}
+
+-- no line of a list has rule 15
+abbrev are_others : List Check → Bool
+are_others [] = true
+are_others (line ∷ lines) = not (line.rule == 15) && are_others lines
+
+others_both : (xs ys : List Check) → are_others xs ≡ true → are_others ys ≡ true → are_others (xs ++ ys) ≡ true
+others_both [] ys h k = k
+others_both (x ∷ xs) ys h k =
+    let p = and_parts (not (x.rule == 15)) (are_others xs) h in
+    rw (p.0, others_both xs ys p.1 k) refl
+
+others_only : (b : Bool) (xs : List Check) → are_others xs ≡ true → are_others (only b xs) ≡ true
+others_only true xs h = h
+others_only false xs h = refl
+
+-- what such a list tells first isn't under rule 15
+told_other : (lines : List Check) (r : Refusal) → are_others lines ≡ true → first_broken lines ≡ Some r → r.rule ≡ 15 → ⊥
+told_other [] r h e fifteen = cc
+told_other (line ∷ lines) r h e fifteen =
+    let p = and_parts (not (line.rule == 15)) (are_others lines) h in
+    go (λ k. told_other lines r p.1 k fifteen) line.is_broken p.0 e
+  where
+    go : (first_broken lines ≡ Some r → ⊥) → (b : Bool) → not (line.rule == 15) ≡ true → cond b (Some (told_by line)) (first_broken lines) ≡ Some r → ⊥
+    go ih false other e = ih e
+    go ih true other e =
+        let same : told_by line ≡ r = cc in
+        let rule : line.rule ≡ 15 = ap (λ (x : Refusal). x.rule) same ∙ fifteen in
+        let bad : not (15 == 15) ≡ true = subst (λ (n : ℕ). not (n == 15) ≡ true) rule other in
+        cc
+
+-- ---- each kind's lines
+others_unfit : (o : Option Book) (a : Application) → are_others (told (unfit_under o a)) ≡ true
+others_unfit None a = refl
+others_unfit (Some b) a = go (nat_lt b.year a.birth_year) (is_size (formula b a) (size_for (formula b a) a.married) a.family)
+  where
+    go : (x y : Bool) →
+        are_others (told (cond x (Some (record { rule = 92; kept = a.birth_year; bound = b.year }))
+        (cond y None (Some (record { rule = 92; kept = a.family; bound = size_for (formula b a) a.married }))))) ≡ true
+    go true y = refl
+    go false true = refl
+    go false false = refl
+
+others_over : (past : List Filing) (award student year : ℕ) (o : Option OnFile) → are_others (told (told_over past award student year o)) ≡ true
+others_over past award student year None = refl
+others_over past award student year (Some t) = refl
+
+others_order : (before : ℕ) (bs : List (ℕ × ℕ)) → are_others (breaks_in_order before bs) ≡ true
+others_order before [] = refl
+others_order before (b ∷ bs) = others_order b.1 bs
+
+others_first : (bs : List (ℕ × ℕ)) → are_others (first_break_in_order bs) ≡ true
+others_first [] = refl
+others_first (b ∷ bs) = others_order b.1 bs
+
+others_inside : (t : Term) (n : ℕ) (bs : List (ℕ × ℕ)) → are_others (breaks_inside t n bs) ≡ true
+others_inside t n [] = refl
+others_inside t n (b ∷ bs) = others_inside t (n + 1) bs
+
+others_days : (last : ℕ) (o : Option Term) → are_others (rule_62 last o) ≡ true
+others_days last None = refl
+others_days last (Some t) = refl
+
+others_payment : (f : Facts) (school program cents : ℕ) →
+    are_others (only (program == 3) (rule_40 f ∷ rule_58 f school ∷ [])
+    ++ (rule_52 f program cents
+    ++ (only (program == 3) (past_payment 54 f cents ∷ [])
+    ++ (year_of_program f program cents
+    ++ (only (program == 3) (past_lifetime 56 f cents ∷ [])
+    ++ (past_cost 57 f cents ∷ [])))))) ≡ true
+others_payment f school program cents =
+    let is_pell = program == 3 in
+    let lifetime = only is_pell (past_lifetime 56 f cents ∷ []) in
+    let cost = past_cost 57 f cents ∷ [] in
+    let year = year_of_program f program cents in
+    let payment = only is_pell (past_payment 54 f cents ∷ []) in
+    let post = rule_52 f program cents in
+    others_both (only is_pell (rule_40 f ∷ rule_58 f school ∷ [])) (post ++ (payment ++ (year ++ (lifetime ++ cost))))
+    (others_only is_pell (rule_40 f ∷ rule_58 f school ∷ []) refl)
+    (others_both post (payment ++ (year ++ (lifetime ++ cost)))
+    (others_only (nat_lt 0 f.withdrawn_at) (over 52 (f.after + cents) (slice_index f.could program) ∷ over 52 (f.after_all + cents) f.post ∷ []) refl)
+    (others_both payment (year ++ (lifetime ++ cost)) (others_only is_pell (past_payment 54 f cents ∷ []) refl)
+    (others_both year (lifetime ++ cost)
+    (others_both (only is_pell (past_year 55 f cents ∷ [])) (only (program == 4) (past_fseog 55 f cents ∷ []))
+    (others_only is_pell (past_year 55 f cents ∷ []) refl) (others_only (program == 4) (past_fseog 55 f cents ∷ []) refl))
+    (others_both lifetime cost (others_only is_pell (past_lifetime 56 f cents ∷ []) refl) refl))))
+
+others_withdrawal : (f : Facts) (w : WithdrawFacts) → are_others (rule_62 w.last f.term ++ (too_early 21 w.determined w.last ∷ rule_63 f w.could)) ≡ true
+others_withdrawal f w =
+    let pell = slice_index w.could 3 in
+    let fseog = slice_index w.could 4 in
+    let limits = past_payment 63 f pell ∷ past_year 63 f pell ∷ past_lifetime 63 f pell ∷ [] in
+    let cost = past_cost 63 f (sum w.could) ∷ [] in
+    others_both (rule_62 w.last f.term) (too_early 21 w.determined w.last ∷ rule_63 f w.could) (others_days w.last f.term)
+    (others_both (only (nat_lt 0 pell) limits) (only (nat_lt 0 fseog) (past_fseog 63 f fseog ∷ []) ++ only (nat_lt 0 (sum w.could)) cost)
+    (others_only (nat_lt 0 pell) limits refl)
+    (others_both (only (nat_lt 0 fseog) (past_fseog 63 f fseog ∷ [])) (only (nat_lt 0 (sum w.could)) cost)
+    (others_only (nat_lt 0 fseog) (past_fseog 63 f fseog ∷ []) refl) (others_only (nat_lt 0 (sum w.could)) cost refl)))
+
+others_of : (past : List Filing) (key : Key) (what : What) → are_others (lines_of (facts_of past key what) key.school what) ≡ true
+others_of past key (BookFiled b) = refl
+others_of past key (School s) = refl
+others_of past key (Prior p) = refl
+others_of past key (Enrol e) = refl
+others_of past key (Originate o) = refl
+others_of past key (Repay a) = refl
+others_of past key (Adjust a) = refl
+others_of past key (Calendar c) =
+    let f = facts_of past key (Calendar c) in
+    let t = term_of c in
+    others_both (rule_21 t) (rule_23 t ++ (rule_22 f t ∷ rule_24 f t)) (others_first t.breaks)
+    (others_both (rule_23 t) (rule_22 f t ∷ rule_24 f t) (others_inside t 1 t.breaks)
+    (others_only (not t.extra) (where_true 24 (nat_le f.terms f.main_terms) f.main_terms f.terms ∷ []) refl))
+others_of past key (Apply a) =
+    let f = facts_of past key (Apply a) in
+    let own = over 93 f.pell_main (100 * f.next_scheduled) ∷ over 93 f.pell_year (150 * f.next_scheduled)
+    ∷ over 93 (f.used_else + use_of f.pell_year f.next_scheduled) 600000 ∷ [] in
+    others_both (only (nat_lt 0 key.school) (rule_12 f key.school ∷ [])) (rule_10 f a.year ∷ told f.unfit ++ (rule_91 f a.transaction ∷ rule_93 f))
+    (others_only (nat_lt 0 key.school) (rule_12 f key.school ∷ []) refl)
+    (others_both (told f.unfit) (rule_91 f a.transaction ∷ rule_93 f) (others_unfit (the_book past a.year) a)
+    (others_both (told f.term_over) own (others_over past f.next_scheduled a.student a.year _) refl))
+others_of past key (Pay a) = others_payment (facts_of past key (Pay a)) key.school (rank a.program) a.cents
+others_of past key (Withdraw w) = others_withdrawal (facts_of past key (Withdraw w)) w
+
+-- no filing is refused under rule 15 by a rule of its kind
+pub other_rule : (past : List Filing) (f : Filing) (r : Refusal) → breaks past f ≡ Some r → r.rule ≡ 15 → ⊥
+other_rule past f r h fifteen = told_other (lines_of (facts_of past f.key f.what) f.key.school f.what) r (others_of past f.key f.what) h fifteen

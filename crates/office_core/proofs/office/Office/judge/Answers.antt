@@ -1,0 +1,24 @@
+use Rattle.std.proofs.Common.{◌≡◌, None, Some, List, reverse, subst, ap, sym, ◌∙◌}
+use Rattle.aid_filings.specs.declared.filing.Filing.{Filing}
+use Rattle.office_history.specs.Answer.{IsLegal, answer_of}
+use Rattle.office_core.specs.Register.{Register}
+use Rattle.office_core.proofs.AnswerLaws.{judged_new, stands_there, used_there}
+use Rattle.office_core.proofs.StandingLemmas.{standing}
+use Rattle.office_core.proofs.office.Office.judge.Goals as goal
+
+pub returns : goal.returns
+returns c =
+    let past = c.args.self.now.history in
+    let filing = c.args.filing.now in
+    let view : reverse c.self.inside.filings.items ≡ past = ap (λ (r : Register). r.history) c.self.view_is in
+    let legal : IsLegal past = subst IsLegal view c.self.invariant.0 in
+    let told : c.answer_on_record.result ≡ answer_of past filing =
+    c.answer_on_record.ensures ∙ ap (λ (h : List Filing). answer_of h filing) (ap (λ (h : List Filing). reverse h) c.as_slice.ensures.value ∙ view) in
+    record {
+      answer = told;
+      again = λ position at. told ∙ standing past position filing legal at;
+      stands = λ position outcome said. stands_there past filing position outcome (sym told ∙ said);
+      accepts = λ new sound. told ∙ judged_new past filing None new sound;
+      refuses = λ refusal new broken. told ∙ judged_new past filing (Some refusal) new broken;
+      used = λ refusal said fifteen. used_there past filing refusal legal (sym told ∙ said) fifteen;
+    }

@@ -1,0 +1,26 @@
+use Rattle.std.proofs.Common.{◌≡◌, ◌+◌, ◌-◌, ◌<◌, List, reverse, length, get_or, ap, ◌∙◌, arith}
+use Rattle.aid_filings.specs.declared.filing.Filing.{Filing}
+use Rattle.aid_replies.specs.declared.reply.Outcome.{Outcome}
+use Rattle.aid_replies.specs.declared.reply.Outcome.TheVariants.{Noted}
+use Rattle.office_history.specs.Answer.{outcome_at}
+use Rattle.office_core.specs.Register.{Register, outcomes_of}
+use Rattle.office_core.proofs.OnRecord.{as_many, on_record}
+use Rattle.office_core.proofs.office.Office.outcome.Goals as goal
+
+pub bounds-as_slice-index : goal.bounds-as_slice-index
+bounds-as_slice-index c =
+    let past = c.args.self.now.history in
+    let kept : c.as_slice.result.now ≡ outcomes_of past =
+    c.as_slice.ensures.value ∙ c.self.invariant.1 ∙ ap outcomes_of (ap (λ (r : Register). r.history) c.self.view_is) in
+    omega (arith, ap (λ (l : List Outcome). length l) kept, as_many past, c.front.ensures.value)
+
+pub returns-clause-value : goal.returns-clause-value
+returns-clause-value c =
+    let past = c.args.self.now.history in
+    let index = c.args.position - 1 in
+    let view : reverse c.self.inside.filings.items ≡ past = ap (λ (r : Register). r.history) c.self.view_is in
+    let within : index < length past = omega (arith, c.front.ensures.value) in
+    let place : index + 1 ≡ c.args.position = omega arith in
+    ap (λ (l : List Outcome). get_or l index Noted) (c.as_slice.ensures.value ∙ c.self.invariant.1 ∙ ap outcomes_of view)
+    ∙ on_record past index Noted within
+    ∙ ap (outcome_at past) place

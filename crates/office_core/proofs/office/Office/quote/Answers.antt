@@ -1,0 +1,26 @@
+use Rattle.std.proofs.Common.{◌≡◌, ℕ, ◌*◌, ◌<◌, ◌≤◌, None, List, reverse, subst, ap, sym, ◌∙◌}
+use Rattle.aid_filings.specs.declared.filing.Filing.{Filing}
+use Rattle.filing_rules.specs.Rules.{first_broken, payment_lines}
+use Rattle.office_history.specs.Answer.{quote_of}
+use Rattle.office_history.specs.FactsOf.{payment_facts}
+use Rattle.office_core.specs.Register.{Register}
+use Rattle.office_core.proofs.Quoted.{payable, unpayable}
+use Rattle.office_core.proofs.office.Office.quote.Goals as goal
+
+pub returns : goal.returns
+returns c =
+    let past = c.args.self.now.history in
+    let a = c.args in
+    let view : reverse c.self.inside.filings.items ≡ past = ap (λ (r : Register). r.history) c.self.view_is in
+    let read : reverse c.as_slice.result.now ≡ past = ap (λ (h : List Filing). reverse h) c.as_slice.ensures.value ∙ view in
+    let value : c.quote.result ≡ quote_of past a.school a.student a.year a.term =
+    c.quote.ensures.value ∙ ap (λ (h : List Filing). quote_of h a.school a.student a.year a.term) read in
+    let below = subst (λ (h : List Filing). (dollars : ℕ) → 0 < dollars → 100 * dollars ≤ c.quote.result →
+    first_broken (payment_lines (payment_facts h a.school a.student a.year a.term 3) a.school a.student a.year a.term 3 (100 * dollars)) ≡ None) read
+    c.quote.ensures.below in
+    record {
+      value = value;
+      payable = λ filing dollars is some most. payable past filing a.school a.student a.year a.term dollars is (below dollars some most);
+      greatest = λ filing dollars is above.
+          unpayable past filing a.school a.student a.year a.term dollars is (subst (λ (n : ℕ). n < 100 * dollars) value above);
+    }
