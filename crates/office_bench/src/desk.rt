@@ -1,5 +1,5 @@
 //! The desk that files the year of the generator.
-ghost use Rattle.std.specs.Prelude.{◌≡◌, ◌<◌, ◌≤◌, IfSome};
+ghost use Rattle.std.specs.Prelude.{◌≤◌, IfSome};
 ghost use Rattle.aid_types.specs.Ranges.{IsBetween};
 
 use crate::generator::{
@@ -8,48 +8,17 @@ use crate::generator::{
 use crate::tally::Tally;
 use aid_books::BoxedBook;
 use aid_filings::{CalendarFacts, Filing, SchoolFacts, What};
-use aid_replies::{Ask, Verdict};
+use aid_replies::Verdict;
 use aid_types::{Breaks, Day, Key, School, Student, Year};
 use office_core::Office;
 use specimen::specimen_book;
 use std::alloc::{AllocError, Global};
-use std::marker::Brand;
-use std::sync::ledger::{Blank, Ledger};
-use steps::Steps;
 
 /// An office, and what came of the filings so far.
 #[derive(Drop)]
 pub struct Desk {
     office: Office,
     pub tally: Tally,
-}
-
-// The verdict of an office, with the steps counted on a blank.
-fn judge_on<L: Ledger>(office: &Office, ask: &Ask, blank: Blank) -> Verdict
-    requires name { blank.name ≡ L.name }
-    requires parts { blank.parts ≡ L.parts }
-    requires some { 0 < blank.parts }
-{
-    office.ask(ask, &mut Steps::<L>::new(blank))
-}
-
-// Judges a filing, and admits it where the office would.
-fn file_on<L: Ledger>(
-    office: &mut Office,
-    filing: Filing,
-    blank: Blank,
-) -> Result<Verdict, AllocError>
-    requires name { blank.name ≡ L.name }
-    requires parts { blank.parts ≡ L.parts }
-    requires some { 0 < blank.parts }
-{
-    office.reserve(1)?;
-    let ask = Ask::File(filing);
-    let verdict = office.ask(&ask, &mut Steps::<L>::new(blank));
-    if let (Verdict::Admit(_), Ask::File(filing)) = (verdict, ask) {
-        office.admit(filing);
-    }
-    Ok(verdict)
 }
 
 // One of the two main terms, by its first and last day.
@@ -104,7 +73,11 @@ impl Desk {
         };
         let cents = paid_by(&what);
         let filing = Filing { key, what };
-        let verdict = file_on::<Brand>(&mut self.office, filing, Blank::new(1))?;
+        self.office.reserve(1)?;
+        let verdict = self.office.judge(&filing);
+        if let Verdict::Admit(_) = verdict {
+            self.office.admit(filing);
+        }
         self.tally.count(cents, verdict);
         Ok(())
     }
@@ -147,15 +120,9 @@ impl Desk {
         requires { school ≤ 999999 }
         ensures { IfSome result (λ cents. cents ≤ 99999999) }
     {
-        let ask = Ask::Quote {
-            school: School(school),
-            student,
-            year: Year(YEAR),
-            term: 1,
-        };
-        match judge_on::<Brand>(&self.office, &ask, Blank::new(1)) {
-            Verdict::Quoted(cents) if 1 <= cents && cents <= 99_999_999 => Some(cents),
-            _ => None,
+        match self.office.quote(School(school), student, Year(YEAR), 1) {
+            0 => None,
+            cents => Some(cents),
         }
     }
 }

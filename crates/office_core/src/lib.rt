@@ -1,4 +1,4 @@
-//! The office: which filings stand, what it answers to an ask, and how a filing is admitted. Each answer is computed afresh from the filings so far.
+//! The office: which filings stand, what it answers to an ask, and how a filing is admitted. Each answer is computed from the filings so far; the outcome of each admission is kept.
 #![tactic(auto)]
 
 mod answers;

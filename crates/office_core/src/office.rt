@@ -180,6 +180,7 @@ impl Office {
             → 100 * dollars ≤ result → breaks self.now.history filing ≡ None }
         ensures greatest { (filing : Filed) → (dollars : ℕ) → IsPellPayment filing school student year term dollars
             → result < 100 * dollars → breaks self.now.history filing ≢ None }
+        ensures at_most { result ≤ 99999900 }
     {
         quote(self.filings.as_slice(), school, student, year, term)
     }

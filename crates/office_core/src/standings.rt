@@ -21,6 +21,7 @@ pub fn quote(history: &[Filing], school: School, student: Student, year: Year, t
     // Each smaller payment of whole dollars breaks no rule either.
     ensures below { (dollars : ℕ) → 0 < dollars → 100 * dollars ≤ result
         → first_broken (payment_lines (payment_facts_of (reverse history.now) school student year term 3) school student year term 3 (100 * dollars)) ≡ None }
+    ensures at_most { result ≤ 99999900 }
 {
     let facts = payment_facts(history, school, student, year, term, Program::Pell);
     pell_quote::quote(&facts, school, student, year, term)

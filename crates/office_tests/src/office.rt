@@ -96,7 +96,7 @@ fn assert_steps<L: Ledger>(
         match step {
             File(school, number, filed, answer) => {
                 let filing = filing(rt, school, number, what(rt, alloc, filed)?);
-                let verdict = file(office, filing, looks)?;
+                let verdict = file(office, filing)?;
                 assert_eq!(rt;
                     verdict,
                     answer.verdict(),
@@ -110,15 +110,10 @@ fn assert_steps<L: Ledger>(
 }
 
 // Judges a filing, and admits it where the office would.
-fn file<L: Ledger>(
-    office: &mut Office,
-    filing: Filing,
-    looks: &mut Steps<L>,
-) -> Result<Verdict, AllocError> {
+fn file(office: &mut Office, filing: Filing) -> Result<Verdict, AllocError> {
     office.reserve(1)?;
-    let ask = Ask::File(filing);
-    let verdict = office.ask(&ask, looks);
-    if let (Verdict::Admit(_), Ask::File(filing)) = (verdict, ask) {
+    let verdict = office.judge(&filing);
+    if let Verdict::Admit(_) = verdict {
         office.admit(filing);
     }
     Ok(verdict)

@@ -23,4 +23,5 @@ returns c =
       payable = λ filing dollars is some most. payable past filing a.school a.student a.year a.term dollars is (below dollars some most);
       greatest = λ filing dollars is above.
           unpayable past filing a.school a.student a.year a.term dollars is (subst (λ (n : ℕ). n < 100 * dollars) value above);
+      at_most = c.quote.ensures.at_most;
     }
