@@ -1,5 +1,5 @@
 -- The outcomes that an office keeps are those that its history tells, so an answer may be read from them.
-use Rattle.std.proofs.Common.{◌≡◌, ℕ, zero, suc, ◌+◌, ◌-◌, ◌<◌, refl, sym, ap, subst, ◌∙◌, add-one, arith, true, false, List, [], ◌∷◌, ◌++◌, length, reverse, drop, get_or, length-append, Some, inl, inr}
+use Rattle.std.proofs.Common.{◌≡◌, ℕ, suc, ◌+◌, ◌-◌, ◌<◌, refl, sym, ap, subst, ◌∙◌, add-one, arith, true, false, List, [], ◌∷◌, ◌++◌, length, reverse, drop, get_or, length-append, Some, inl, inr}
 use Rattle.std.specs.List.{slice_get}
 use Rattle.std.proofs.lemmas.Bool.{cases_lt}
 use Rattle.std.proofs.lemmas.List.{length-reverse, reverse-reverse}

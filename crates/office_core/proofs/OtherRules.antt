@@ -1,5 +1,5 @@
 -- Rule 15 is no rule of a kind's own.
-use Rattle.std.proofs.Common.{◌≡◌, ℕ, ◌+◌, ◌<◌, refl, ap, subst, ◌∙◌, cond, Bool, true, false, not, ◌&&◌, List, [], ◌∷◌, ◌++◌, Option, Some, None}
+use Rattle.std.proofs.Common.{◌≡◌, ℕ, ◌+◌, refl, ap, subst, ◌∙◌, cond, Bool, true, false, not, ◌&&◌, List, [], ◌∷◌, ◌++◌, Option, Some, None}
 use Rattle.std.specs.Prelude.{◌==◌, ◌*◌, nat_le, nat_lt, slice_index, sum}
 use Rattle.std.proofs.lemmas.Bool.{and_parts}
 use Rattle.aid_types.specs.Programs.{rank}
@@ -14,10 +14,10 @@ use Rattle.aid_filings.specs.declared.filing.What.{What}
 use Rattle.aid_filings.specs.declared.filing.WithdrawFacts.{WithdrawFacts}
 use Rattle.lifetime_ledger.specs.Used.{use_of}
 use Rattle.aid_filings.specs.declared.filing.What.TheVariants.{Book as BookFiled, School, Calendar, Prior, Apply, Enrol, Originate, Pay, Withdraw, Repay, Adjust}
-use Rattle.sai_index.specs.Fits.{is_size, size_for, unfit}
+use Rattle.sai_index.specs.Fits.{is_size, size_for}
 use Rattle.sai_index.specs.Formulas.{formula}
 use Rattle.filing_rules.specs.declared.facts.Facts.{Facts}
-use Rattle.filing_rules.specs.Rules.{Check, breaks_in_order, breaks_inside, broken_of, first_break_in_order, first_broken, lines_of, only, past_cost, past_fseog, past_lifetime, past_payment, past_year, rule_10, rule_12, rule_21, rule_22, rule_23, rule_24, rule_40, rule_52, rule_58, rule_62, rule_63, rule_91, rule_93, told, told_by, too_early, where_true, year_of_program, over}
+use Rattle.filing_rules.specs.Rules.{Check, breaks_in_order, breaks_inside, first_break_in_order, first_broken, lines_of, only, past_cost, past_fseog, past_lifetime, past_payment, past_year, rule_10, rule_12, rule_21, rule_22, rule_23, rule_24, rule_40, rule_52, rule_58, rule_62, rule_63, rule_91, rule_93, told, told_by, too_early, where_true, year_of_program, over}
 use Rattle.office_history.specs.Award.{unfit_under}
 use Rattle.office_history.specs.FactsOf.{facts_of, told_over}
 use Rattle.office_history.specs.Past.{OnFile, the_book}

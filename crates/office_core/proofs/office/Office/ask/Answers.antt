@@ -1,13 +1,9 @@
-use Rattle.std.proofs.Common.{◌≡◌, ◌*◌, ◌≤◌, ◌<◌, ℕ, Some, subst, ap, sym, ◌∙◌, arith}
-use Rattle.aid_types.specs.declared.award.Refusal.{Refusal}
-use Rattle.aid_filings.specs.declared.filing.Amount.{Amount}
+use Rattle.std.proofs.Common.{◌≡◌, ℕ, Some, subst, ap, sym, ◌∙◌, arith}
 use Rattle.aid_filings.specs.declared.filing.Filing.{Filing}
-use Rattle.aid_filings.specs.declared.filing.What.TheVariants.{Pay}
-use Rattle.aid_types.specs.declared.number.Program.TheVariants.{Pell}
 use Rattle.aid_replies.specs.declared.reply.Ask.TheVariants.{Quote}
-use Rattle.aid_replies.specs.declared.reply.Verdict.TheVariants.{Quoted, Refused}
+use Rattle.aid_replies.specs.declared.reply.Verdict.TheVariants.{Quoted}
 use Rattle.office_history.specs.Answer.{answer_to}
-use Rattle.office_core.specs.Register.{IsKeyUsedAt, IsPellPayment}
+use Rattle.office_core.specs.Register.{IsKeyUsedAt}
 use Rattle.office_core.proofs.office.Office.ask.Goals as goal
 
 pub returns-in-File-clause-stands : goal.returns-in-File-clause-stands
