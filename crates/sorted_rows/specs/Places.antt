@@ -1,11 +1,24 @@
 -- Where a key stands among rows in the order of their keys, and when two lists of such rows are one table.
-use Rattle.std.specs.Prelude.{◌≡◌, ℕ, ◌+◌, ◌-◌, ◌<◌, ◌≤◌, ◌⊎◌, List, length, Some, None}
+use Rattle.std.specs.Prelude.{◌≡◌, ℕ, ◌+◌, ◌-◌, ◌<◌, ◌≤◌, ◌⊎◌, List, Option, Some, None, cond, length}
 use Rattle.std.specs.BTreeMap.{is_at}
 use Rattle.std.specs.Map.{keys_of, lookup}
+use Rattle.std.specs.Ordering.{is_eq}
 use Rattle.std.specs.List.{slice_get}
 use Rattle.std.specs.List.Sorted.{IsStrictlySortedBy}
 use Rattle.std.specs.declared.cmp.Ordering.{Ordering}
 use Rattle.std.specs.declared.cmp.Ordering.TheVariants.{Less, Equal, Greater}
+
+-- the value of the row with a key
+abbrev pub value_at : {K V : Type 0} → (K → K → Ordering) → K → List (K × V) → Option V
+value_at {K} {V} cmp key rows = lookup (is_at (cmp key)) rows
+
+-- each key has the value that it had
+abbrev pub AreAlike : {K V : Type 0} → (K → K → Ordering) → List (K × V) → List (K × V) → Type 0
+AreAlike {K} {V} cmp old new = (q : K) → value_at cmp q new ≡ value_at cmp q old
+
+-- the key has the value, and each other key the value that it had
+abbrev pub IsWritten : {K V : Type 0} → (K → K → Ordering) → K → V → List (K × V) → List (K × V) → Type 0
+IsWritten {K} {V} cmp key value old new = (q : K) → value_at cmp q new ≡ cond (is_eq (cmp key q)) (Some value) (value_at cmp q old)
 
 -- the row at place i has the key
 pub record IsHere {K V : Type 0} (cmp : K → K → Ordering) (key : K) (rows : List (K × V)) (i : ℕ) : Type 0 where

@@ -1,9 +1,8 @@
 //! Rows found by key, with the looks counted or not.
 ghost use Rattle.std.specs.Prelude.{◌≡◌, ◌+◌, ◌-◌, ◌*◌, ◌^◌, ◌<◌, ◌≤◌, length, IfOk, IfErr};
-ghost use Rattle.std.specs.BTreeMap.{is_at};
 ghost use Rattle.std.specs.List.Sorted.{IsStrictlySortedBy};
-ghost use Rattle.std.specs.Map.{keys_of, lookup};
-ghost use Rattle.sorted_rows.specs.Places.{IsHere, IsGap};
+ghost use Rattle.std.specs.Map.{keys_of};
+ghost use Rattle.sorted_rows.specs.Places.{IsGap, IsHere, value_at};
 
 use crate::search::search;
 use std::sync::ledger::{Blank, Ledger};
@@ -16,7 +15,7 @@ pub(crate) fn find<K: Ord + Copy, V: Copy, L: Ledger>(
     steps: &mut Steps<L>,
 ) -> Option<V>
     requires sorted { IsStrictlySortedBy K.cmp (keys_of rows.now) }
-    ensures value { result ≡ lookup (is_at (K.cmp key.now)) rows.now }
+    ensures value { result ≡ value_at K.cmp key.now rows.now }
     ensures later { steps.old ≤ steps.new }
     ensures looks { 2 ^ (steps.new - steps.old) ≤ 2 * length rows.now + 1 }
 {
@@ -36,7 +35,7 @@ pub(crate) fn find_uncounted<K: Ord + Copy, V: Copy, L: Ledger>(
     requires name { blank.name ≡ L.name }
     requires parts { blank.parts ≡ L.parts }
     requires some { 0 < blank.parts }
-    ensures { result ≡ lookup (is_at (K.cmp key.now)) rows.now }
+    ensures { result ≡ value_at K.cmp key.now rows.now }
 {
     let mut steps: Steps<L> = Steps::new(blank);
     find(rows, key, &mut steps)

@@ -1,9 +1,8 @@
 //! The merge of the tail into the main rows.
 ghost use Rattle.std.specs.Prelude.{◌≡◌, ◌+◌, ◌-◌, ◌<◌, ◌≤◌, ◌++◌, [], true, false, length, take, vec_len, vec_capacity};
-ghost use Rattle.std.specs.BTreeMap.{is_at};
 ghost use Rattle.std.specs.List.Sorted.{IsStrictlySortedBy};
-ghost use Rattle.std.specs.Map.{keys_of, lookup};
-ghost use Rattle.sorted_rows.specs.Places.{AreApart, IsBelowPrior, tail_size};
+ghost use Rattle.std.specs.Map.{keys_of};
+ghost use Rattle.sorted_rows.specs.Places.{AreAlike, AreApart, IsBelowPrior, tail_size};
 
 use crate::table::TAIL_SIZE;
 use std::cmp::Ordering;
@@ -14,7 +13,7 @@ pub(crate) fn merge_full<K: Ord + Copy, V: Copy>(main: &mut Vec<(K, V)>, tail: &
     requires short { vec_len tail.old ≤ tail_size }
     requires room { vec_len main.old + vec_len tail.old ≤ vec_capacity main.old }
     ensures apart { AreApart K.cmp tail.new.items main.new.items }
-    ensures values { (q : K) → lookup (is_at (K.cmp q)) (tail.new.items ++ main.new.items) ≡ lookup (is_at (K.cmp q)) (tail.old.items ++ main.old.items) }
+    ensures values { AreAlike K.cmp (tail.old.items ++ main.old.items) (tail.new.items ++ main.new.items) }
     ensures short { vec_len tail.new < tail_size }
     ensures places { vec_capacity tail.new ≡ vec_capacity tail.old }
     ensures room { vec_capacity main.old ≤ vec_capacity main.new }
@@ -31,7 +30,7 @@ fn merge<K: Ord + Copy, V: Copy>(main: &mut Vec<(K, V)>, tail: &mut Vec<(K, V)>)
     requires room { vec_len main.old + vec_len tail.old ≤ vec_capacity main.old }
     ensures empty { tail.new.items ≡ [] }
     ensures sorted { IsStrictlySortedBy K.cmp (keys_of main.new.items) }
-    ensures values { (q : K) → lookup (is_at (K.cmp q)) main.new.items ≡ lookup (is_at (K.cmp q)) (tail.old.items ++ main.old.items) }
+    ensures values { AreAlike K.cmp (tail.old.items ++ main.old.items) main.new.items }
     ensures none { vec_len tail.new ≡ 0 }
     ensures places { vec_capacity tail.new ≡ vec_capacity tail.old }
     ensures room { vec_capacity main.old ≤ vec_capacity main.new }
@@ -48,7 +47,7 @@ fn weave<K: Ord + Copy, V: Copy>(rows: &mut [(K, V)], count: usize, tail: &[(K, 
     requires fit { length rows.old ≡ count + length tail.now }
     requires apart { AreApart K.cmp tail.now (take count rows.old) }
     ensures sorted { IsStrictlySortedBy K.cmp (keys_of rows.new) }
-    ensures values { (q : K) → lookup (is_at (K.cmp q)) rows.new ≡ lookup (is_at (K.cmp q)) (tail.now ++ take count rows.old) }
+    ensures values { AreAlike K.cmp (tail.now ++ take count rows.old) rows.new }
 {
     let mut left = count;
     let mut waiting = tail.len();

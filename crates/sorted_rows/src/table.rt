@@ -1,10 +1,7 @@
 //! The table: most rows in one sorted list, the newest keys in a short one.
 ghost use Rattle.std.specs.Prelude.{◌≡◌, ◌+◌, ◌<◌, ◌≤◌, ◌^◌, [], ℕ, Some, None, OnOk, OnErr, cond, max, length};
-ghost use Rattle.std.specs.BTreeMap.{is_at};
-ghost use Rattle.std.specs.Map.{lookup};
 ghost use Rattle.std.specs.Option.{is_none};
-ghost use Rattle.std.specs.Ordering.{is_eq};
-ghost use Rattle.sorted_rows.specs.Places.{tail_looks};
+ghost use Rattle.sorted_rows.specs.Places.{IsWritten, tail_looks, value_at};
 
 use crate::find::{find, find_uncounted};
 use crate::write::write;
@@ -17,7 +14,7 @@ use steps::Steps;
 pub(crate) const TAIL_SIZE: usize = 1024;
 
 /// Rows of a key and a value, no key twice. A contract sees the list of the rows, in which a key's value is found by
-/// `lookup`, and the room: how many more rows it takes without asking for memory.
+/// `value_at`, and the room: how many more rows it takes without asking for memory.
 #[derive(Drop)]
 pub struct Table<K: Ord + Copy, V: Copy> {
     main: Vec<(K, V)>,
@@ -72,7 +69,7 @@ impl<K: Ord + Copy, V: Copy> Table<K, V> {
     /// The value of a key. Each look at a row is a step: ten at most in the tail, and elsewhere one for each binary digit of
     /// the number of rows. So among 200,000 rows a value is found in 28 looks.
     pub fn get<L: Ledger>(&self, key: &K, steps: &mut Steps<L>) -> Option<V>
-        ensures value { result ≡ lookup (is_at (K.cmp key.now)) self.now.rows }
+        ensures value { result ≡ value_at K.cmp key.now self.now.rows }
         ensures later { steps.old ≤ steps.new }
         ensures looks { (digits : ℕ) → length self.now.rows < 2 ^ digits → steps.new ≤ steps.old + tail_looks + digits }
     {
@@ -84,7 +81,7 @@ impl<K: Ord + Copy, V: Copy> Table<K, V> {
 
     /// The value of a key, where nobody counts the looks.
     pub fn at(&self, key: &K) -> Option<V>
-        ensures { result ≡ lookup (is_at (K.cmp key.now)) self.now.rows }
+        ensures { result ≡ value_at K.cmp key.now self.now.rows }
     {
         match find_uncounted::<K, V, Brand>(self.tail.as_slice(), key, Blank::new(1)) {
             Some(value) => Some(value),
@@ -94,9 +91,9 @@ impl<K: Ord + Copy, V: Copy> Table<K, V> {
 
     /// Writes the value of a key. A new key takes one place of the room; no call takes memory.
     pub fn set(&mut self, key: K, value: V)
-        requires room { lookup (is_at (K.cmp key)) self.old.rows ≡ None → 0 < self.old.room }
-        ensures values { (q : K) → lookup (is_at (K.cmp q)) self.new.rows ≡ cond (is_eq (K.cmp key q)) (Some value) (lookup (is_at (K.cmp q)) self.old.rows) }
-        ensures room { let places = cond (is_none (lookup (is_at (K.cmp key)) self.old.rows)) 1 0 in self.new.room + places ≡ self.old.room }
+        requires room { value_at K.cmp key self.old.rows ≡ None → 0 < self.old.room }
+        ensures values { IsWritten K.cmp key value self.old.rows self.new.rows }
+        ensures room { let places = cond (is_none (value_at K.cmp key self.old.rows)) 1 0 in self.new.room + places ≡ self.old.room }
         ensures count { length self.new.rows + self.new.room ≡ length self.old.rows + self.old.room }
     {
         if write(&mut self.main, &mut self.tail, key, value) {

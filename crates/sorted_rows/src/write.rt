@@ -1,11 +1,9 @@
 //! The write of a row into the main rows or the tail.
-ghost use Rattle.std.specs.Prelude.{◌≡◌, ◌+◌, ◌<◌, ◌≤◌, ◌++◌, true, false, Some, None, IsSome, cond, vec_len, vec_capacity};
-ghost use Rattle.std.specs.BTreeMap.{is_at};
+ghost use Rattle.std.specs.Prelude.{◌≡◌, ◌+◌, ◌<◌, ◌≤◌, ◌++◌, true, false, None, IsSome, cond, vec_len, vec_capacity};
 ghost use Rattle.std.specs.List.Sorted.{IsStrictlySortedBy};
-ghost use Rattle.std.specs.Map.{keys_of, lookup};
+ghost use Rattle.std.specs.Map.{keys_of};
 ghost use Rattle.std.specs.Option.{is_none};
-ghost use Rattle.std.specs.Ordering.{is_eq};
-ghost use Rattle.sorted_rows.specs.Places.{AreApart, tail_size};
+ghost use Rattle.sorted_rows.specs.Places.{AreApart, IsWritten, tail_size, value_at};
 
 use crate::find::place_of;
 use crate::merge::merge_full;
@@ -23,11 +21,11 @@ pub(crate) fn write<K: Ord + Copy, V: Copy>(
     requires apart { AreApart K.cmp tail.old.items main.old.items }
     requires short { vec_len tail.old < tail_size }
     requires fits { vec_len main.old + vec_len tail.old ≤ vec_capacity main.old }
-    requires places { lookup (is_at (K.cmp key)) (tail.old.items ++ main.old.items) ≡ None → tail_size ≤ vec_capacity tail.old }
-    requires room { lookup (is_at (K.cmp key)) (tail.old.items ++ main.old.items) ≡ None → vec_len main.old + vec_len tail.old + 1 ≤ vec_capacity main.old }
-    ensures new { result ≡ is_none (lookup (is_at (K.cmp key)) (tail.old.items ++ main.old.items)) }
+    requires places { value_at K.cmp key (tail.old.items ++ main.old.items) ≡ None → tail_size ≤ vec_capacity tail.old }
+    requires room { value_at K.cmp key (tail.old.items ++ main.old.items) ≡ None → vec_len main.old + vec_len tail.old + 1 ≤ vec_capacity main.old }
+    ensures new { result ≡ is_none (value_at K.cmp key (tail.old.items ++ main.old.items)) }
     ensures apart { AreApart K.cmp tail.new.items main.new.items }
-    ensures values { (q : K) → lookup (is_at (K.cmp q)) (tail.new.items ++ main.new.items) ≡ cond (is_eq (K.cmp key q)) (Some value) (lookup (is_at (K.cmp q)) (tail.old.items ++ main.old.items)) }
+    ensures values { IsWritten K.cmp key value (tail.old.items ++ main.old.items) (tail.new.items ++ main.new.items) }
     ensures short { vec_len tail.new < tail_size }
     ensures places { vec_capacity tail.new ≡ vec_capacity tail.old }
     ensures room { vec_capacity main.old ≤ vec_capacity main.new }
@@ -47,14 +45,14 @@ fn write_new<K: Ord + Copy, V: Copy>(
     value: V,
 ) -> bool
     requires apart { AreApart K.cmp tail.old.items main.old.items }
-    requires not_main { lookup (is_at (K.cmp key)) main.old.items ≡ None }
+    requires not_main { value_at K.cmp key main.old.items ≡ None }
     requires short { vec_len tail.old < tail_size }
     requires fits { vec_len main.old + vec_len tail.old ≤ vec_capacity main.old }
-    requires places { lookup (is_at (K.cmp key)) tail.old.items ≡ None → tail_size ≤ vec_capacity tail.old }
-    requires room { lookup (is_at (K.cmp key)) tail.old.items ≡ None → vec_len main.old + vec_len tail.old + 1 ≤ vec_capacity main.old }
-    ensures new { result ≡ is_none (lookup (is_at (K.cmp key)) tail.old.items) }
+    requires places { value_at K.cmp key tail.old.items ≡ None → tail_size ≤ vec_capacity tail.old }
+    requires room { value_at K.cmp key tail.old.items ≡ None → vec_len main.old + vec_len tail.old + 1 ≤ vec_capacity main.old }
+    ensures new { result ≡ is_none (value_at K.cmp key tail.old.items) }
     ensures apart { AreApart K.cmp tail.new.items main.new.items }
-    ensures values { (q : K) → lookup (is_at (K.cmp q)) (tail.new.items ++ main.new.items) ≡ cond (is_eq (K.cmp key q)) (Some value) (lookup (is_at (K.cmp q)) (tail.old.items ++ main.old.items)) }
+    ensures values { IsWritten K.cmp key value (tail.old.items ++ main.old.items) (tail.new.items ++ main.new.items) }
     ensures short { vec_len tail.new < tail_size }
     ensures places { vec_capacity tail.new ≡ vec_capacity tail.old }
     ensures room { vec_capacity main.old ≤ vec_capacity main.new }
@@ -69,10 +67,10 @@ fn write_new<K: Ord + Copy, V: Copy>(
 fn write_over<K: Ord + Copy, V: Copy>(rows: &mut Vec<(K, V)>, key: K, value: V) -> bool
     requires { IsStrictlySortedBy K.cmp (keys_of rows.old.items) }
     ensures sorted { IsStrictlySortedBy K.cmp (keys_of rows.new.items) }
-    ensures written { result ≡ true → (q : K) → lookup (is_at (K.cmp q)) rows.new.items ≡ cond (is_eq (K.cmp key q)) (Some value) (lookup (is_at (K.cmp q)) rows.old.items) }
-    ensures had { result ≡ true → IsSome (lookup (is_at (K.cmp key)) rows.old.items) }
+    ensures written { result ≡ true → IsWritten K.cmp key value rows.old.items rows.new.items }
+    ensures had { result ≡ true → IsSome (value_at K.cmp key rows.old.items) }
     ensures same { result ≡ false → rows.new.items ≡ rows.old.items }
-    ensures lacks { result ≡ false → lookup (is_at (K.cmp key)) rows.old.items ≡ None }
+    ensures lacks { result ≡ false → value_at K.cmp key rows.old.items ≡ None }
     ensures count { vec_len rows.new ≡ vec_len rows.old }
     ensures capacity { vec_capacity rows.new ≡ vec_capacity rows.old }
 {
@@ -88,10 +86,10 @@ fn write_over<K: Ord + Copy, V: Copy>(rows: &mut Vec<(K, V)>, key: K, value: V) 
 /// Writes the value of a key, and answers whether the key is new. For a new key the rows have a place.
 fn put<K: Ord + Copy, V: Copy>(rows: &mut Vec<(K, V)>, key: K, value: V) -> bool
     requires sorted { IsStrictlySortedBy K.cmp (keys_of rows.old.items) }
-    requires room { lookup (is_at (K.cmp key)) rows.old.items ≡ None → vec_len rows.old < vec_capacity rows.old }
-    ensures new { result ≡ is_none (lookup (is_at (K.cmp key)) rows.old.items) }
+    requires room { value_at K.cmp key rows.old.items ≡ None → vec_len rows.old < vec_capacity rows.old }
+    ensures new { result ≡ is_none (value_at K.cmp key rows.old.items) }
     ensures sorted { IsStrictlySortedBy K.cmp (keys_of rows.new.items) }
-    ensures values { (q : K) → lookup (is_at (K.cmp q)) rows.new.items ≡ cond (is_eq (K.cmp key q)) (Some value) (lookup (is_at (K.cmp q)) rows.old.items) }
+    ensures values { IsWritten K.cmp key value rows.old.items rows.new.items }
     ensures count { vec_len rows.new ≡ vec_len rows.old + cond result 1 0 }
     ensures capacity { vec_capacity rows.new ≡ vec_capacity rows.old }
 {
