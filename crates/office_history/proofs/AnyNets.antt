@@ -36,7 +36,7 @@ moved_split sel c (m ∷ ms) pass =
     omega arith
 
 -- the same of the four sums of a history
-paid_split : (past : List Filing) (sel : Cell → Bool) (c : Cell) → sel c ≡ true → paid past sel ≡ paid past (but_cell sel c) + paid past (is_cell c)
+pub paid_split : (past : List Filing) (sel : Cell → Bool) (c : Cell) → sel c ≡ true → paid past sel ≡ paid past (but_cell sel c) + paid past (is_cell c)
 paid_split [] sel c pass = omega arith
 paid_split (f ∷ past) sel c pass =
     let a = moved_split sel c (payments_in f.key f.what) pass in
@@ -47,7 +47,7 @@ paid_split (f ∷ past) sel c pass =
       onto_is (is_cell c) (payments_in f.key f.what) (paid past (is_cell c)),
     ) (omega arith)
 
-taken_split : (past : List Filing) (sel : Cell → Bool) (c : Cell) → sel c ≡ true → taken past sel ≡ taken past (but_cell sel c) + taken past (is_cell c)
+pub taken_split : (past : List Filing) (sel : Cell → Bool) (c : Cell) → sel c ≡ true → taken past sel ≡ taken past (but_cell sel c) + taken past (is_cell c)
 taken_split [] sel c pass = omega arith
 taken_split (f ∷ past) sel c pass =
     let ms : List Move = takings_in past (net_at past) f.key f.what in

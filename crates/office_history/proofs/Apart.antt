@@ -26,7 +26,7 @@ use Rattle.office_history.proofs.Steps.{net_unpaid, net_paid}
 use Rattle.office_history.proofs.Filed.{is_filed, FiledHolds, filed_holds}
 
 -- the code of a school on file is above 0
-known_code : (past : List Filing) (code : ℕ) → 0 < school_at past code → 0 < code
+pub known_code : (past : List Filing) (code : ℕ) → 0 < school_at past code → 0 < code
 known_code [] code h = absurd (omega arith)
 known_code (f ∷ past) code h = go f.what h (known_code past code)
   where

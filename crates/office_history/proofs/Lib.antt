@@ -25,3 +25,10 @@ pub mod After
 pub mod LegalWithin
 pub mod FactsInRange
 pub mod Slices
+pub mod Among
+pub mod LeastTerms
+pub mod LeastNumbers
+pub mod TermsOnFile
+pub mod FirstFilings
+pub mod CellSums
+pub mod Enrolled

@@ -1,5 +1,5 @@
 -- What was told of a filing at its admission is what the history tells later.
-use Rattle.std.proofs.Common.{◌≡◌, ℕ, zero, suc, ◌+◌, ◌-◌, refl, sym, ap, ◌∙◌, arith, Bool, true, false, List, [], ◌∷◌, ◌++◌, length, drop, length-append, add-one}
+use Rattle.std.proofs.Common.{◌≡◌, ℕ, zero, suc, ◌+◌, ◌-◌, ◌≤◌, refl, sym, ap, ◌∙◌, arith, Bool, true, false, List, [], ◌∷◌, ◌++◌, length, drop, length-append, add-one}
 use Rattle.aid_filings.specs.declared.filing.Filing.{Filing}
 use Rattle.aid_replies.specs.declared.reply.Verdict.TheVariants.{Again}
 use Rattle.aid_filings.specs.contracts.filing.FilingEq.TheImpl.Laws as filing_laws
@@ -38,6 +38,18 @@ skipped newer past f =
 -- the outcome at a filing's position is the outcome of its admission
 pub outcome_at-stays : (newer past : List Filing) (f : Filing) → outcome_at (newer ++ f ∷ past) (length past + 1) ≡ outcome_of past f
 outcome_at-stays newer past f = ap outcome_of_newest (skipped newer past f)
+
+-- the outcome at a position of an older history stays
+pub outcome_at-older : (newer past : List Filing) (position : ℕ) → position ≤ length past → outcome_at (newer ++ past) position ≡ outcome_at past position
+outcome_at-older newer past position below =
+    let e : length (newer ++ past) - position ≡ length newer + (length past - position) = let k : length (newer ++ past) ≡ length newer + length past = length-append newer past in omega arith in
+    ap outcome_of_newest (ap (λ (n : ℕ). drop n (newer ++ past)) e ∙ after newer)
+  where
+    after : (xs : List Filing) → drop (length xs + (length past - position)) (xs ++ past) ≡ drop (length past - position) past
+    after [] = let e : length {A = Filing} [] + (length past - position) ≡ length past - position = omega arith in rw e refl
+    after (x ∷ xs) =
+        let e : length (x ∷ xs) + (length past - position) ≡ suc (length xs + (length past - position)) = omega arith in
+        rw e (after xs)
 
 -- a repeated filing is answered by its position and the outcome of its admission
 pub answer_of-repeated : (newer past : List Filing) (f : Filing) → IsLegal (newer ++ f ∷ past) →

@@ -122,11 +122,11 @@ least_some t (Some u) h = go (nat_lt (9 * t.school + t.term.number) (9 * u.schoo
     go true h = cc
     go false h = cc
 
-least_none : (ts : List OnFile) → least_term ts ≡ None → ts ≡ []
+pub least_none : (ts : List OnFile) → least_term ts ≡ None → ts ≡ []
 least_none [] h = refl
 least_none (t ∷ ts) h = absurd (least_some t (least_term ts) h)
 
-told_none : (past : List Filing) (award student year : ℕ) (o : Option OnFile) → told_over past award student year o ≡ None → o ≡ None
+pub told_none : (past : List Filing) (award student year : ℕ) (o : Option OnFile) → told_over past award student year o ≡ None → o ≡ None
 told_none past award student year None h = refl
 told_none past award student year (Some t) h = cc
 

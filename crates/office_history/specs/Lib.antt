@@ -7,3 +7,4 @@ pub mod Sheets
 pub mod FactsOf
 pub mod Answer
 pub mod Within
+pub mod Least

@@ -1,9 +1,9 @@
 //! Laws of histories, each as the contract of a function that computes nothing. A slice has the oldest filing first.
 ghost use Rattle.std.specs.List.{AllPairs};
-ghost use Rattle.std.specs.Prelude.{◌≡◌, ◌≢◌, ◌↔◌, ◌+◌, ◌≤◌, ◌++◌, ◌∷◌, None, IsTrue, reverse, length};
+ghost use Rattle.std.specs.Prelude.{◌≡◌, ◌≢◌, ◌↔◌, ◌+◌, ◌≤◌, ◌++◌, ◌∷◌, ℕ, true, None, IsTrue, reverse, length, take};
 ghost use Rattle.aid_replies.specs.declared.reply.Verdict.TheVariants.{Again, Admit};
 ghost use Rattle.office_history.specs.Past.{key_at, same_filing};
-ghost use Rattle.office_history.specs.Answer.{breaks, outcome_of, answer_of, IsLegal};
+ghost use Rattle.office_history.specs.Answer.{breaks, outcome_of, outcome_at, answer_of, is_admit, IsLegal};
 ghost use Rattle.office_history.specs.Within.{IsWithinEveryLimit};
 
 use aid_filings::Filing;
@@ -60,4 +60,29 @@ pub fn same_is_equal(filing: &Filing, other: &Filing)
 {
     let _ = filing;
     let _ = other;
+}
+
+/// The first filings of a legal list are legal.
+pub fn legal_front(history: &[Filing])
+    requires { IsLegal (reverse history.now) }
+    ensures { (count : ℕ) → IsLegal (reverse (take count history.now)) }
+{
+    let _ = history;
+}
+
+/// A filing that is admitted after a legal list makes it a legal list of one more, and one that isn't doesn't.
+pub fn admitted_is_legal(history: &[Filing], filing: &Filing)
+    requires { IsLegal (reverse history.now) }
+    ensures { (is_admit (answer_of (reverse history.now) filing.now) ≡ true) ↔ IsLegal (filing.now ∷ reverse history.now) }
+{
+    let _ = history;
+    let _ = filing;
+}
+
+/// What was admitted at a position stays, whatever came after it.
+pub fn older_outcome(history: &[Filing], later: &[Filing])
+    ensures { (position : ℕ) → position ≤ length history.now → outcome_at (reverse (history.now ++ later.now)) position ≡ outcome_at (reverse history.now) position }
+{
+    let _ = history;
+    let _ = later;
 }

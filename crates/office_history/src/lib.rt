@@ -5,5 +5,15 @@
 #![tactic(auto)]
 
 mod laws;
+mod least;
+mod sums;
 
-pub use laws::{complete, legal_keys, legal_length, legal_within, repeated_filing, same_is_equal};
+pub use laws::{
+    admitted_is_legal, complete, legal_front, legal_keys, legal_length, legal_within,
+    older_outcome, repeated_filing, same_is_equal,
+};
+pub use least::{
+    first_found, first_term_found, least_code_found, least_term_found, least_term_over, one_least,
+    terms_ordered,
+};
+pub use sums::{net_is_small, net_is_sum, paid_is_enrolled};
