@@ -1,7 +1,6 @@
 -- Where money stands the student was enrolled.
-use Rattle.std.proofs.Common.{◌≡◌, ℕ, zero, suc, ◌+◌, ◌<◌, refl, sym, ap, subst, arith, cond, Bool, true, false, ◌&&◌, List, [], ◌∷◌, length, reverse, Option, Some, None, eqb-true}
+use Rattle.std.proofs.Common.{◌≡◌, ◌+◌, ◌<◌, refl, subst, arith, cond, Bool, true, false, ◌&&◌, List, [], ◌∷◌, reverse, None, eqb-true}
 use Rattle.std.specs.Prelude.{◌==◌}
-use Rattle.std.specs.List.{Contains}
 use Rattle.aid_types.specs.declared.number.Key.{Key}
 use Rattle.aid_filings.specs.declared.filing.Amount.{Amount}
 use Rattle.aid_filings.specs.declared.filing.EnrolFacts.{EnrolFacts}

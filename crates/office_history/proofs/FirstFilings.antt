@@ -1,8 +1,8 @@
 -- A position that is told is that of the first filing that passes.
-use Rattle.std.proofs.Common.{◌≡◌, ℕ, zero, suc, ◌+◌, ◌<◌, ◌≤◌, refl, sym, ap, ◌∙◌, subst, arith, cond, Bool, true, false, ◌⊎◌, inl, inr, List, [], ◌∷◌, length, reverse, Option, Some, None, get_or, ltb-true, ltb-false}
+use Rattle.std.proofs.Common.{◌≡◌, ℕ, zero, suc, ◌+◌, ◌<◌, refl, ◌∙◌, subst, arith, Bool, true, false, List, [], ◌∷◌, length, reverse, Option, Some, None, get_or, ltb-true, ltb-false}
 use Rattle.std.specs.Prelude.{nat_lt, slice_get}
-use Rattle.std.specs.List.{All, Contains, position, position_or_len}
-use Rattle.std.proofs.lemmas.List.Elements.{All-nil, All-cons, All-head, All-tail, All-from_get_or, All-contains, Contains-get_or}
+use Rattle.std.specs.List.{Contains, position}
+use Rattle.std.proofs.lemmas.List.Elements.{All-nil, All-cons, All-head, All-tail, All-contains, Contains-get_or}
 use Rattle.std.proofs.lemmas.List.Quantifiers.{position-Some}
 use Rattle.std.proofs.lemmas.Option.{slice_get-get_or, slice_get_within, get_or_from_slice_get}
 use Rattle.aid_filings.specs.declared.filing.Filing.{Filing}

@@ -1,12 +1,12 @@
 -- The least code, and the first position of a term, are least numbers.
-use Rattle.std.proofs.Common.{◌≡◌, ℕ, zero, suc, ◌+◌, ◌<◌, ◌≤◌, refl, sym, ap, ◌∙◌, subst, arith, cond, Bool, true, false, ◌⊎◌, inl, inr, List, [], ◌∷◌, length, Option, Some, None}
-use Rattle.std.specs.Prelude.{◌==◌, nat_lt, min}
-use Rattle.std.specs.List.{All, Contains}
+use Rattle.std.proofs.Common.{subst, ◌≡◌, ℕ, zero, suc, ◌<◌, ◌≤◌, refl, arith, Bool, true, false, ◌⊎◌, inl, inr, List, [], ◌∷◌}
+use Rattle.std.specs.Prelude.{nat_lt, min}
+use Rattle.std.specs.List.{All}
 use Rattle.std.proofs.lemmas.Bool.Decides.{nat_tests}
 use Rattle.std.proofs.lemmas.List.Elements.{All-nil, All-cons, All-head, All-tail, All-weaker, All-contains}
 use Rattle.office_history.specs.Past.{OnFile, first_of_two}
 use Rattle.office_history.specs.FactsOf.{lesser_code, least_code, first_term_at}
-use Rattle.office_history.specs.Least.{NonePasses, IsLeastBy, IsLeastNumber}
+use Rattle.office_history.specs.Least.{NonePasses, IsLeastNumber}
 use Rattle.office_history.proofs.Among.{among_head, among_rest}
 
 -- 0 where none passes, and otherwise the least number
@@ -115,17 +115,27 @@ position_tells p (t ∷ ts) h = go (p t) refl (first_term_at p ts) (position_tel
         let own = k.1.own in
         inr (k.0, older_number (λ t. t.position) p t ts (suc n) k.1 (λ q. omega arith))
 
+-- there is one least number
+one_number : (number : OnFile → ℕ) (p : OnFile → Bool) (ts : List OnFile) (n m : ℕ) → IsLeastNumber number p ts n → IsLeastNumber number p ts m → n ≡ m
+one_number number p ts n m a b =
+    let x = at_least (number b.thing) (number a.thing)
+    (All-contains (λ u. p u ≡ true → nat_lt (number u) (number a.thing) ≡ false) ts b.thing a.least.least b.least.among b.least.accepted) in
+    let y = at_least (number a.thing) (number b.thing)
+    (All-contains (λ u. p u ≡ true → nat_lt (number u) (number b.thing) ≡ false) ts a.thing b.least.least a.least.among a.least.accepted) in
+    let e = a.own in
+    let d = b.own in
+    omega arith
+
+none_least : (number : OnFile → ℕ) (p : OnFile → Bool) (ts : List OnFile) (n : ℕ) → NonePasses p ts → IsLeastNumber number p ts n → ⊥
+none_least number p ts n none k =
+    let e : p k.thing ≡ false = All-contains (λ u. p u ≡ false) ts k.thing none k.least.among in
+    let d : p k.thing ≡ true = k.least.accepted in cc
+
 -- what is told is the least number, and there is none where none passes
-pub told_least : (number : OnFile → ℕ) (p : OnFile → Bool) (ts : List OnFile) (n : ℕ) → Tells number p ts n → 0 < n → IsLeastNumber number p ts n
-told_least number p ts n (inl k) pos = absurd (omega arith)
-told_least number p ts n (inr k) pos = k.1
+pub told_least : (number : OnFile → ℕ) (p : OnFile → Bool) (ts : List OnFile) (n m : ℕ) → Tells number p ts n → 0 < m → (n ≡ m → IsLeastNumber number p ts m) × (IsLeastNumber number p ts m → n ≡ m)
+told_least number p ts n m (inl k) pos = (λ e. absurd (omega (arith, k.0)), λ l. absurd (none_least number p ts m k.1 l))
+told_least number p ts n m (inr k) pos = (λ e. subst (IsLeastNumber number p ts) e k.1, one_number number p ts n m k.1)
 
-pub told_none : (number : OnFile → ℕ) (p : OnFile → Bool) (ts : List OnFile) (n : ℕ) → Tells number p ts n → n ≡ 0 → NonePasses p ts
-told_none number p ts n (inl k) e = k.1
-told_none number p ts n (inr k) e = absurd (omega arith)
-
-pub none_told : (number : OnFile → ℕ) (p : OnFile → Bool) (ts : List OnFile) (n : ℕ) → Tells number p ts n → NonePasses p ts → n ≡ 0
-none_told number p ts n (inl k) none = k.0
-none_told number p ts n (inr k) none =
-    let e : p k.1.thing ≡ false = All-contains (λ u. p u ≡ false) ts k.1.thing none k.1.least.among in
-    let d = k.1.least.accepted in absurd (cc)
+pub told_none : (number : OnFile → ℕ) (p : OnFile → Bool) (ts : List OnFile) (n : ℕ) → Tells number p ts n → (n ≡ 0 → NonePasses p ts) × (NonePasses p ts → n ≡ 0)
+told_none number p ts n (inl k) = (λ e. k.1, λ none. k.0)
+told_none number p ts n (inr k) = (λ e. absurd (omega (arith, k.0)), λ none. absurd (none_least number p ts n none k.1))

@@ -1,11 +1,11 @@
 -- The term that is told is the least of those that pass, and so is the code.
-use Rattle.std.proofs.Common.{◌≡◌, ℕ, zero, suc, ◌+◌, ◌*◌, ◌<◌, ◌≤◌, refl, sym, ap, ◌∙◌, subst, arith, cond, Bool, true, false, ◌||◌, ◌&&◌, ◌⊎◌, inl, inr, List, [], ◌∷◌, Option, Some, None, eqb-true}
-use Rattle.std.specs.Prelude.{◌==◌, nat_lt, min}
+use Rattle.std.proofs.Common.{◌≡◌, ℕ, ◌+◌, ◌*◌, ◌≤◌, refl, sym, ap, ◌∙◌, subst, arith, cond, Bool, true, false, ◌||◌, ◌&&◌, List, [], ◌∷◌, Option, Some, None}
+use Rattle.std.specs.Prelude.{◌==◌, nat_lt}
 use Rattle.std.specs.List.{All, Contains, filter}
 use Rattle.std.proofs.lemmas.Bool.Decides.{nat_tests}
-use Rattle.std.proofs.lemmas.List.Elements.{All-nil, All-cons, All-head, All-tail, All-weaker, All-contains, filter_passes}
+use Rattle.std.proofs.lemmas.List.Elements.{All-nil, All-cons, All-weaker, All-contains, filter_passes}
 use Rattle.office_history.specs.Past.{OnFile}
-use Rattle.office_history.specs.FactsOf.{earlier_term, least_term, lesser_code, least_code}
+use Rattle.office_history.specs.FactsOf.{earlier_term, least_term}
 use Rattle.office_history.specs.Least.{NonePasses, IsLeastBy, is_before}
 use Rattle.office_history.proofs.Among.{among_head, among_rest, among_kept, all_that_pass, none_kept, nothing_kept}
 use Rattle.office_history.proofs.Terms.{least_none}

@@ -1,7 +1,8 @@
 -- The terms on file: their positions, their codes, and that no two of a year are of one school and number.
-use Rattle.std.proofs.Common.{◌≡◌, ℕ, zero, suc, ◌+◌, ◌<◌, ◌≤◌, refl, sym, ap, ◌∙◌, subst, arith, cond, Bool, true, false, ◌||◌, ◌&&◌, ◌⊎◌, inl, inr, List, [], ◌∷◌, length, Option, Some, None, eqb-true, eq-eqb}
-use Rattle.std.specs.Prelude.{◌==◌, nat_lt}
+use Rattle.std.proofs.Common.{◌≡◌, ℕ, ◌+◌, ◌<◌, refl, sym, ap, ◌∙◌, subst, arith, true, false, ◌||◌, ◌&&◌, ◌⊎◌, inl, inr, List, [], ◌∷◌, length, Option, Some, None, eqb-true, eq-eqb, ◌++◌, reverse, zero, suc}
+use Rattle.std.specs.Prelude.{slice_get, ◌==◌, nat_lt}
 use Rattle.std.specs.List.{All, Contains, filter}
+use Rattle.std.proofs.lemmas.List.{reverse-append, length-reverse}
 use Rattle.std.proofs.lemmas.Bool.Decides.{nat_tests}
 use Rattle.std.proofs.lemmas.List.Elements.{All-nil, All-cons, All-weaker, All-contains}
 use Rattle.aid_filings.specs.Calendars.{term_of}
@@ -11,13 +12,13 @@ use Rattle.aid_filings.specs.declared.filing.Filing.{Filing}
 use Rattle.aid_filings.specs.declared.filing.What.{What}
 use Rattle.aid_filings.specs.declared.filing.What.TheVariants.{Book as BookFiled, School, Calendar, Prior, Apply, Enrol, Originate, Pay, Withdraw, Repay, Adjust}
 use Rattle.filing_rules.specs.Rules.{lines_of}
-use Rattle.office_history.specs.Past.{OnFile, at_school, term_in, terms_on_file}
+use Rattle.office_history.specs.Past.{OnFile, on_file, at_school, term_in, terms_on_file}
 use Rattle.office_history.specs.FactsOf.{facts_of, school_at, term_at, is_over, least_term}
 use Rattle.office_history.specs.Answer.{breaks, IsLegal}
-use Rattle.office_history.specs.Least.{NonePasses, IsLeastBy, AreOrdered, is_before}
+use Rattle.office_history.specs.Least.{NonePasses, IsFiledTerm, IsLeastBy, AreOrdered, is_before}
 use Rattle.office_history.proofs.Checks.{all_hold, lacks_holds, stands_holds}
 use Rattle.office_history.proofs.Asked.{none_told}
-use Rattle.office_history.proofs.Filed.{is_term, is_filed}
+use Rattle.office_history.proofs.Filed.{is_term}
 use Rattle.office_history.proofs.Apart.{known_code, not_there}
 use Rattle.office_history.proofs.Among.{among_cases, none_any}
 use Rattle.std.proofs.lemmas.Bool.{and_parts}
@@ -58,6 +59,46 @@ within (f ∷ past) =
 pub positions_fall : (past : List Filing) → Falls (terms_on_file past)
 positions_fall [] = tt
 positions_fall (f ∷ past) = by_calendar Falls past f (λ c e. (omega arith, within past, positions_fall past)) (positions_fall past)
+
+-- what a list has at an index it has there with more behind it
+behind : (xs ys : List Filing) (i : ℕ) (g : Filing) → slice_get xs i ≡ Some g → slice_get (xs ++ ys) i ≡ Some g
+behind [] ys i g h = absurd (cc)
+behind (x ∷ xs) ys zero g h = h
+behind (x ∷ xs) ys (suc i) g h = behind xs ys i g h
+
+at_end : (xs : List Filing) (f : Filing) (i : ℕ) → i ≡ length xs → slice_get (xs ++ f ∷ []) i ≡ Some f
+at_end [] f zero e = refl
+at_end [] f (suc i) e = absurd (omega arith)
+at_end (x ∷ xs) f zero e = absurd (omega arith)
+at_end (x ∷ xs) f (suc i) e = at_end xs f i (omega arith)
+
+-- the filing at a term's position is its calendar
+still_filed : (past : List Filing) (f : Filing) (t : OnFile) → IsFiledTerm (reverse past) t → IsFiledTerm (reverse (f ∷ past)) t
+still_filed past f t k = record {
+  index = k.index;
+  filing = k.filing;
+  place = k.place;
+  here = ap (λ (l : List Filing). slice_get l k.index) (reverse-append (f ∷ []) past) ∙ behind (reverse past) (f ∷ []) k.index k.filing k.here;
+  calendar = k.calendar;
+}
+
+newly_filed : (past : List Filing) (f : Filing) (c : CalendarFacts) → f.what ≡ Calendar c → IsFiledTerm (reverse (f ∷ past)) (put_on_file past f.key c)
+newly_filed past f c e = record {
+  index = length past;
+  filing = f;
+  place = refl;
+  here = ap (λ (l : List Filing). slice_get l (length past)) (reverse-append (f ∷ []) past)
+      ∙ at_end (reverse past) f (length past) (omega (arith, length-reverse past));
+  calendar = ap (on_file f.key.school (length past + 1)) e;
+}
+
+pub terms_filed : (past : List Filing) → All (IsFiledTerm (reverse past)) (terms_on_file past)
+terms_filed [] = All-nil (IsFiledTerm (reverse []))
+terms_filed (f ∷ past) =
+    let rest : All (IsFiledTerm (reverse (f ∷ past))) (terms_on_file past) =
+    All-weaker (IsFiledTerm (reverse past)) (IsFiledTerm (reverse (f ∷ past))) (still_filed past f) (terms_on_file past) (terms_filed past) in
+    by_calendar (λ ts. All (IsFiledTerm (reverse (f ∷ past))) ts) past f
+    (λ c e. All-cons (IsFiledTerm (reverse (f ∷ past))) (put_on_file past f.key c) (terms_on_file past) (newly_filed past f c e) rest) rest
 
 -- a legal history's terms are of schools with a code above 0
 calendar_rules : (past : List Filing) (key : Key) (c : CalendarFacts) → breaks past (record { key = key; what = Calendar c }) ≡ None →

@@ -1,11 +1,12 @@
--- The least and the first of a list, and a sum over cells, said by what they are and not by how they are found.
-use Rattle.std.specs.Prelude.{◌≡◌, ◌≢◌, ℕ, ◌<◌, ◌==◌, ◌&&◌, ◌||◌, nat_lt, Bool, true, false, List, length, Some, slice_get}
+-- The least and the first of a list, the cells of a sum, and an enrolment that stands: said by what they are, and not by how
+-- they are found.
+use Rattle.std.specs.Prelude.{◌+◌, ◌≡◌, ◌≢◌, ℕ, ◌<◌, ◌==◌, ◌&&◌, ◌||◌, nat_lt, Bool, true, false, List, Some, slice_get}
 use Rattle.std.specs.List.{All, AllPairs, Contains}
 use Rattle.aid_types.specs.declared.number.Key.{Key}
 use Rattle.aid_filings.specs.declared.filing.EnrolFacts.{EnrolFacts}
 use Rattle.aid_filings.specs.declared.filing.Filing.{Filing}
 use Rattle.aid_filings.specs.declared.filing.What.TheVariants.{Enrol}
-use Rattle.office_history.specs.Past.{OnFile}
+use Rattle.office_history.specs.Past.{OnFile, on_file}
 use Rattle.office_history.specs.Net.{Cell, is_cell, paid}
 
 -- nothing in the list passes the test
@@ -39,6 +40,14 @@ pub record IsFirst (passes : Filing → Bool) (history : List Filing) (index : �
   pub here : slice_get history index ≡ Some filing
   pub accepted : passes filing ≡ true
   pub first : (earlier : ℕ) (other : Filing) → earlier < index → slice_get history earlier ≡ Some other → passes other ≡ false
+
+-- the filing at a term's position is its calendar
+pub record IsFiledTerm (history : List Filing) (t : OnFile) : Type 0 where
+  pub index : ℕ
+  pub filing : Filing
+  pub place : t.position ≡ index + 1
+  pub here : slice_get history index ≡ Some filing
+  pub calendar : on_file filing.key.school t.position filing.what ≡ Some t
 
 -- a list of cells, none twice, that has each cell at which anything was paid
 pub record HoldsPaid (past : List Filing) (cells : List Cell) : Type 0 where

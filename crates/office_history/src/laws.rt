@@ -1,8 +1,12 @@
 //! Laws of histories, each as the contract of a function that computes nothing. A slice has the oldest filing first.
 ghost use Rattle.std.specs.List.{AllPairs};
-ghost use Rattle.std.specs.Prelude.{◌≡◌, ◌≢◌, ◌↔◌, ◌+◌, ◌≤◌, ◌++◌, ◌∷◌, ℕ, true, None, IsTrue, reverse, length, take};
+ghost use Rattle.std.specs.Prelude.{◌≡◌, ◌≢◌, ◌↔◌, ◌+◌, ◌≤◌, ◌++◌, ◌∷◌, ℕ, true, None, IsTrue, reverse, length, take, Some, slice_get};
+ghost use Rattle.aid_filings.specs.declared.filing.Filing.{Filing};
+ghost use Rattle.aid_filings.specs.declared.filing.WithdrawFacts.{WithdrawFacts};
+ghost use Rattle.aid_filings.specs.declared.filing.What.TheVariants.{Withdraw};
 ghost use Rattle.aid_replies.specs.declared.reply.Verdict.TheVariants.{Again, Admit};
 ghost use Rattle.office_history.specs.Past.{key_at, same_filing};
+ghost use Rattle.office_history.specs.Sheets.{CanBeWorkedOut};
 ghost use Rattle.office_history.specs.Answer.{breaks, outcome_of, outcome_at, answer_of, is_admit, IsLegal};
 ghost use Rattle.office_history.specs.Within.{IsWithinEveryLimit};
 
@@ -62,10 +66,12 @@ pub fn same_is_equal(filing: &Filing, other: &Filing)
     let _ = other;
 }
 
-/// The first filings of a legal list are legal.
+/// The first filings of a legal list are legal, and each filing of it has a new key and breaks no rule on those before it.
 pub fn legal_front(history: &[Filing])
     requires { IsLegal (reverse history.now) }
-    ensures { (count : ℕ) → IsLegal (reverse (take count history.now)) }
+    ensures front { (count : ℕ) → IsLegal (reverse (take count history.now)) }
+    ensures each { (index : ℕ) (filing : Filing) → slice_get history.now index ≡ Some filing
+        → (key_at filing.key (reverse (take index history.now)) ≡ 0) × (breaks (reverse (take index history.now)) filing ≡ None) }
 {
     let _ = history;
 }
@@ -74,6 +80,17 @@ pub fn legal_front(history: &[Filing])
 pub fn admitted_is_legal(history: &[Filing], filing: &Filing)
     requires { IsLegal (reverse history.now) }
     ensures { (is_admit (answer_of (reverse history.now) filing.now) ≡ true) ↔ IsLegal (filing.now ∷ reverse history.now) }
+{
+    let _ = history;
+    let _ = filing;
+}
+
+/// A withdrawal that breaks no rule on a legal list can be worked out: its term is on file and lawful, and its last day lies in
+/// the term.
+pub fn sound_is_worked_out(history: &[Filing], filing: &Filing)
+    requires legal { IsLegal (reverse history.now) }
+    requires sound { breaks (reverse history.now) filing.now ≡ None }
+    ensures { (w : WithdrawFacts) → filing.now.what ≡ Withdraw w → CanBeWorkedOut (reverse history.now) filing.now.key w }
 {
     let _ = history;
     let _ = filing;

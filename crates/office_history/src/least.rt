@@ -7,7 +7,7 @@ ghost use Rattle.office_history.specs.Past.{OnFile, first_at, terms_on_file};
 ghost use Rattle.office_history.specs.Net.{pell_term};
 ghost use Rattle.office_history.specs.FactsOf.{first_term_at, least_code, least_term, is_over, payment_at, term_over};
 ghost use Rattle.office_history.specs.Answer.{IsLegal};
-ghost use Rattle.office_history.specs.Least.{NonePasses, IsLeastBy, IsLeastNumber, AreOrdered, IsFirst, is_before};
+ghost use Rattle.office_history.specs.Least.{NonePasses, IsLeastBy, IsLeastNumber, AreOrdered, IsFirst, IsFiledTerm, is_before};
 
 use aid_filings::Filing;
 
@@ -22,8 +22,8 @@ pub fn one_least<T>(things: &[T])
 /// Of the terms on file that pass a test, the one found has the least school code and, of that school, the least number;
 /// none is found exactly where none passes.
 pub fn least_term_found(history: &[Filing])
-    ensures none { (passes : OnFile → Bool) → (least_term (filter passes (terms_on_file (reverse history.now))) ≡ None) ↔ NonePasses passes (terms_on_file (reverse history.now)) }
-    ensures least { (passes : OnFile → Bool) (term : OnFile) → least_term (filter passes (terms_on_file (reverse history.now))) ≡ Some term → IsLeastBy is_before passes (terms_on_file (reverse history.now)) term }
+    ensures none { let terms = terms_on_file (reverse history.now) in (passes : OnFile → Bool) → (least_term (filter passes terms) ≡ None) ↔ NonePasses passes terms }
+    ensures least { let terms = terms_on_file (reverse history.now) in (passes : OnFile → Bool) (term : OnFile) → least_term (filter passes terms) ≡ Some term → IsLeastBy is_before passes terms term }
 {
     let _ = history;
 }
@@ -40,12 +40,12 @@ pub fn terms_ordered(history: &[Filing])
 /// net Pell and its payment. It tells nothing exactly where there is no such term.
 pub fn least_term_over(history: &[Filing])
     requires { IsLegal (reverse history.now) }
-    ensures none { (award student year : ℕ) → (term_over (reverse history.now) award student year ≡ None) ↔ NonePasses (is_over (reverse history.now) award student year) (terms_on_file (reverse history.now)) }
-    ensures least { (award student year : ℕ) (t : OnFile) → IsLeastBy is_before (is_over (reverse history.now) award student year) (terms_on_file (reverse history.now)) t
-        → term_over (reverse history.now) award student year ≡ Some (record {
+    ensures none { let past = reverse history.now in (award student year : ℕ) → (term_over past award student year ≡ None) ↔ NonePasses (is_over past award student year) (terms_on_file past) }
+    ensures least { let past = reverse history.now in (award student year : ℕ) (t : OnFile) → IsLeastBy is_before (is_over past award student year) (terms_on_file past) t
+        → term_over past award student year ≡ Some (record {
           rule = 93;
-          kept = pell_term (reverse history.now) t.school student year t.term.number;
-          bound = payment_at (reverse history.now) award t.school student year t.term.number;
+          kept = pell_term past t.school student year t.term.number;
+          bound = payment_at past award t.school student year t.term.number;
         }) }
 {
     let _ = history;
@@ -56,9 +56,9 @@ pub fn least_term_over(history: &[Filing])
 pub fn least_code_found(history: &[Filing])
     requires { IsLegal (reverse history.now) }
     ensures codes { All (λ t. 0 < t.school) (terms_on_file (reverse history.now)) }
-    ensures none { (passes : OnFile → Bool) → (least_code passes (terms_on_file (reverse history.now)) ≡ 0) ↔ NonePasses passes (terms_on_file (reverse history.now)) }
-    ensures least { (passes : OnFile → Bool) → 0 < least_code passes (terms_on_file (reverse history.now))
-        → IsLeastNumber (λ t. t.school) passes (terms_on_file (reverse history.now)) (least_code passes (terms_on_file (reverse history.now))) }
+    ensures none { let terms = terms_on_file (reverse history.now) in (passes : OnFile → Bool) → (least_code passes terms ≡ 0) ↔ NonePasses passes terms }
+    ensures least { let terms = terms_on_file (reverse history.now) in (passes : OnFile → Bool) (code : ℕ) → 0 < code
+        → (least_code passes terms ≡ code) ↔ IsLeastNumber (λ t. t.school) passes terms code }
 {
     let _ = history;
 }
@@ -71,11 +71,13 @@ pub fn first_found(history: &[Filing])
     let _ = history;
 }
 
-/// The same of the terms on file: the least position of those that pass, and 0 exactly where none passes.
+/// The same of the terms on file: the least position of those that pass, and 0 exactly where none passes. A term's position
+/// is that of its calendar.
 pub fn first_term_found(history: &[Filing])
-    ensures none { (passes : OnFile → Bool) → (first_term_at passes (terms_on_file (reverse history.now)) ≡ 0) ↔ NonePasses passes (terms_on_file (reverse history.now)) }
-    ensures first { (passes : OnFile → Bool) → 0 < first_term_at passes (terms_on_file (reverse history.now))
-        → IsLeastNumber (λ t. t.position) passes (terms_on_file (reverse history.now)) (first_term_at passes (terms_on_file (reverse history.now))) }
+    ensures filed { All (IsFiledTerm history.now) (terms_on_file (reverse history.now)) }
+    ensures none { let terms = terms_on_file (reverse history.now) in (passes : OnFile → Bool) → (first_term_at passes terms ≡ 0) ↔ NonePasses passes terms }
+    ensures first { let terms = terms_on_file (reverse history.now) in (passes : OnFile → Bool) (position : ℕ) → 0 < position
+        → (first_term_at passes terms ≡ position) ↔ IsLeastNumber (λ t. t.position) passes terms position }
 {
     let _ = history;
 }

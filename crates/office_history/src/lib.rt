@@ -10,7 +10,7 @@ mod sums;
 
 pub use laws::{
     admitted_is_legal, complete, legal_front, legal_keys, legal_length, legal_within,
-    older_outcome, repeated_filing, same_is_equal,
+    older_outcome, repeated_filing, same_is_equal, sound_is_worked_out,
 };
 pub use least::{
     first_found, first_term_found, least_code_found, least_term_found, least_term_over, one_least,

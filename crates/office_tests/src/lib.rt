@@ -1,6 +1,6 @@
 //! Tests of the office on the specimen book: an award year filed by two schools, worked payments and withdrawals, each rule
-//! from both sides, and the answers on plain lists of filings. Rule 90, a full office, isn't among them, since it takes
-//! 200,000 filings. This library has tests alone.
+//! from both sides, which of several terms a rule tells, and the answers on plain lists of filings. Rule 90, a full office,
+//! isn't among them, since it takes 200,000 filings. This library has tests alone.
 #![tactic(auto)]
 
 #[cfg(test)]
@@ -13,6 +13,8 @@ mod lists;
 mod office;
 #[cfg(test)]
 mod rules;
+#[cfg(test)]
+mod terms_over;
 #[cfg(test)]
 mod worked;
 #[cfg(test)]

@@ -1,4 +1,4 @@
-use Rattle.std.proofs.Common.{List, reverse, ◌++◌, ap, ◌∙◌, arith}
+use Rattle.std.proofs.Common.{List, reverse, ap, ◌∙◌, arith}
 use Rattle.std.proofs.lemmas.List.{reverse-append, length-reverse}
 use Rattle.aid_filings.specs.declared.filing.Filing.{Filing}
 use Rattle.office_history.specs.Answer.{outcome_at}

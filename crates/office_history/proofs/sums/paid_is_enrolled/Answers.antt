@@ -1,4 +1,3 @@
-use Rattle.std.proofs.Common.{reverse}
 use Rattle.office_history.proofs.Enrolled.{net_enrolled}
 use Rattle.office_history.proofs.sums.paid_is_enrolled.Goals as goal
 
