@@ -1,89 +1,156 @@
--- When all is done.
-use Rattle.std.proofs.Common.{◌≡◌, ◌≢◌, ◌⊎◌, inl, inr, ℕ, ◌≤◌, List, [], ◌∷◌, length, take, Result, Ok, Err, IsTrue, ap, refl, arith}
-use Rattle.std.specs.Prelude.{IfErr, slice_index}
+-- Why a command that can be done ends early: an edge failed, or there was no memory.
+use Rattle.std.proofs.Common.{◌≡◌, ◌⊎◌, inl, inr, ℕ, ◌≤◌, List, length, Result, Ok, Err, IsTrue, refl, arith}
+use Rattle.std.proofs.lemmas.Bool.{eq-eqb}
+use Rattle.std.specs.Prelude.{IfErr}
+use Rattle.aid_edges.specs.Faults.{Rose}
 use Rattle.disk_model.specs.Telling.{IsHonest}
 use Rattle.disk_model.specs.declared.disk.Disk.{Ghosts}
 use Rattle.filing_journal.specs.Head.{IsBorn}
 use Rattle.filing_journal.specs.Stands.{IsUnborn}
-use Rattle.filing_journal.specs.Header.{header_bytes}
-use Rattle.filing_journal.specs.declared.header.Header.{Header}
 use Rattle.filing_journal.specs.declared.opening.OpenError.{OpenError}
 use Rattle.filing_journal.specs.declared.opening.OpenError.TheVariants as opening
+use Rattle.filing_journal.proofs.Unique.{not_unborn}
 use Rattle.kept_list.specs.Faulty.{IsFaultyAt}
 use Rattle.kept_list.specs.Scheme.{Judging, Scheme}
 use Rattle.kept_list.specs.declared.kept.FoundFault.{FoundFault}
-use Rattle.kept_list.specs.declared.kept.FoundFault.TheVariants as founding
+use Rattle.kept_list.specs.declared.kept.FoundFault.TheVariants as fault_of
+use Rattle.kept_office.specs.Scheme.{office_scheme}
+use Rattle.kept_office.specs.Turns.{office_judging}
+use Rattle.desk_forms.specs.Lines.{fine_line}
+use Rattle.kept_session.specs.Checks.{Checks, LooksAt, Looks}
+use Rattle.kept_session.specs.Checks as looking
 use Rattle.kept_session.specs.Edges.{Input, Output}
-use Rattle.kept_session.specs.Sessions.{FoundSession, founded, unsaid, refused, IsNotFounded, IsUnopened, IsUnread, Opens, unopened, opened, Session, unread, read, is_disk_fault, ended_filing}
+use Rattle.kept_session.specs.Sessions.{FoundSession, founded, unsaid, refused, IsNotFounded, IsUnopened, IsUnread, Opens, unopened, opened, Session, unread, read, ended_filing}
 use Rattle.kept_session.specs.Texts.{Texts}
+use Rattle.kept_session.specs.declared.checking.CheckStop.{CheckStop}
+use Rattle.kept_session.specs.declared.checking.Tally.{Tally}
 use Rattle.kept_session.specs.declared.stop.FileStop.{FileStop}
-use Rattle.kept_session.specs.declared.stop.FileStop.TheVariants as filing
+use Rattle.kept_session.specs.declared.stop.FileStop.TheVariants as filing_stop
 use Rattle.kept_session.specs.declared.stop.FoundStop.{FoundStop}
-use Rattle.kept_session.specs.declared.stop.FoundStop.TheVariants.{Founding, Write as Unsaid}
+use Rattle.kept_session.specs.declared.stop.FoundStop.TheVariants.{Founding}
 use Rattle.kept_session.specs.declared.stop.ReadStop.{ReadStop}
 use Rattle.kept_session.specs.declared.stop.ReadStop.TheVariants as reading
-use Rattle.kept_session.specs.declared.stop.Stop.{Stop}
-use Rattle.kept_session.specs.declared.stop.Stop.TheVariants.{Reading, Opening, Filing}
-use Rattle.aid_office.specs.Statuses.{found_status, session_status, open_status, read_status}
+use Rattle.kept_session.specs.declared.stop.SessionStop.{SessionStop}
+use Rattle.office_words.specs.declared.command.Command.{Command}
+use Rattle.aid_office.specs.Asks.{book_rows, book_texts, desk_rows, desk_texts, quote_rows, quote_texts}
+use Rattle.aid_office.specs.Ran.{CanBeDone, ChecksBook, ChecksRows, Counts, HasCause, Does, founding, filing, booking, quoting, checking_rows, checking_book, Ends, well, told, untold, Tallies, tallied, unwritten, starved, stopped, from, up_to}
+use Rattle.aid_office.specs.Ran as run
+use Rattle.aid_office.specs.Statuses.{check_status, ended_check, ended_file, ended_found, found_status, open_status, read_status, status_of}
+use Rattle.aid_office.specs.declared.stop.RunStop.{RunStop}
+use Rattle.aid_office.proofs.Ending.{disk_cause, read_cause}
 
-first_is : (header : Header) (file : List ℕ) → 17 ≤ length file → take 16 file ≡ header_bytes header → slice_index file 0 ≡ 1
-first_is header [] long is = absurd (omega arith)
-first_is header (x ∷ file) long is = cc
+-- the statuses of a fault of an edge, and of want of memory
+abbrev pub IsExcused : ℕ → Type 0
+IsExcused status = (status ≡ 3) ⊎ ((status ≡ 4) ⊎ ((status ≡ 5) ⊎ (status ≡ 9)))
 
--- a born file isn't unborn
-pub born_unborn : (header : Header) (file : List ℕ) → IsBorn header file → IsUnborn file → ⊥
-born_unborn header file born (inl short) = omega (arith, born.long, short)
-born_unborn header file born (inr (long, other)) = other (first_is header file born.long born.starts)
+-- a founding in an unborn file
+not_founded_by : {D Entry : Type 0} (disk : Ghosts D) (scheme : Scheme Entry) (old new : D) (fault : FoundFault) → IsNotFounded disk scheme fault old new → IsHonest (disk.tells old)
+    → IsUnborn (disk.tells old).reads → IsExcused (found_status (Founding fault))
+not_founded_by disk scheme old new fault_of.Exists n honest unborn = absurd (not_unborn scheme.header (disk.tells old).reads (n.exists honest refl).0 unborn)
+not_founded_by disk scheme old new fault_of.NotJournal n honest unborn = absurd ((n.foreign honest refl).0.not_unborn unborn)
+not_founded_by disk scheme old new fault_of.DiskFault n honest unborn = inr (inr (inl refl))
+not_founded_by disk scheme old new fault_of.NoMemory n honest unborn = inr (inr (inr refl))
 
--- why a founding in an unborn file ends early where no count rose: for want of memory
-unfounded : {D Entry : Type 0} (disk : Ghosts D) (scheme : Scheme Entry) (old new : D) (fault : FoundFault) → IsNotFounded disk scheme fault old new → IsHonest (disk.tells old)
-    → IsUnborn (disk.tells old).reads → fault ≢ founding.DiskFault → found_status (Founding fault) ≡ 9
-unfounded disk scheme old new founding.Exists n honest unborn still = absurd (born_unborn scheme.header (disk.tells old).reads (n.exists honest refl).0 unborn)
-unfounded disk scheme old new founding.NotJournal n honest unborn still = absurd ((n.foreign honest refl).0.not_unborn unborn)
-unfounded disk scheme old new founding.DiskFault n honest unborn still = absurd (still refl)
-unfounded disk scheme old new founding.NoMemory n honest unborn still = refl
+founded_by : {D Entry : Type 0} (disk : Ghosts D) (scheme : Scheme Entry) (old new : D) (line : List ℕ) (output : Output) (ended : Result Unit FoundStop) → FoundSession disk scheme old new line output ended
+    → IsHonest (disk.tells old) → IsUnborn (disk.tells old).reads → IfErr (ended_found ended) (λ stop. IsExcused (status_of stop))
+founded_by disk scheme old new line output ended (founded is wrote) honest unborn = tt
+founded_by disk scheme old new line output ended (unsaid is wrote) honest unborn = inr (inl refl)
+founded_by disk scheme old new line output ended (refused fault n same) honest unborn = not_founded_by disk scheme old new fault n honest unborn
 
-pub founded_all : {D Entry : Type 0} (disk : Ghosts D) (scheme : Scheme Entry) (old new : D) (line : List ℕ) (output : Output) (ended : Result Unit FoundStop) → FoundSession disk scheme old new line output ended
-    → IsHonest (disk.tells old) → IsUnborn (disk.tells old).reads → ended ≢ Err (Founding founding.DiskFault) → ended ≢ Err Unsaid
-    → (ended ≡ Ok tt) ⊎ ((stop : FoundStop) × (ended ≡ Err stop) × (found_status stop ≡ 9))
-founded_all disk scheme old new line output ended (founded is wrote) honest unborn still wrote_all = inl refl
-founded_all disk scheme old new line output ended (unsaid is wrote) honest unborn still wrote_all = absurd (wrote_all refl)
-founded_all disk scheme old new line output ended (refused fault n same) honest unborn still wrote_all =
-    inr (Founding fault, refl, unfounded disk scheme old new fault n honest unborn (λ is. still (cc)))
+-- the reading of an input that isn't too long
+unread_by : (stop : ReadStop) (limit : ℕ) (input : Input) → IsUnread stop limit input → IsTrue input.honest → length input.before ≤ limit → IsExcused (read_status stop)
+unread_by reading.Read limit input is honest short = inl refl
+unread_by reading.TooLong limit input is honest short = absurd (omega (arith, is honest, short))
+unread_by reading.NoMemory limit input is honest short = inr (inr (inr refl))
 
--- why a session over a born file that isn't damaged ends early where no count rose: for want of memory
-unread_by : (stop : ReadStop) (limit : ℕ) (input : Input) → IsUnread stop limit input → IsTrue input.honest → length input.before ≤ limit → Reading stop ≢ Reading reading.Read → read_status stop ≡ 9
-unread_by reading.Read limit input is honest short still = absurd (still refl)
-unread_by reading.TooLong limit input is honest short still = absurd (omega (arith, is honest, short))
-unread_by reading.NoMemory limit input is honest short still = refl
+-- a session over a born file that isn't damaged
+module _ {D Entry : Type 0} (disk : Ghosts D) (scheme : Scheme Entry) (old new : D) (honest : IsHonest (disk.tells old)) (born : IsBorn scheme.header (disk.tells old).reads) (whole : (place : ℕ) → IsFaultyAt scheme (disk.tells old).reads place → ⊥) where
+  unopened_by : (error : OpenError) → IsUnopened disk scheme error old new → IsExcused (open_status error)
+  unopened_by opening.NoOffice u = absurd (not_unborn scheme.header (disk.tells old).reads born (u.unborn honest refl))
+  unopened_by opening.NotJournal u = absurd ((u.foreign honest refl).not_born born)
+  unopened_by (opening.Damaged place) u = absurd (whole place (u.damaged honest place refl).1)
+  unopened_by opening.DiskFault u = inr (inr (inl refl))
+  unopened_by opening.NoMemory u = inr (inr (inr refl))
 
-unopened_by : {D Entry : Type 0} (disk : Ghosts D) (scheme : Scheme Entry) (old new : D) (error : OpenError) → IsUnopened disk scheme error old new → IsHonest (disk.tells old)
-    → IsBorn scheme.header (disk.tells old).reads → ((place : ℕ) → IsFaultyAt scheme (disk.tells old).reads place → ⊥) → (IsTrue (is_disk_fault (Opening error)) → ⊥) → open_status error ≡ 9
-unopened_by disk scheme old new opening.NoOffice u honest born whole still = absurd (born_unborn scheme.header (disk.tells old).reads born (u.unborn honest refl))
-unopened_by disk scheme old new opening.NotJournal u honest born whole still = absurd ((u.foreign honest refl).not_born born)
-unopened_by disk scheme old new (opening.Damaged place) u honest born whole still = absurd (whole place (u.damaged honest place refl).1)
-unopened_by disk scheme old new opening.DiskFault u honest born whole still = absurd (still refl)
-unopened_by disk scheme old new opening.NoMemory u honest born whole still = refl
+  filed_by : (ended : Result Unit FileStop) → IfErr (ended_file (ended_filing ended)) (λ stop. IsExcused (status_of stop))
+  filed_by (Ok done) = tt
+  filed_by (Err filing_stop.Write) = inr (inl refl)
+  filed_by (Err (filing_stop.DiskFault undecided)) = inr (inr (inl refl))
+  filed_by (Err filing_stop.NoMemory) = inr (inr (inr refl))
 
--- what a session came to where no count rose
-abbrev pub IsDone : Result Unit Stop → Type 0
-IsDone ended = (ended ≡ Ok tt) ⊎ ((stop : Stop) × (ended ≡ Err stop) × (session_status stop ≡ 9))
+  module _ {Ask Verdict Error : Type 0} (judging : Judging Entry Ask Verdict) (texts : Texts Ask Verdict Error) (output : Output) where
+    opened_by : (left : List texts.Meaning) (ended : Result Unit SessionStop) → Opens disk scheme judging texts old new output left ended
+        → IfErr (ended_file ended) (λ stop. IsExcused (status_of stop))
+    opened_by left ended (unopened error u same) = unopened_by error u
+    opened_by left ended (opened past now at inner is takes) = filed_by inner
 
-by_file : (ended : Result Unit FileStop) → IfErr (ended_filing ended) (λ stop. IsTrue (is_disk_fault stop) → ⊥) → ended_filing ended ≢ Err (Filing filing.Write) → IsDone (ended_filing ended)
-by_file (Ok done) still wrote = inl refl
-by_file (Err filing.Write) still wrote = absurd (wrote refl)
-by_file (Err (filing.DiskFault undecided)) still wrote = absurd (still refl)
-by_file (Err filing.NoMemory) still wrote = inr (Filing filing.NoMemory, refl, refl)
+    session_by : (rows_of : List ℕ → List texts.Meaning) (limit : ℕ) (input : Input) (ended : Result Unit SessionStop) → Session disk scheme judging texts rows_of limit old new input output ended
+        → IsTrue input.honest → length input.before ≤ limit → IfErr (ended_file ended) (λ stop. IsExcused (status_of stop))
+    session_by rows_of limit input ended (unread stop is same silent) source short = unread_by stop limit input is source short
+    session_by rows_of limit input ended (read left inner is are opens) source short = opened_by left inner opens
 
-opens_all : {D Entry Ask Verdict Error : Type 0} (disk : Ghosts D) (scheme : Scheme Entry) (judging : Judging Entry Ask Verdict) (texts : Texts Ask Verdict Error) (old new : D) (output : Output) (rows : List (Result Ask Error)) (ended : Result Unit Stop)
-    → Opens disk scheme judging texts old new output rows ended → IsHonest (disk.tells old) → IsBorn scheme.header (disk.tells old).reads → ((place : ℕ) → IsFaultyAt scheme (disk.tells old).reads place → ⊥)
-    → IfErr ended (λ stop. IsTrue (is_disk_fault stop) → ⊥) → ended ≢ Err (Filing filing.Write) → IsDone ended
-opens_all disk scheme judging texts old new output rows ended (unopened error u same) honest born whole still wrote = inr (Opening error, refl, unopened_by disk scheme old new error u honest born whole still)
-opens_all disk scheme judging texts old new output rows ended (opened past at inner is files) honest born whole still wrote = by_file inner still wrote
+-- rows that are looked at
+looked_by : {Ask Verdict Error : Type 0} (texts : Texts Ask Verdict Error) (fine : ℕ → List ℕ) (output : Output) (rows : List (Result Ask Error)) (ended : Result Tally CheckStop)
+    → Looks texts fine output rows ended → IfErr ended (λ stop. IsExcused (check_status stop))
+looked_by texts fine output rows ended (looking.all _ tally wrote counts errors) = tt
+looked_by texts fine output rows ended (looking.unwritten front row wrote) = inr (inl refl)
+looked_by texts fine output rows ended (looking.starved front wrote) = inr (inr (inr refl))
 
-pub session_all : {D Entry Ask Verdict Error : Type 0} (disk : Ghosts D) (scheme : Scheme Entry) (judging : Judging Entry Ask Verdict) (texts : Texts Ask Verdict Error) (limit : ℕ) (old new : D) (input : Input) (output : Output) (ended : Result Unit Stop)
-    → Session disk scheme judging texts limit old new input output ended → IsTrue input.honest → length input.before ≤ limit → IsHonest (disk.tells old) → IsBorn scheme.header (disk.tells old).reads
-    → ((place : ℕ) → IsFaultyAt scheme (disk.tells old).reads place → ⊥) → IfErr ended (λ stop. IsTrue (is_disk_fault stop) → ⊥) → ended ≢ Err (Filing filing.Write) → ended ≢ Err (Reading reading.Read) → IsDone ended
-session_all disk scheme judging texts limit old new input output ended (unread stop is same unwritten) source short honest born whole still wrote had =
-    inr (Reading stop, refl, unread_by stop limit input is source short (λ (r : Reading stop ≡ Reading reading.Read). had (ap Err r)))
-session_all disk scheme judging texts limit old new input output ended (read rows inner is are opens) source short honest born whole still wrote had = opens_all disk scheme judging texts old new output rows ended opens honest born whole still wrote
+checked_by : {Ask Verdict Error : Type 0} (texts : Texts Ask Verdict Error) (rows_of : List ℕ → List texts.Meaning) (fine : ℕ → List ℕ) (limit : ℕ) (input : Input) (output : Output) (ended : Result Tally CheckStop)
+    → Checks texts rows_of fine limit input output ended → IsTrue input.honest → length input.before ≤ limit → IfErr ended (λ stop. IsExcused (check_status stop))
+checked_by texts rows_of fine limit input output ended (looking.unread stop is same) source short = unread_by stop limit input is source short
+checked_by texts rows_of fine limit input output ended (looking.read left inner is are looks) source short = looked_by texts fine output looks.rows inner looks.looks
+
+tallied_by : (output : Output) (checked : Result Tally CheckStop) (ended : Result Unit RunStop) → Tallies output checked ended
+    → IfErr checked (λ stop. IsExcused (check_status stop)) → IfErr ended (λ stop. IsExcused (status_of stop))
+tallied_by output checked ended (tallied tally wrote) by = tt
+tallied_by output checked ended (unwritten tally cut) by = inr (inl refl)
+tallied_by output checked ended (starved tally same) by = inr (inr (inr refl))
+tallied_by output checked ended (stopped stop same) by = by
+
+check_ended_by : (checked : Result Tally CheckStop) → IfErr checked (λ stop. IsExcused (check_status stop)) → IfErr (ended_check checked) (λ stop. IsExcused (status_of stop))
+check_ended_by (Ok tally) by = tt
+check_ended_by (Err stop) by = by
+
+rows_by : (input : Input) (output : Output) (ended : Result Unit RunStop) → ChecksRows input output ended → IsTrue input.honest → length input.before ≤ 16777216 → IfErr ended (λ stop. IsExcused (status_of stop))
+rows_by input output ended (run.looked_at text checked _ checks tallies) source short =
+    tallied_by (from text output) checked ended tallies (checked_by desk_texts desk_rows fine_line 16777216 input (up_to text output) checked checks source short)
+
+book_by : (input : Input) (output : Output) (ended : Result Unit RunStop) → ChecksBook input output ended → IsTrue input.honest → length input.before ≤ 16777216 → IfErr ended (λ stop. IsExcused (status_of stop))
+book_by input output ended (run.looked_at checked checks) source short = check_ended_by checked (checked_by book_texts (book_rows 1) fine_line 16777216 input output checked checks source short)
+
+-- a command that can be done
+done_by : {D : Type 0} (disk : Ghosts D) (old new : D) (input : Input) (output : Output) (command : Command) (ended : Result Unit RunStop) → Does disk old new input output command ended
+    → CanBeDone command input.honest (length input.before) (disk.tells old) → IfErr ended (λ stop. IsExcused (status_of stop))
+done_by disk old new input output command ended (founding inner session) can = founded_by disk office_scheme old new _ output inner session can.0 can.1
+done_by disk old new input output command ended (filing inner session) can =
+    session_by disk office_scheme old new can.1.0 can.1.1 can.1.2 office_judging desk_texts output desk_rows 16777216 input inner session can.0.0 can.0.1
+done_by disk old new input output command ended (booking book inner session) can =
+    session_by disk office_scheme old new can.1.0 can.1.1 can.1.2 office_judging book_texts output (book_rows book.number) 16777216 input inner session can.0.0 can.0.1
+done_by disk old new input output command ended (quoting quote inner opens) can =
+    opened_by disk office_scheme old new can.0 can.1 can.2 office_judging quote_texts output (quote_rows quote) inner opens
+done_by disk old new input output command ended (checking_rows _ same checks) can = rows_by input output ended checks can.0 can.1
+done_by disk old new input output command ended (checking_book _ same checks) can = book_by input output ended checks can.0 can.1
+
+ends_by : (output : Output) (ended : Result Unit RunStop) (status : ℕ) → Ends output ended status → IfErr ended (λ stop. IsExcused (status_of stop)) → (status ≡ 0) ⊎ IsExcused status
+ends_by output ended status (well same) by = inl refl
+ends_by output ended status (told stop wrote) by = inr by
+ends_by output ended status (untold stop cut) by = inr (inr (inl refl))
+
+unfailed : (status : ℕ) (A B C : Type 0) → (status ≡ 0) ⊎ IsExcused status → (status ≡ 3 → A) → (status ≡ 4 → B) → (status ≡ 5 → C) → (A → ⊥) → (B → ⊥) → (C → ⊥) → (status ≡ 0) ⊎ (status ≡ 9)
+unfailed status A B C (inl good) a b c no_a no_b no_c = inl good
+unfailed status A B C (inr (inl three)) a b c no_a no_b no_c = absurd (no_a (a three))
+unfailed status A B C (inr (inr (inl four))) a b c no_a no_b no_c = absurd (no_b (b four))
+unfailed status A B C (inr (inr (inr (inl five)))) a b c no_a no_b no_c = absurd (no_c (c five))
+unfailed status A B C (inr (inr (inr (inr nine)))) a b c no_a no_b no_c = inr nine
+
+-- where no edge failed, a command that can be done is done, or there was no memory
+pub complete : {D : Type 0} (disk : Ghosts D) (counts : Counts) (old new : D) (input : Input) (before behind : Output) (command : Command) (ended : Result Unit RunStop) (status : ℕ)
+    → Does disk old new input before command ended → HasCause counts ended status → Ends behind ended status → CanBeDone command input.honest (length input.before) (disk.tells old)
+    → (Rose counts.source.0 counts.source.1 → ⊥) → (Rose counts.sink.0 counts.sink.1 → ⊥) → (Rose counts.disk.0 counts.disk.1 → ⊥) → (status ≡ 0) ⊎ (status ≡ 9)
+complete disk counts old new input before behind command ended status does cause ends can =
+    unfailed status (Rose counts.source.0 counts.source.1) (Rose counts.sink.0 counts.sink.1) (Rose counts.disk.0 counts.disk.1)
+    (ends_by behind ended status ends (done_by disk old new input before command ended does can))
+    (λ three. cause.source.rose (read_cause behind ended status ends three))
+    (λ four. cause.sink.rose (eq-eqb status 4 four))
+    (λ five. cause.disk.rose (disk_cause behind ended status ends five))

@@ -1,92 +1,123 @@
--- How a run ends.
-use Rattle.std.proofs.Common.{◌≡◌, ◌⊎◌, inl, inr, ℕ, zero, suc, ◌<◌, ◌≤◌, Bool, IsTrue, List, ◌++◌, Result, Ok, Err, ap, subst, refl, sym, ◌∙◌, arith, append-nil}
-use Rattle.std.specs.Prelude.{IfErr, IsOk, ◌↔◌}
+-- How a run ends, and by which fault.
+use Rattle.std.proofs.Common.{◌≡◌, ◌⊎◌, inl, inr, ℕ, ◌≤◌, Bool, false, IsTrue, List, ◌++◌, Result, Ok, Err, ap, subst, refl, sym, ◌∙◌, arith, append-nil}
+use Rattle.std.specs.Prelude.{IfErr, IsOk, ◌↔◌, ◌==◌}
+use Rattle.std.proofs.lemmas.Bool.{eq-eqb, false≢true, true≢false}
 use Rattle.aid_edges.specs.Faults.{Rose}
 use Rattle.aid_edges.specs.Whole.{IsCutShort}
-use Rattle.kept_list.specs.declared.kept.FoundFault.TheVariants as founding
-use Rattle.kept_session.specs.Edges.{Output}
-use Rattle.kept_session.specs.declared.stop.FoundStop.{FoundStop}
-use Rattle.kept_session.specs.declared.stop.FoundStop.TheVariants.{Founding, Write as Unsaid}
-use Rattle.aid_office.specs.Ran.{Ends, told, untold}
-use Rattle.aid_office.specs.Statuses.{ended_file, ended_found, fault_line, found_status, session_status, status_of, FoundFaulted}
-use Rattle.kept_session.specs.declared.stop.Stop.{Stop as SessionStop}
-use Rattle.aid_office.specs.declared.stop.Stop.{Stop}
-use Rattle.aid_office.specs.declared.stop.Stop.TheVariants.{Found, File}
+use Rattle.filing_journal.specs.declared.opening.OpenError.TheVariants as opening
+use Rattle.kept_list.specs.declared.kept.FoundFault.TheVariants as fault_of
+use Rattle.kept_session.specs.Edges.{Input, Output}
+use Rattle.kept_session.specs.declared.checking.CheckStop.{CheckStop}
+use Rattle.kept_session.specs.declared.checking.CheckStop.TheVariants as checking
+use Rattle.kept_session.specs.declared.checking.Tally.{Tally}
+use Rattle.kept_session.specs.declared.stop.FileStop.TheVariants as filing
+use Rattle.kept_session.specs.declared.stop.FoundStop.TheVariants as founded
+use Rattle.kept_session.specs.declared.stop.ReadStop.TheVariants as reading
+use Rattle.kept_session.specs.declared.stop.SessionStop.TheVariants.{Reading, Opening, Filing}
+use Rattle.aid_office.specs.Ran.{ChecksRows, Ends, Moved, Tallies, tallied, unwritten, starved, stopped, told, untold, well, from}
+use Rattle.aid_office.specs.Ran as run
+use Rattle.aid_office.specs.Statuses.{fault_line, is_disk_fault, is_read_fault, is_write_fault, status_of}
+use Rattle.aid_office.specs.declared.stop.RunStop.{RunStop}
+use Rattle.aid_office.specs.declared.stop.RunStop.TheVariants.{Usage, Found, File, Check}
 
 -- what was written, by the status
-pub told_as : (output : Output) (stop : Stop) (status : ℕ) (line : List ℕ) → status ≡ status_of stop → line ≡ fault_line stop
+pub told_as : (output : Output) (stop : RunStop) (status : ℕ) (line : List ℕ) → status ≡ status_of stop → line ≡ fault_line stop
     → (IsTrue output.honest → output.after ≡ output.before ++ line) → Ends output (Err stop) status
 told_as output stop status line is same wrote =
     subst (λ (n : ℕ). Ends output (Err stop) n) (sym is)
     (told stop (λ honest. subst (λ (l : List ℕ). output.after ≡ output.before ++ l) same (wrote honest)))
 
-pub untold_as : (output : Output) (stop : Stop) (line : List ℕ) → line ≡ fault_line stop
+pub untold_as : (output : Output) (stop : RunStop) (line : List ℕ) → line ≡ fault_line stop
     → (IsTrue output.honest → IsCutShort line output.before output.after) → Ends output (Err stop) 4
 untold_as output stop line same wrote =
     untold stop (λ honest. subst (λ (l : List ℕ). IsCutShort (fault_line stop) l output.after) (sym (append-nil output.before))
     (subst (λ (l : List ℕ). IsCutShort l output.before output.after) same (wrote honest)))
 
 -- the same end, of the same sink
-pub ends_as : (h h' : Bool) (a b : List ℕ) (e e' : Result Unit Stop) (s : ℕ) → h' ≡ h → e' ≡ e
-    → Ends (record { honest = h'; before = a; after = b }) e' s → Ends (record { honest = h; before = a; after = b }) e s
-ends_as h h' a b e e' s same is ends =
-    subst (λ (x : Bool). Ends (record { honest = x; before = a; after = b }) e s) same
-    (subst (λ (x : Result Unit Stop). Ends (record { honest = h'; before = a; after = b }) x s) is ends)
-
--- a founding that the disk refused
-pub found_faulted : (ended : Result Unit FoundStop) (F : Type 0) → (ended ≡ Err (Founding founding.DiskFault) → F) → FoundFaulted ended → F
-found_faulted (Ok done) F is fault = absurd fault
-found_faulted (Err Unsaid) F is fault = absurd fault
-found_faulted (Err (Founding founding.Exists)) F is fault = absurd fault
-found_faulted (Err (Founding founding.NotJournal)) F is fault = absurd fault
-found_faulted (Err (Founding founding.NoMemory)) F is fault = absurd fault
-found_faulted (Err (Founding founding.DiskFault)) F is fault = is refl
-
-split : (m n : ℕ) → m ≤ n → (m ≡ n) ⊎ (m < n)
-split zero zero le = inl refl
-split zero (suc n) le = inr (omega arith)
-split (suc m) zero le = absurd (omega arith)
-split (suc m) (suc n) le = from (split m n (omega (arith, le)))
-  where
-    from : ((m ≡ n) ⊎ (m < n)) → (suc m ≡ suc n) ⊎ (suc m < suc n)
-    from (inl same) = inl (ap suc same)
-    from (inr less) = inr (omega (arith, less))
+pub ends_as : (h h' : Bool) (a b : List ℕ) (e : Result Unit RunStop) (s : ℕ) → h' ≡ h
+    → Ends (record { honest = h'; before = a; after = b }) e s → Ends (record { honest = h; before = a; after = b }) e s
+ends_as h h' a b e s same ends = subst (λ (x : Bool). Ends (record { honest = x; before = a; after = b }) e s) same ends
 
 -- a count that rose after a time
 pub rose_after : (a b c : ℕ) → a ≤ b → Rose b c → Rose a c
 rose_after a b c le (inl more) = inl (omega (arith, le, more))
 rose_after a b c le (inr last) = inr last
 
--- a count that rose before a time
-pub rose_before : (a b c : ℕ) → a ≤ b → b ≤ c → Rose a b → Rose a c
-rose_before a b c le later (inl more) = inl (omega (arith, later, more))
-rose_before a b c le later (inr last) = from (split b c later)
-  where
-    from : ((b ≡ c) ⊎ (b < c)) → Rose a c
-    from (inl same) = inr (sym same ∙ last)
-    from (inr less) = inl (omega (arith, le, less))
+-- ---- which fault a status shows
+-- each fault has its status, and each stop one that isn't 0
+pub record ShowsFault (stop : RunStop) : Type 0 where
+  pub read : is_read_fault (Err stop) ≡ (status_of stop == 3)
+  pub write : is_write_fault (Err stop) ≡ (status_of stop == 4)
+  pub disk : is_disk_fault (Err stop) ≡ (status_of stop == 5)
+  pub some : (status_of stop == 0) ≡ false
 
--- the status of a run that had all its memory, or hadn't
-pub status_from : (e : Result Unit Stop) (s : ℕ) (R : Type 0) → ((s ≡ 0) ↔ IsOk e) → IfErr e (λ stop. (s ≡ status_of stop) ⊎ ((s ≡ 4) × R)) → (R → ⊥)
-    → (e ≡ Ok tt) ⊎ ((stop : Stop) × (e ≡ Err stop) × (status_of stop ≡ 9)) → (s ≡ 0) ⊎ (s ≡ 9)
-status_from e s R good fault never (inl is) = inl (good.1 (subst (λ (x : Result Unit Stop). IsOk x) (sym is) refl))
-status_from e s R good fault never (inr (stop, is, nine)) = from (subst (λ (x : Result Unit Stop). IfErr x (λ stop. (s ≡ status_of stop) ⊎ ((s ≡ 4) × R))) is fault)
-  where
-    from : ((s ≡ status_of stop) ⊎ ((s ≡ 4) × R)) → (s ≡ 0) ⊎ (s ≡ 9)
-    from (inl same) = inr (same ∙ nine)
-    from (inr four) = absurd (never four.1)
+pub shown : (stop : RunStop) → ShowsFault stop
+shown Usage = record { read = refl; write = refl; disk = refl; some = refl }
+shown (Found (founded.Founding fault_of.Exists)) = record { read = refl; write = refl; disk = refl; some = refl }
+shown (Found (founded.Founding fault_of.NotJournal)) = record { read = refl; write = refl; disk = refl; some = refl }
+shown (Found (founded.Founding fault_of.DiskFault)) = record { read = refl; write = refl; disk = refl; some = refl }
+shown (Found (founded.Founding fault_of.NoMemory)) = record { read = refl; write = refl; disk = refl; some = refl }
+shown (Found founded.Write) = record { read = refl; write = refl; disk = refl; some = refl }
+shown (File (Reading reading.Read)) = record { read = refl; write = refl; disk = refl; some = refl }
+shown (File (Reading reading.TooLong)) = record { read = refl; write = refl; disk = refl; some = refl }
+shown (File (Reading reading.NoMemory)) = record { read = refl; write = refl; disk = refl; some = refl }
+shown (File (Opening opening.NoOffice)) = record { read = refl; write = refl; disk = refl; some = refl }
+shown (File (Opening opening.NotJournal)) = record { read = refl; write = refl; disk = refl; some = refl }
+shown (File (Opening (opening.Damaged place))) = record { read = refl; write = refl; disk = refl; some = refl }
+shown (File (Opening opening.DiskFault)) = record { read = refl; write = refl; disk = refl; some = refl }
+shown (File (Opening opening.NoMemory)) = record { read = refl; write = refl; disk = refl; some = refl }
+shown (File (Filing filing.Write)) = record { read = refl; write = refl; disk = refl; some = refl }
+shown (File (Filing (filing.DiskFault undecided))) = record { read = refl; write = refl; disk = refl; some = refl }
+shown (File (Filing filing.NoMemory)) = record { read = refl; write = refl; disk = refl; some = refl }
+shown (Check (checking.Reading reading.Read)) = record { read = refl; write = refl; disk = refl; some = refl }
+shown (Check (checking.Reading reading.TooLong)) = record { read = refl; write = refl; disk = refl; some = refl }
+shown (Check (checking.Reading reading.NoMemory)) = record { read = refl; write = refl; disk = refl; some = refl }
+shown (Check checking.Write) = record { read = refl; write = refl; disk = refl; some = refl }
+shown (Check checking.NoMemory) = record { read = refl; write = refl; disk = refl; some = refl }
 
-pub founded_end : (ended : Result Unit FoundStop) (e : Result Unit Stop) → e ≡ ended_found ended → (ended ≡ Ok tt) ⊎ ((stop : FoundStop) × (ended ≡ Err stop) × (found_status stop ≡ 9))
-    → (e ≡ Ok tt) ⊎ ((stop : Stop) × (e ≡ Err stop) × (status_of stop ≡ 9))
-founded_end ended e same (inl is) = inl (same ∙ ap ended_found is)
-founded_end ended e same (inr (stop, is, nine)) = inr (Found stop, same ∙ ap ended_found is, nine)
+-- what a status says of how the run ended
+module _ (output : Output) where
+  pub read_cause : (ended : Result Unit RunStop) (status : ℕ) → Ends output ended status → status ≡ 3 → IsTrue (is_read_fault ended)
+  read_cause ended status (well same) is = absurd (let bad : ⊥ = cc in bad)
+  read_cause ended status (told stop wrote) is = (shown stop).read ∙ eq-eqb (status_of stop) 3 is
+  read_cause ended status (untold stop cut) is = absurd (let bad : ⊥ = cc in bad)
 
-pub filed_end : (ended : Result Unit SessionStop) (e : Result Unit Stop) → e ≡ ended_file ended → (ended ≡ Ok tt) ⊎ ((stop : SessionStop) × (ended ≡ Err stop) × (session_status stop ≡ 9))
-    → (e ≡ Ok tt) ⊎ ((stop : Stop) × (e ≡ Err stop) × (status_of stop ≡ 9))
-filed_end ended e same (inl is) = inl (same ∙ ap ended_file is)
-filed_end ended e same (inr (stop, is, nine)) = inr (File stop, same ∙ ap ended_file is, nine)
+  pub disk_cause : (ended : Result Unit RunStop) (status : ℕ) → Ends output ended status → status ≡ 5 → IsTrue (is_disk_fault ended)
+  disk_cause ended status (well same) is = absurd (let bad : ⊥ = cc in bad)
+  disk_cause ended status (told stop wrote) is = (shown stop).disk ∙ eq-eqb (status_of stop) 5 is
+  disk_cause ended status (untold stop cut) is = absurd (let bad : ⊥ = cc in bad)
 
--- no stop of these, where none has what each of them would have
-pub err_not : {S : Type 0} (ended : Result Unit S) (P : S → Type 0) (F : Type 0) → (F → ⊥) → IfErr ended (λ stop. P stop → F) → IfErr ended (λ stop. P stop → ⊥)
-err_not (Ok done) P F never is = is
-err_not (Err stop) P F never is = λ p. never (is p)
+  -- 0 comes where all was done alone
+  pub done_at : (ended : Result Unit RunStop) (status : ℕ) → Ends output ended status → status ≡ 0 → ended ≡ Ok tt
+  done_at ended status (well same) is = refl
+  done_at ended status (told stop wrote) is = absurd (true≢false (sym (eq-eqb (status_of stop) 0 is) ∙ (shown stop).some))
+  done_at ended status (untold stop cut) is = absurd (let bad : ⊥ = cc in bad)
+
+-- a count that stood still
+pub stood : (failed : Bool) (a : ℕ) → failed ≡ false → Moved failed (a, a)
+stood failed a sound = record { rose = λ bad. absurd (false≢true (sym sound ∙ bad)); same = λ is. refl }
+
+-- rows that are looked at make no call on the disk
+tallies_disk : (output : Output) (checked : Result Tally CheckStop) (ended : Result Unit RunStop) → Tallies output checked ended → is_disk_fault ended ≡ false
+tallies_disk output checked ended (tallied tally wrote) = refl
+tallies_disk output checked ended (unwritten tally cut) = refl
+tallies_disk output checked ended (starved tally same) = refl
+tallies_disk output checked ended (stopped stop same) = refl
+
+pub rows_disk : (input : Input) (output : Output) (ended : Result Unit RunStop) → ChecksRows input output ended → is_disk_fault ended ≡ false
+rows_disk input output ended (run.looked_at text checked _ checks tallies) = tallies_disk (from text output) checked ended tallies
+
+-- the sink's count, over what a command writes and the last line
+pub sink_moved : (ended : Result Unit RunStop) (status a b c : ℕ) → a ≤ b → b ≤ c → Moved (is_write_fault ended) (a, b)
+    → ((status ≡ 0) ↔ IsOk ended) → (IsOk ended → c ≡ b)
+    → IfErr ended (λ stop. ((status ≡ status_of stop) × (c ≡ b)) ⊎ ((status ≡ 4) × Rose b c)) → Moved (status == 4) (a, c)
+sink_moved (Ok done) status a b c le later moved good unmoved fault =
+    subst (λ (n : ℕ). Moved (n == 4) (a, c)) (sym (good.1 refl))
+    (record { rose = λ bad. absurd (false≢true bad); same = λ is. unmoved refl ∙ moved.same refl })
+sink_moved (Err stop) status a b c le later moved good unmoved (inl (is, still)) =
+    record {
+      rose = λ four. subst (λ (n : ℕ). Rose a n) (sym still) (moved.rose ((shown stop).write ∙ ap (λ (n : ℕ). n == 4) (sym is) ∙ four));
+      same = λ other. still ∙ moved.same ((shown stop).write ∙ ap (λ (n : ℕ). n == 4) (sym is) ∙ other);
+    }
+sink_moved (Err stop) status a b c le later moved good unmoved (inr (is, rose)) =
+    record { rose = λ four. rose_after a b c le rose; same = λ other. absurd (true≢false (sym (eq-eqb status 4 is) ∙ other)) }

@@ -1,4 +1,3 @@
 pub mod Complete
-pub mod Counts
 pub mod Ending
-pub mod Usage
+pub mod Images

@@ -1,4 +1,4 @@
-pub mod Words
-pub mod DeskTexts
+pub mod Asks
 pub mod Statuses
 pub mod Ran
+pub mod Moments

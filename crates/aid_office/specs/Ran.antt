@@ -1,24 +1,31 @@
--- What a run of the program does, with a constructor for each of its rows of words.
-use Rattle.std.specs.Prelude.{◌≡◌, ℕ, IsTrue, List, [], codes, Result, Ok, Err, IfErr}
+-- What a run of the program does, by its command.
+use Rattle.std.specs.Prelude.{◌≡◌, ◌≢◌, ◌≤◌, ◌==◌, ℕ, Bool, true, false, IsTrue, List, [], codes, Result, Ok, Err}
+use Rattle.aid_edges.specs.Faults.{Rose}
+use Rattle.disk_model.specs.Telling.{IsHonest, Telling}
 use Rattle.disk_model.specs.declared.disk.Disk.{Ghosts}
-use Rattle.kept_office.specs.Scheme.{office_scheme}
+use Rattle.filing_journal.specs.Head.{IsBorn}
+use Rattle.filing_journal.specs.Stands.{IsUnborn}
+use Rattle.kept_office.specs.Faulty.{IsFaultyAt}
+use Rattle.kept_office.specs.Scheme.{office_header, office_scheme}
 use Rattle.kept_office.specs.Turns.{office_judging}
+use Rattle.kept_session.specs.Checks.{Checks}
 use Rattle.kept_session.specs.Edges.{Input, Output, HasWritten, HasWrittenShort}
-use Rattle.kept_session.specs.Sessions.{FoundSession, Session, is_disk_fault}
+use Rattle.kept_session.specs.Sessions.{FoundSession, Opens, Session}
+use Rattle.kept_session.specs.declared.checking.CheckStop.{CheckStop}
+use Rattle.kept_session.specs.declared.checking.CheckStop.TheVariants as checking
+use Rattle.kept_session.specs.declared.checking.Tally.{Tally}
 use Rattle.kept_session.specs.declared.stop.FoundStop.{FoundStop}
-use Rattle.kept_session.specs.declared.stop.Stop.{Stop as SessionStop}
-use Rattle.aid_office.specs.DeskTexts.{desk_texts}
-use Rattle.aid_office.specs.Statuses.{ended_file, ended_found, fault_line, status_of, FoundFaulted}
-use Rattle.aid_office.specs.Words.{IsFile, IsFound, IsRow}
-use Rattle.aid_office.specs.declared.stop.Stop.{Stop}
-use Rattle.aid_office.specs.declared.stop.Stop.TheVariants.{Usage}
-
--- The end of a run: nothing more where all was done. Otherwise the last line is that of the stop; or that line is cut
--- short, and the status is that of a failed write.
-pub data Ends (output : Output) : Result Unit Stop → ℕ → Type 0 where
-  well : output.after ≡ output.before → Ends output (Ok tt) 0
-  told : (stop : Stop) → HasWritten (fault_line stop) output → Ends output (Err stop) (status_of stop)
-  untold : (stop : Stop) → HasWrittenShort [] (fault_line stop) output → Ends output (Err stop) 4
+use Rattle.kept_session.specs.declared.stop.SessionStop.{SessionStop}
+use Rattle.desk_forms.specs.Lines.{fine_line, tally_line}
+use Rattle.office_words.specs.Words.{words_of}
+use Rattle.office_words.specs.declared.command.BookNumber.{BookNumber}
+use Rattle.office_words.specs.declared.command.Command.{Command}
+use Rattle.office_words.specs.declared.command.Command.TheVariants.{Found, File, Book, Quote, CheckRows, CheckBook}
+use Rattle.office_words.specs.declared.command.QuoteRequest.{QuoteRequest}
+use Rattle.aid_office.specs.Asks.{book_rows, book_texts, desk_rows, desk_texts, quote_rows, quote_texts}
+use Rattle.aid_office.specs.Statuses.{ended_check, ended_file, ended_found, fault_line, status_of, is_disk_fault, is_read_fault}
+use Rattle.aid_office.specs.declared.stop.RunStop.{RunStop}
+use Rattle.aid_office.specs.declared.stop.RunStop.TheVariants as stops
 
 -- the text of a run up to a state of it, and from there on
 abbrev pub up_to : List ℕ → Output → Output
@@ -27,18 +34,95 @@ up_to text output = record output { after = text }
 abbrev pub from : List ℕ → Output → Output
 from text output = record output { before = text }
 
--- A run with these words over a disk. `Faulted` says that the disk's count of faults rose in it.
-pub data Ran {D : Type 0} (disk : Ghosts D) (Faulted : Type 0) (words : List (List ℕ)) (old new : D) (input : Input) (output : Output) : ℕ → Type 0 where
-  -- the words are no row: nothing is read, and no call is made on the disk
-  no_row : (status : ℕ) → (IsRow words → ⊥) → new ≡ old → Ends output (Err Usage) status
-      → Ran disk Faulted words old new input output status
+-- What follows the lines of rows that were looked at: `rows N errors M`, where all of them were.
+pub data Tallies (output : Output) : Result Tally CheckStop → Result Unit RunStop → Type 0 where
+  tallied : (tally : Tally) → HasWritten (tally_line tally.rows tally.errors) output → Tallies output (Ok tally) (Ok tt)
+  unwritten : (tally : Tally) → HasWrittenShort [] (tally_line tally.rows tally.errors) output → Tallies output (Ok tally) (Err (stops.Check checking.Write))
+  starved : (tally : Tally) → output.after ≡ output.before → Tallies output (Ok tally) (Err (stops.Check checking.NoMemory))
+  stopped : (stop : CheckStop) → output.after ≡ output.before → Tallies output (Err stop) (Err (stops.Check stop))
+
+-- What is said of the rows of the input: a line for each, and then how many there are.
+pub data ChecksRows (input : Input) (output : Output) : Result Unit RunStop → Type 0 where
+  looked_at : (text : List ℕ) (checked : Result Tally CheckStop) (ended : Result Unit RunStop) → Checks desk_texts desk_rows fine_line 16777216 input (up_to text output) checked
+      → Tallies (from text output) checked ended → ChecksRows input output ended
+
+-- What is said of the text of the input as a book: one line.
+pub data ChecksBook (input : Input) (output : Output) : Result Unit RunStop → Type 0 where
+  looked_at : (checked : Result Tally CheckStop) → Checks book_texts (book_rows 1) fine_line 16777216 input output checked → ChecksBook input output (ended_check checked)
+
+-- What a command does, up to how it ends: to the disk, of the input, and with what it writes.
+pub data Does {D : Type 0} (disk : Ghosts D) (old new : D) (input : Input) (output : Output) : Command → Result Unit RunStop → Type 0 where
   -- `found`: an office is founded, and `founded` is written
-  founding : (text : List ℕ) (ended : Result Unit FoundStop) (status : ℕ) → IsFound words
-      → FoundSession disk office_scheme old new (codes "founded\n") (up_to text output) ended
-      → (FoundFaulted ended → Faulted) → Ends (from text output) (ended_found ended) status
-      → Ran disk Faulted words old new input output status
+  founding : (ended : Result Unit FoundStop) → FoundSession disk office_scheme old new (codes "founded\n") output ended
+      → Does disk old new input output Found (ended_found ended)
   -- `file`: the rows of the input are filed, and a line is written for each
-  filing : (text : List ℕ) (ended : Result Unit SessionStop) (status : ℕ) → IsFile words
-      → Session disk office_scheme office_judging desk_texts 16777216 old new input (up_to text output) ended
-      → IfErr ended (λ stop. IsTrue (is_disk_fault stop) → Faulted) → Ends (from text output) (ended_file ended) status
-      → Ran disk Faulted words old new input output status
+  filing : (ended : Result Unit SessionStop) → Session disk office_scheme office_judging desk_texts desk_rows 16777216 old new input output ended
+      → Does disk old new input output File (ended_file ended)
+  -- `book`: the text of the input is filed as one book
+  booking : (book : BookNumber) (ended : Result Unit SessionStop)
+      → Session disk office_scheme office_judging book_texts (book_rows book.number) 16777216 old new input output ended
+      → Does disk old new input output (Book book) (ended_file ended)
+  -- `quote`: the office is asked, and the quote is written
+  quoting : (quote : QuoteRequest) (ended : Result Unit SessionStop) → Opens disk office_scheme office_judging quote_texts old new output (quote_rows quote) ended
+      → Does disk old new input output (Quote quote) (ended_file ended)
+  -- `check rows` and `check book`: lines are written, and no call is made on the disk
+  checking_rows : (ended : Result Unit RunStop) → new ≡ old → ChecksRows input output ended → Does disk old new input output CheckRows ended
+  checking_book : (ended : Result Unit RunStop) → new ≡ old → ChecksBook input output ended → Does disk old new input output CheckBook ended
+
+-- The end of a run: nothing more where all was done. Otherwise the last line is that of the stop; or that line is cut
+-- short, and the status is that of a failed write.
+pub data Ends (output : Output) : Result Unit RunStop → ℕ → Type 0 where
+  well : output.after ≡ output.before → Ends output (Ok tt) 0
+  told : (stop : RunStop) → HasWritten (fault_line stop) output → Ends output (Err stop) (status_of stop)
+  untold : (stop : RunStop) → HasWrittenShort [] (fault_line stop) output → Ends output (Err stop) 4
+
+-- the counts of faults before and after: of the source, the sink and the disk
+pub record Counts : Type 0 where
+  pub source : ℕ × ℕ
+  pub sink : ℕ × ℕ
+  pub disk : ℕ × ℕ
+
+-- a count rose where this is so, and otherwise stood still
+pub record Moved (failed : Bool) (count : ℕ × ℕ) : Type 0 where
+  pub rose : IsTrue failed → Rose count.0 count.1
+  pub same : failed ≡ false → count.1 ≡ count.0
+
+-- Why a run ended as it did: the count of the source, or of the disk, rose exactly where it stopped by that; and the count of
+-- the sink exactly where the status is 4.
+pub record HasCause (counts : Counts) (ended : Result Unit RunStop) (status : ℕ) : Type 0 where
+  pub source : Moved (is_read_fault ended) counts.source
+  pub disk : Moved (is_disk_fault ended) counts.disk
+  pub sink : Moved (status == 4) counts.sink
+
+-- A run with these words over a disk.
+pub data Ran {D : Type 0} (disk : Ghosts D) (counts : Counts) (words : List (List ℕ)) (old new : D) (input : Input) (output : Output) : ℕ → Type 0 where
+  -- the words are no row: nothing is read, and no call is made on the disk
+  no_row : (status : ℕ) → ((command : Command) → words ≢ words_of command) → new ≡ old → input.after ≡ input.before
+      → HasCause counts (Err stops.Usage) status → Ends output (Err stops.Usage) status
+      → Ran disk counts words old new input output status
+  -- they are the row of a command
+  did : (command : Command) (text : List ℕ) (ended : Result Unit RunStop) (status : ℕ) → words ≡ words_of command
+      → Does disk old new input (up_to text output) command ended
+      → HasCause counts ended status → Ends (from text output) ended status
+      → Ran disk counts words old new input output status
+
+-- whether a command reads the input
+abbrev pub reads_input : Command → Bool
+reads_input Found = false
+reads_input (Quote quote) = false
+reads_input _ = true
+
+-- A command can be done: its input isn't too long, and the file is one for it. (`honest` and `length` are those of the source.)
+abbrev pub IsShort : Bool → ℕ → Type 0
+IsShort honest size = IsTrue honest × (size ≤ 16777216)
+
+abbrev pub IsOffice : Telling → Type 0
+IsOffice disk = IsHonest disk × IsBorn office_header disk.reads × ((place : ℕ) → IsFaultyAt disk.reads place → ⊥)
+
+abbrev pub CanBeDone : Command → Bool → ℕ → Telling → Type 0
+CanBeDone Found honest size disk = IsHonest disk × IsUnborn disk.reads
+CanBeDone File honest size disk = IsShort honest size × IsOffice disk
+CanBeDone (Book book) honest size disk = IsShort honest size × IsOffice disk
+CanBeDone (Quote quote) honest size disk = IsOffice disk
+CanBeDone CheckRows honest size disk = IsShort honest size
+CanBeDone CheckBook honest size disk = IsShort honest size

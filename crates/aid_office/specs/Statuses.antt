@@ -1,5 +1,5 @@
 -- The status of a run that stopped, and its last line. Own.
-use Rattle.std.specs.Prelude.{ℕ, List, [], ◌++◌, codes, decimal, Some, None, Result, Ok, Err}
+use Rattle.std.specs.Prelude.{ℕ, Bool, true, false, List, [], ◌++◌, codes, decimal, Some, None, Result, Ok, Err}
 use Rattle.kept_list.specs.declared.kept.FoundFault.TheVariants as founding
 use Rattle.filing_journal.specs.declared.opening.OpenError.{OpenError}
 use Rattle.filing_journal.specs.declared.opening.OpenError.TheVariants as opening
@@ -8,11 +8,14 @@ use Rattle.kept_session.specs.declared.stop.ReadStop.TheVariants as reading
 use Rattle.kept_session.specs.declared.stop.FileStop.{FileStop}
 use Rattle.kept_session.specs.declared.stop.FileStop.TheVariants as filing
 use Rattle.kept_session.specs.declared.stop.FoundStop.{FoundStop}
-use Rattle.kept_session.specs.declared.stop.FoundStop.TheVariants.{Founding, Write as Unsaid}
-use Rattle.kept_session.specs.declared.stop.Stop.{Stop as SessionStop}
-use Rattle.kept_session.specs.declared.stop.Stop.TheVariants.{Reading, Opening, Filing}
-use Rattle.aid_office.specs.declared.stop.Stop.{Stop}
-use Rattle.aid_office.specs.declared.stop.Stop.TheVariants.{Usage, Found, File}
+use Rattle.kept_session.specs.declared.stop.FoundStop.TheVariants as founded
+use Rattle.kept_session.specs.declared.stop.SessionStop.{SessionStop}
+use Rattle.kept_session.specs.declared.stop.SessionStop.TheVariants.{Reading, Opening, Filing}
+use Rattle.aid_office.specs.declared.stop.RunStop.{RunStop}
+use Rattle.aid_office.specs.declared.stop.RunStop.TheVariants.{Usage, Found, File, Check}
+use Rattle.kept_session.specs.declared.checking.Tally.{Tally}
+use Rattle.kept_session.specs.declared.checking.CheckStop.{CheckStop}
+use Rattle.kept_session.specs.declared.checking.CheckStop.TheVariants as checking
 
 -- the status of the program
 abbrev pub read_status : ReadStop → ℕ
@@ -38,16 +41,22 @@ session_status (Opening error) = open_status error
 session_status (Filing stop) = file_status stop
 
 abbrev pub found_status : FoundStop → ℕ
-found_status (Founding founding.Exists) = 6
-found_status (Founding founding.NotJournal) = 6
-found_status (Founding founding.DiskFault) = 5
-found_status (Founding founding.NoMemory) = 9
-found_status Unsaid = 4
+found_status (founded.Founding founding.Exists) = 6
+found_status (founded.Founding founding.NotJournal) = 6
+found_status (founded.Founding founding.DiskFault) = 5
+found_status (founded.Founding founding.NoMemory) = 9
+found_status founded.Write = 4
 
-abbrev pub status_of : Stop → ℕ
+abbrev pub check_status : CheckStop → ℕ
+check_status (checking.Reading stop) = read_status stop
+check_status checking.Write = 4
+check_status checking.NoMemory = 9
+
+abbrev pub status_of : RunStop → ℕ
 status_of Usage = 2
 status_of (Found stop) = found_status stop
 status_of (File stop) = session_status stop
+status_of (Check stop) = check_status stop
 
 -- its last line; there is none after a write that failed
 abbrev pub read_line : ReadStop → List ℕ
@@ -74,27 +83,53 @@ session_line (Opening error) = open_line error
 session_line (Filing stop) = file_line stop
 
 abbrev pub found_line : FoundStop → List ℕ
-found_line (Founding founding.Exists) = codes "fault office exists\n"
-found_line (Founding founding.NotJournal) = codes "fault not a journal\n"
-found_line (Founding founding.DiskFault) = codes "fault disk none\n"
-found_line (Founding founding.NoMemory) = codes "fault memory\n"
-found_line Unsaid = []
+found_line (founded.Founding founding.Exists) = codes "fault office exists\n"
+found_line (founded.Founding founding.NotJournal) = codes "fault not a journal\n"
+found_line (founded.Founding founding.DiskFault) = codes "fault disk none\n"
+found_line (founded.Founding founding.NoMemory) = codes "fault memory\n"
+found_line founded.Write = []
 
-abbrev pub fault_line : Stop → List ℕ
+abbrev pub check_line : CheckStop → List ℕ
+check_line (checking.Reading stop) = read_line stop
+check_line checking.Write = []
+check_line checking.NoMemory = codes "fault memory\n"
+
+abbrev pub fault_line : RunStop → List ℕ
 fault_line Usage = codes "fault usage\n"
 fault_line (Found stop) = found_line stop
 fault_line (File stop) = session_line stop
+fault_line (Check stop) = check_line stop
 
--- how a run ended, by how its founding or its session did
-abbrev pub ended_found : Result Unit FoundStop → Result Unit Stop
+-- how a run ended, by how its founding, its session or its check did
+abbrev pub ended_found : Result Unit FoundStop → Result Unit RunStop
 ended_found (Ok done) = Ok tt
 ended_found (Err stop) = Err (Found stop)
 
-abbrev pub ended_file : Result Unit SessionStop → Result Unit Stop
+abbrev pub ended_file : Result Unit SessionStop → Result Unit RunStop
 ended_file (Ok done) = Ok tt
 ended_file (Err stop) = Err (File stop)
 
--- a founding or a session ended since the disk refused a call
-abbrev pub FoundFaulted : Result Unit FoundStop → Type 0
-FoundFaulted (Err (Founding founding.DiskFault)) = Unit {0}
-FoundFaulted other = ⊥
+abbrev pub ended_check : Result Tally CheckStop → Result Unit RunStop
+ended_check (Ok tally) = Ok tt
+ended_check (Err stop) = Err (Check stop)
+
+-- ---- which edge stopped a run
+-- a read failed
+abbrev pub is_read_fault : Result Unit RunStop → Bool
+is_read_fault (Err (File (Reading reading.Read))) = true
+is_read_fault (Err (Check (checking.Reading reading.Read))) = true
+is_read_fault _ = false
+
+-- a write failed, of what comes before the last line
+abbrev pub is_write_fault : Result Unit RunStop → Bool
+is_write_fault (Err (Found founded.Write)) = true
+is_write_fault (Err (File (Filing filing.Write))) = true
+is_write_fault (Err (Check checking.Write)) = true
+is_write_fault _ = false
+
+-- the disk refused a call
+abbrev pub is_disk_fault : Result Unit RunStop → Bool
+is_disk_fault (Err (Found (founded.Founding founding.DiskFault))) = true
+is_disk_fault (Err (File (Opening opening.DiskFault))) = true
+is_disk_fault (Err (File (Filing (filing.DiskFault undecided)))) = true
+is_disk_fault _ = false

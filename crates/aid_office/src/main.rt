@@ -1,7 +1,10 @@
 //! The program of a federal student aid office: its words, its journal, what it reads and what it writes.
 #![tactic(auto)]
 
-mod forms;
+mod book;
+mod checks;
+mod desk;
+mod quote;
 mod run;
 mod stop;
 #[cfg(test)]
@@ -16,7 +19,7 @@ use std::fs::{File, OpenOptions, TryLockError};
 use std::io::ErrorKind;
 use std::process::ExitCode;
 use std::{env, io};
-use stop::Stop;
+use stop::RunStop;
 
 // The words after the program's name.
 fn words_of(rt: &HostRuntime) -> io::Result<Vec<String>> {
@@ -34,21 +37,36 @@ fn open(rt: &HostRuntime, path: &str) -> io::Result<File> {
         .open(rt, path)
 }
 
+// How the program is used.
+const USAGE: &str = "\
+usage: aid_office JOURNAL found
+       aid_office JOURNAL book NUMBER < BOOK.toml
+       aid_office JOURNAL file < ROWS.csv
+       aid_office JOURNAL quote SCHOOL STUDENT YEAR TERM
+       aid_office JOURNAL check rows < ROWS.csv
+       aid_office JOURNAL check book < BOOK.toml";
+
+// Says a sentence on standard error. Where that can't be written there is nobody to tell.
+fn say(rt: &HostRuntime, sentence: &str) {
+    let _ = eprintln!(rt; "{sentence}");
+}
+
 // Takes the file for this run alone, until it ends. Where another run holds it, standard error says so.
 fn hold(rt: &HostRuntime, file: &File) -> bool {
-    let told = match file.try_lock() {
-        Ok(()) => return true,
+    match file.try_lock() {
+        Ok(()) => true,
         Err(TryLockError::WouldBlock) => {
-            eprintln!(rt;
-                "another run holds the journal: start this one again when that one has ended"
-            )
+            say(
+                rt,
+                "another run holds the journal: start this one again when that one has ended",
+            );
+            false
         }
         Err(TryLockError::Error(error)) => {
-            eprintln!(rt; "the journal can't be held for this run alone: {error}")
+            let _ = eprintln!(rt; "the journal can't be held for this run alone: {error}");
+            false
         }
-    };
-    let _ = told;
-    false
+    }
 }
 
 // Makes sure that the folder has the new file, where the system can say so.
@@ -77,27 +95,37 @@ fn main(rt: HostRuntime) -> ExitCode {
     let mut words = match words_of(&rt) {
         Ok(words) => words,
         Err(error) if error.kind() == ErrorKind::OutOfMemory => {
-            return ExitCode::from(end(Err(Stop::File(ReadStop::NoMemory.into())), &mut out));
+            let stop = RunStop::File(ReadStop::NoMemory.into());
+            return ExitCode::from(end(Err(stop), &mut out));
         }
         // A word that is no text is no row of words.
-        Err(_) => return ExitCode::from(end(Err(Stop::Usage), &mut out)),
+        Err(_) => return ExitCode::from(end(Err(RunStop::Usage), &mut out)),
     };
     if words.is_empty() {
-        return ExitCode::from(Stop::Usage.status());
+        say(&rt, USAGE);
+        return ExitCode::from(RunStop::Usage.status());
     }
     let path = words.remove(0);
-    let disk_fault = ExitCode::from(Stop::File(OpenError::DiskFault.into()).status());
-    let Ok(file) = open(&rt, path.as_str()) else {
-        return disk_fault;
+    let disk_fault = ExitCode::from(RunStop::File(OpenError::DiskFault.into()).status());
+    let file = match open(&rt, path.as_str()) {
+        Ok(file) => file,
+        Err(error) => {
+            let _ = eprintln!(rt; "the journal can't be opened: {error}");
+            return disk_fault;
+        }
     };
     if !hold(&rt, &file) {
         return disk_fault;
     }
     if is_found(&words) && keep_in_folder(&rt, path.as_str()).is_err() {
+        say(&rt, "the journal's folder can't be written for good");
         return disk_fault;
     }
     let mut input = ReadEdge::new(rt.stdin());
     let disk = HostDisk::new(file);
     let (status, _) = run(rt.alloc(), &words, disk, &mut input, &mut out);
+    if status == RunStop::Usage.status() {
+        say(&rt, USAGE);
+    }
     ExitCode::from(status)
 }

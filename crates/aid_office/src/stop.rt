@@ -2,12 +2,17 @@
 ghost use Rattle.std.specs.Prelude.{◌≡◌, ◌+◌, ◌≤◌, ◌++◌, codes, decimal, length};
 ghost use Rattle.arrayvec.specs.ArrayString.{array_string_len};
 ghost use Rattle.aid_office.specs.Statuses.{
+  check_line as check_line_of,
+  check_status as check_status_of,
+  ended_check,
   ended_file,
   ended_found,
   file_line as file_line_of,
   found_line as found_line_of,
   found_status as found_status_of,
   open_line as open_line_of,
+  read_line as read_line_of,
+  read_status as read_status_of,
   session_line as session_line_of,
   session_status as session_status_of,
 };
@@ -15,20 +20,22 @@ ghost use Rattle.aid_office.specs.Statuses.{
 use arrayvec::ArrayString;
 use itoa::Buffer;
 use kept_office::{FoundFault, OpenError};
-use kept_session::{FileStop, FoundStop, ReadStop};
+use kept_session::{CheckStop, FileStop, FoundStop, ReadStop, SessionStop, Tally};
 
 /// Why a run ends before its input is answered.
 #[derive(Clone, Copy, PartialEq, Eq, Debug)]
-pub enum Stop {
+pub enum RunStop {
     /// The words are no row of the program's.
     Usage,
     /// A founding ended early.
     Found(FoundStop),
     /// A session ended early.
-    File(kept_session::Stop),
+    File(SessionStop),
+    /// A check ended early.
+    Check(CheckStop),
 }
 
-impl Stop {
+impl RunStop {
     ghost use Rattle.aid_office.specs.Statuses.{fault_line, status_of};
 
     /// The status of the program.
@@ -36,9 +43,10 @@ impl Stop {
         ensures { result ≡ status_of self }
     {
         match self {
-            Stop::Usage => 2,
-            Stop::Found(stop) => found_status(stop),
-            Stop::File(stop) => session_status(stop),
+            RunStop::Usage => 2,
+            RunStop::Found(stop) => found_status(stop),
+            RunStop::File(stop) => session_status(stop),
+            RunStop::Check(stop) => check_status(stop),
         }
     }
 
@@ -47,30 +55,41 @@ impl Stop {
         ensures { result.bytes ≡ fault_line self }
     {
         match self {
-            Stop::Usage => text_line("fault usage\n"),
-            Stop::Found(stop) => found_line(stop),
-            Stop::File(stop) => session_line(stop),
+            RunStop::Usage => text_line("fault usage\n"),
+            RunStop::Found(stop) => found_line(stop),
+            RunStop::File(stop) => session_line(stop),
+            RunStop::Check(stop) => check_line(stop),
         }
     }
 }
 
 /// How a run ended, by how its founding did.
-pub fn ended_founding(ended: Result<(), FoundStop>) -> Result<(), Stop>
+pub fn ended_founding(ended: Result<(), FoundStop>) -> Result<(), RunStop>
     ensures { result ≡ ended_found ended }
 {
     match ended {
         Ok(()) => Ok(()),
-        Err(stop) => Err(Stop::Found(stop)),
+        Err(stop) => Err(RunStop::Found(stop)),
+    }
+}
+
+/// How a run ended, by how its check did.
+pub fn ended_checking(ended: Result<Tally, CheckStop>) -> Result<(), RunStop>
+    ensures { result ≡ ended_check ended }
+{
+    match ended {
+        Ok(_) => Ok(()),
+        Err(stop) => Err(RunStop::Check(stop)),
     }
 }
 
 /// How a run ended, by how its session did.
-pub fn ended_filing(ended: Result<(), kept_session::Stop>) -> Result<(), Stop>
+pub fn ended_filing(ended: Result<(), SessionStop>) -> Result<(), RunStop>
     ensures { result ≡ ended_file ended }
 {
     match ended {
         Ok(()) => Ok(()),
-        Err(stop) => Err(Stop::File(stop)),
+        Err(stop) => Err(RunStop::File(stop)),
     }
 }
 
@@ -86,21 +105,41 @@ fn found_status(stop: FoundStop) -> u8
     }
 }
 
+// The status where the input wasn't read.
+fn read_status(stop: ReadStop) -> u8
+    ensures { result ≡ read_status_of stop }
+{
+    match stop {
+        ReadStop::Read => 3,
+        ReadStop::TooLong => 8,
+        ReadStop::NoMemory => 9,
+    }
+}
+
+// The status of a check that ended early.
+fn check_status(stop: CheckStop) -> u8
+    ensures { result ≡ check_status_of stop }
+{
+    match stop {
+        CheckStop::Reading(stop) => read_status(stop),
+        CheckStop::Write => 4,
+        CheckStop::NoMemory => 9,
+    }
+}
+
 // The status of a session that ended early.
-fn session_status(stop: kept_session::Stop) -> u8
+fn session_status(stop: SessionStop) -> u8
     ensures { result ≡ session_status_of stop }
 {
     match stop {
-        kept_session::Stop::Reading(ReadStop::Read) => 3,
-        kept_session::Stop::Reading(ReadStop::TooLong) => 8,
-        kept_session::Stop::Reading(ReadStop::NoMemory) => 9,
-        kept_session::Stop::Opening(OpenError::NoOffice | OpenError::NotJournal) => 6,
-        kept_session::Stop::Opening(OpenError::Damaged(_)) => 7,
-        kept_session::Stop::Opening(OpenError::DiskFault) => 5,
-        kept_session::Stop::Opening(OpenError::NoMemory) => 9,
-        kept_session::Stop::Filing(FileStop::Write) => 4,
-        kept_session::Stop::Filing(FileStop::DiskFault { .. }) => 5,
-        kept_session::Stop::Filing(FileStop::NoMemory) => 9,
+        SessionStop::Reading(stop) => read_status(stop),
+        SessionStop::Opening(OpenError::NoOffice | OpenError::NotJournal) => 6,
+        SessionStop::Opening(OpenError::Damaged(_)) => 7,
+        SessionStop::Opening(OpenError::DiskFault) => 5,
+        SessionStop::Opening(OpenError::NoMemory) => 9,
+        SessionStop::Filing(FileStop::Write) => 4,
+        SessionStop::Filing(FileStop::DiskFault { .. }) => 5,
+        SessionStop::Filing(FileStop::NoMemory) => 9,
     }
 }
 
@@ -117,18 +156,36 @@ fn found_line(stop: FoundStop) -> ArrayString<40>
     }
 }
 
+// The last line where the input wasn't read.
+fn read_line(stop: ReadStop) -> ArrayString<40>
+    ensures { result.bytes ≡ read_line_of stop }
+{
+    match stop {
+        ReadStop::Read => text_line("fault read\n"),
+        ReadStop::TooLong => text_line("fault too long\n"),
+        ReadStop::NoMemory => text_line("fault memory\n"),
+    }
+}
+
+// The last line after a check that ended early.
+fn check_line(stop: CheckStop) -> ArrayString<40>
+    ensures { result.bytes ≡ check_line_of stop }
+{
+    match stop {
+        CheckStop::Reading(stop) => read_line(stop),
+        CheckStop::Write => text_line(""),
+        CheckStop::NoMemory => text_line("fault memory\n"),
+    }
+}
+
 // The last line after a session that ended early.
-fn session_line(stop: kept_session::Stop) -> ArrayString<40>
+fn session_line(stop: SessionStop) -> ArrayString<40>
     ensures { result.bytes ≡ session_line_of stop }
 {
     match stop {
-        kept_session::Stop::Reading(stop) => text_line(match stop {
-            ReadStop::Read => "fault read\n",
-            ReadStop::TooLong => "fault too long\n",
-            ReadStop::NoMemory => "fault memory\n",
-        }),
-        kept_session::Stop::Opening(error) => open_line(error),
-        kept_session::Stop::Filing(stop) => file_line(stop),
+        SessionStop::Reading(stop) => read_line(stop),
+        SessionStop::Opening(error) => open_line(error),
+        SessionStop::Filing(stop) => file_line(stop),
     }
 }
 

@@ -35,15 +35,18 @@ fn disk(
     Ok(MemoryDisk::new(alloc, bytes.to_vec(alloc)?, failing.to_vec(alloc)?, stop)?)
 }
 
-// What a run of one word gives: its status, its text and its disk.
+// What a run with a line of words gives: its status, its text and its disk.
 fn ran(
     alloc: Global,
-    word: &str,
+    line: &str,
     input: &[u8],
     disk: MemoryDisk,
     failing: &[u64],
 ) -> Result<(u8, MemorySink, MemoryDisk), Fail> {
-    let words = vec![in alloc; String::from_str(alloc, word)?]?;
+    let mut words = Vec::new(alloc);
+    for word in line.split(' ') {
+        words.push(String::from_str(alloc, word)?)?;
+    }
     let mut source = SteadySource::new(input.to_vec(alloc)?);
     let mut sink = MemorySink::new(alloc, failing.to_vec(alloc)?);
     let (status, disk) = run(alloc, &words, disk, &mut source, &mut sink);
@@ -54,7 +57,7 @@ fn ran(
 #[test]
 fn runs_follow_each_other(rt: HostRuntime) -> Result<(), Fail> {
     let alloc = rt.alloc();
-    let rows: [(&str, &[u8], u8, &[u8], usize); 11] = [
+    let rows: [(&str, &[u8], u8, &[u8], usize); 14] = [
         ("file", FIRST, 6, b"fault no office\n", 0),
         ("found", b"", 0, b"founded\n", 17),
         ("file", FIRST, 0, ACCEPTED, 71),
@@ -70,18 +73,51 @@ fn runs_follow_each_other(rt: HostRuntime) -> Result<(), Fail> {
         ("file", REFUSED, 0, REFUSALS, 71),
         ("file", b"prior,0,x,5001,1", 0, b"1 error 3 3\n", 71),
         ("file", b"loan,0,9", 0, b"1 error 1 1\n", 71),
+        ("book 1", b"", 0, b"1 book 2 1\n", 71),
         ("quote", b"", 2, b"fault usage\n", 71),
+        ("quote 110 5001 2025 1", b"", 0, b"quote 0\n", 71),
+        (
+            "check rows",
+            b"prior,0,2,5001,1",
+            0,
+            b"1 fine\nrows 1 errors 0\n",
+            71,
+        ),
         ("found", b"", 6, b"fault office exists\n", 71),
     ];
     let mut kept = disk(alloc, &[], &[], None)?;
-    for (word, input, want, text, size) in rows {
-        let (status, sink, next) = ran(alloc, word, input, kept, &[])?;
-        assert_eq!(rt; status, want, "{word}");
-        assert_eq!(rt; sink.text(), text, "{word}");
-        assert_eq!(rt; next.image().len(), size, "{word}");
+    for (line, input, want, text, size) in rows {
+        let (status, sink, next) = ran(alloc, line, input, kept, &[])?;
+        assert_eq!(rt; status, want, "{line}");
+        assert_eq!(rt; sink.text(), text, "{line}");
+        assert_eq!(rt; next.image().len(), size, "{line}");
         kept = next;
     }
     assert_eq!(rt; kept.image(), BOTH);
+    Ok(())
+}
+
+const CHECKED: &[u8] =
+    b"pay,110,6,5001,2025,1,pell,1145\ncalendar,110,1,2025,1,0,2025-02-30,2025-12-12,0\ncalendar,110,1,2025,1,0,2025-08-25,2025-12-12,1\nschool,0,1,110,4,12\nprior,0,02,5001,1\nprior,0,2,5001,1\n";
+
+const CHECKS: &[u8] =
+    b"1 error 8 3\n2 error 7 4\n3 error 0 2\n4 error 5 4\n5 error 3 3\n6 fine\nrows 6 errors 5\n";
+
+// A check needs no office, and makes none.
+#[test]
+fn inputs_are_checked(rt: HostRuntime) -> Result<(), Fail> {
+    let alloc = rt.alloc();
+    let rows: [(&str, &[u8], &[u8]); 3] = [
+        ("check rows", CHECKED, CHECKS),
+        ("check rows", b"", b"rows 0 errors 0\n"),
+        ("check book", b"", b"1 book 2 1\n"),
+    ];
+    for (line, input, text) in rows {
+        let (status, sink, after) = ran(alloc, line, input, disk(alloc, &[], &[], None)?, &[])?;
+        assert_eq!(rt; status, 0, "{line}");
+        assert_eq!(rt; sink.text(), text, "{line}");
+        assert_eq!(rt; after.image().len(), 0, "{line}");
+    }
     Ok(())
 }
 
@@ -163,23 +199,25 @@ fn a_stop_loses_nothing(rt: HostRuntime) -> Result<(), Fail> {
 #[test]
 fn write_faults_end_a_run(rt: HostRuntime) -> Result<(), Fail> {
     let alloc = rt.alloc();
-    let rows: [(&str, &[u8], u64, &[u8], usize); 4] = [
+    let rows: [(&str, &[u8], u64, &[u8], usize); 6] = [
+        ("check rows", EMPTY, 3, b"1 fine\n2 fine\n", 17),
+        ("check book", EMPTY, 1, b"", 17),
         ("file", EMPTY, 1, b"", 41),
         ("file", EMPTY, 2, b"1 0 accepted 1 noted\n", 71),
         ("found", b"", 1, b"", 17),
         ("none", b"", 1, b"", 0),
     ];
-    for (word, bytes, call, text, size) in rows {
+    for (line, bytes, call, text, size) in rows {
         let (status, sink, after) = ran(
             alloc,
-            word,
+            line,
             FIRST,
             disk(alloc, bytes, &[], None)?,
             &[call],
         )?;
-        assert_eq!(rt; status, 4, "{word} {call}");
-        assert_eq!(rt; sink.text(), text, "{word} {call}");
-        assert_eq!(rt; after.image().len(), size, "{word} {call}");
+        assert_eq!(rt; status, 4, "{line} {call}");
+        assert_eq!(rt; sink.text(), text, "{line} {call}");
+        assert_eq!(rt; after.image().len(), size, "{line} {call}");
     }
     Ok(())
 }

@@ -1,67 +1,88 @@
-use Rattle.std.proofs.Common.{◌∙◌, Global, IsTrue, ap, map, refl, string_bytes, sym}
+use Rattle.std.proofs.Common.{◌≡◌, ◌∙◌, ap, arith, Global, length, map, refl, string_bytes, subst, sym, Err}
+use Rattle.disk_model.specs.Telling.{EachImage, EachMoment}
 use Rattle.office_history.proofs.LegalWithin.{legal_within}
-use Rattle.aid_office.specs.Ran.{no_row, founding, filing}
-use Rattle.kept_office.specs.Scheme.{office_scheme}
-use Rattle.kept_office.specs.Turns.{office_judging}
-use Rattle.kept_session.specs.Sessions.{is_disk_fault}
-use Rattle.aid_office.specs.DeskTexts.{desk_texts}
-use Rattle.aid_edges.specs.Faults.{Rose}
-use Rattle.aid_office.proofs.Complete.{founded_all, session_all}
-use Rattle.aid_office.proofs.Ending.{ends_as, err_not, filed_end, found_faulted, founded_end, rose_after, rose_before, status_from}
-use Rattle.aid_office.proofs.Usage.{unnamed}
+use Rattle.office_words.specs.declared.command.Command.{Command}
+use Rattle.aid_office.specs.Moments.{MayRecover, MustRecover}
+use Rattle.aid_office.specs.Ran.{CanBeDone, no_row, did}
+use Rattle.aid_office.specs.declared.stop.RunStop.TheVariants as stops
+use Rattle.aid_office.proofs.Complete.{complete}
+use Rattle.aid_office.proofs.Ending.{done_at, ends_as, sink_moved, stood}
+use Rattle.aid_office.proofs.Images.{moments, stands}
 use Rattle.aid_office.proofs.run.run.Goals as goal
 
-pub returns-then-are_word-clause-ran : goal.returns-then-are_word-clause-ran
-returns-then-are_word-clause-ran g c =
-    founding (g.K.Sink.text c.found-ended.new.out) c.found-ended.result.0 c.end.result
-    (sym (ap (map (string_bytes {Z = Global})) c.deref.ensures.value) ∙ c.are_word.ensures.0 c.if-are_word.true)
-    c.found-ended.ensures.session (found_faulted c.found-ended.result.0 _ c.found-ended.ensures.disk_fault)
-    (ends_as _ _ _ _ _ _ _ c.found-ended.ensures.sink_honest c.ended_founding.ensures c.end.ensures.ends)
+pub returns-in-Some-clause-ran : goal.returns-in-Some-clause-ran
+returns-in-Some-clause-ran g c =
+    let done = c.do_command-ended in
+    did c.in-Some.command (g.K.Sink.text done.new.out) done.result.0 c.end.result
+    (sym (ap (map (string_bytes {Z = Global})) c.deref.ensures.value) ∙ c.in-Some.ensures.words)
+    done.ensures.does
+    (record {
+      source = done.ensures.source;
+      disk = done.ensures.disk;
+      sink = sink_moved done.result.0 c.end.result (g.K.Sink.faults c.args.out.now) (g.K.Sink.faults done.new.out) (g.K.Sink.faults c.end.new.out) done.ensures.sink_later c.end.ensures.later done.ensures.sink c.end.ensures.well (λ well. ap g.K.Sink.faults (c.end.ensures.unmoved well)) c.end.ensures.status;
+    })
+    (ends_as (g.K.Sink.honest c.args.out.now) (g.K.Sink.honest done.new.out) (g.K.Sink.text done.new.out) (g.K.Sink.text c.end.new.out) done.result.0 c.end.result done.ensures.sink_honest c.end.ensures.ends)
 
-pub returns-then-are_word-clause-within : goal.returns-then-are_word-clause-within
-returns-then-are_word-clause-within g c file history is = legal_within history is.legal
+pub returns-in-Some-clause-moments : goal.returns-in-Some-clause-moments
+returns-in-Some-clause-moments g c command past words honest sincere each =
+    let done = c.do_command-ended in
+    let is = c.in-Some.ensures.only command (ap (map (string_bytes {Z = Global})) c.deref.ensures.value ∙ words) in
+    let same : c.in-Some.command ≡ command = cc in
+    subst (λ (k : Command). EachMoment (g.D.Disk.tells c.args.disk) (g.D.Disk.tells done.result.1) (MayRecover k (g.S.Source.left c.args.input.now) past)) same
+    (moments g.D.Disk g.met.D.Disk.only_now g.met.D.Disk.reads_as_image c.args.disk done.result.1
+    (record { honest = g.S.Source.honest c.args.input.now; before = g.S.Source.left c.args.input.now; after = g.S.Source.left done.new.input })
+    (record { honest = g.K.Sink.honest c.args.out.now; before = g.K.Sink.text c.args.out.now; after = g.K.Sink.text done.new.out })
+    c.in-Some.command done.result.0 past done.ensures.does honest sincere each)
 
-pub returns-then-are_word-2-clause-ran : goal.returns-then-are_word-2-clause-ran
-returns-then-are_word-2-clause-ran g c =
-    filing (g.K.Sink.text c.file-ended.new.out) c.file-ended.result.0 c.end-then-are_word-2.result
-    (sym (ap (map (string_bytes {Z = Global})) c.deref-else-are_word.ensures.value) ∙ c.are_word-else-are_word.ensures.0 c.if-are_word-2.true)
-    c.file-ended.ensures.session c.file-ended.ensures.disk_fault
-    (ends_as _ _ _ _ _ _ _ c.file-ended.ensures.sink_honest c.ended_filing.ensures c.end-then-are_word-2.ensures.ends)
+pub returns-in-Some-clause-stands : goal.returns-in-Some-clause-stands
+returns-in-Some-clause-stands g c command past words well honest sincere each =
+    let done = c.do_command-ended in
+    let is = c.in-Some.ensures.only command (ap (map (string_bytes {Z = Global})) c.deref.ensures.value ∙ words) in
+    let same : c.in-Some.command ≡ command = cc in
+    subst (λ (k : Command). EachImage (g.D.Disk.tells done.result.1) (MustRecover k (g.S.Source.left c.args.input.now) past)) same
+    (stands g.D.Disk g.met.D.Disk.only_now g.met.D.Disk.reads_as_image c.args.disk done.result.1
+    (record { honest = g.S.Source.honest c.args.input.now; before = g.S.Source.left c.args.input.now; after = g.S.Source.left done.new.input })
+    (record { honest = g.K.Sink.honest c.args.out.now; before = g.K.Sink.text c.args.out.now; after = g.K.Sink.text done.new.out })
+    c.in-Some.command done.result.0 past done.ensures.does
+    (done_at (record { honest = g.K.Sink.honest done.new.out; before = g.K.Sink.text done.new.out; after = g.K.Sink.text c.end.new.out }) done.result.0 c.end.result c.end.ensures.ends well) honest sincere each)
 
-pub returns-then-are_word-2-clause-within : goal.returns-then-are_word-2-clause-within
-returns-then-are_word-2-clause-within g c file history is = legal_within history is.legal
+pub returns-in-Some-clause-within : goal.returns-in-Some-clause-within
+returns-in-Some-clause-within g c file history is = legal_within history is.legal
 
-pub returns-else-are_word-2-clause-within : goal.returns-else-are_word-2-clause-within
-returns-else-are_word-2-clause-within g c file history is = legal_within history is.legal
+pub returns-in-Some-clause-complete : goal.returns-in-Some-clause-complete
+returns-in-Some-clause-complete g c command words can no_source no_sink no_disk =
+    let done = c.do_command-ended in
+    let is = c.in-Some.ensures.only command (ap (map (string_bytes {Z = Global})) c.deref.ensures.value ∙ words) in
+    let same : command ≡ c.in-Some.command = cc in
+    complete g.D.Disk
+    (record {
+      source = (g.S.Source.faults c.args.input.now, g.S.Source.faults done.new.input);
+      sink = (g.K.Sink.faults c.args.out.now, g.K.Sink.faults c.end.new.out);
+      disk = (g.D.Disk.faults c.args.disk, g.D.Disk.faults done.result.1);
+    })
+    c.args.disk done.result.1
+    (record { honest = g.S.Source.honest c.args.input.now; before = g.S.Source.left c.args.input.now; after = g.S.Source.left done.new.input })
+    (record { honest = g.K.Sink.honest c.args.out.now; before = g.K.Sink.text c.args.out.now; after = g.K.Sink.text done.new.out })
+    (record { honest = g.K.Sink.honest done.new.out; before = g.K.Sink.text done.new.out; after = g.K.Sink.text c.end.new.out })
+    c.in-Some.command done.result.0 c.end.result done.ensures.does
+    (record {
+      source = done.ensures.source;
+      disk = done.ensures.disk;
+      sink = sink_moved done.result.0 c.end.result (g.K.Sink.faults c.args.out.now) (g.K.Sink.faults done.new.out) (g.K.Sink.faults c.end.new.out) done.ensures.sink_later c.end.ensures.later done.ensures.sink c.end.ensures.well (λ well. ap g.K.Sink.faults (c.end.ensures.unmoved well)) c.end.ensures.status;
+    })
+    c.end.ensures.ends
+    (subst (λ (k : Command). CanBeDone k (g.S.Source.honest c.args.input.now) (length (g.S.Source.left c.args.input.now)) (g.D.Disk.tells c.args.disk)) same can)
+    no_source no_sink no_disk
 
-pub returns-then-are_word-clause-complete_founding : goal.returns-then-are_word-clause-complete_founding
-returns-then-are_word-clause-complete_founding g c found honest unborn no_sink no_disk =
-    let before = g.K.Sink.faults c.args.out.now in
-    let mid = g.K.Sink.faults c.found-ended.new.out in
-    let after = g.K.Sink.faults c.end.new.out in
-    status_from c.ended_founding.result c.end.result (Rose mid after) c.end.ensures.well c.end.ensures.status (λ rose. no_sink (rose_after before mid after c.found-ended.ensures.sink_later rose))
-    (founded_end c.found-ended.result.0 c.ended_founding.result c.ended_founding.ensures
-    (founded_all g.D.Disk office_scheme c.args.disk c.found-ended.result.1 _ _ c.found-ended.result.0 c.found-ended.ensures.session honest unborn (λ is. no_disk (c.found-ended.ensures.disk_fault is))
-    (λ is. no_sink (rose_before before mid after c.found-ended.ensures.sink_later c.end.ensures.later (c.found-ended.ensures.write_fault is)))))
+pub returns-in-None-clause-ran : goal.returns-in-None-clause-ran
+returns-in-None-clause-ran g c =
+    no_row c.end-in-None.result (λ command is. c.in-None.ensures.none refl command (ap (map (string_bytes {Z = Global})) c.deref.ensures.value ∙ is)) refl refl
+    (record {
+      source = stood _ _ refl;
+      disk = stood _ _ refl;
+      sink = sink_moved (Err stops.Usage) c.end-in-None.result (g.K.Sink.faults c.args.out.now) (g.K.Sink.faults c.args.out.now) (g.K.Sink.faults c.end-in-None.new.out) (omega arith) c.end-in-None.ensures.later (stood _ _ refl) c.end-in-None.ensures.well (λ well. ap g.K.Sink.faults (c.end-in-None.ensures.unmoved well)) c.end-in-None.ensures.status;
+    })
+    c.end-in-None.ensures.ends
 
-pub returns-then-are_word-2-clause-complete : goal.returns-then-are_word-2-clause-complete
-returns-then-are_word-2-clause-complete g c file source short honest born whole no_source no_sink no_disk =
-    let before = g.K.Sink.faults c.args.out.now in
-    let mid = g.K.Sink.faults c.file-ended.new.out in
-    let after = g.K.Sink.faults c.end-then-are_word-2.new.out in
-    status_from c.ended_filing.result c.end-then-are_word-2.result (Rose mid after) c.end-then-are_word-2.ensures.well c.end-then-are_word-2.ensures.status
-    (λ rose. no_sink (rose_after before mid after c.file-ended.ensures.sink_later rose))
-    (filed_end c.file-ended.result.0 c.ended_filing.result c.ended_filing.ensures
-    (session_all g.D.Disk office_scheme office_judging desk_texts 16777216 c.args.disk c.file-ended.result.1 _ _ c.file-ended.result.0 c.file-ended.ensures.session source short honest born whole
-    (err_not c.file-ended.result.0 (λ stop. IsTrue (is_disk_fault stop)) _ no_disk c.file-ended.ensures.disk_fault)
-    (λ is. no_sink (rose_before before mid after c.file-ended.ensures.sink_later c.end-then-are_word-2.ensures.later (c.file-ended.ensures.write_fault is)))
-    (λ is. no_source (c.file-ended.ensures.read_fault is))))
-
-pub returns-else-are_word-2-clause-ran : goal.returns-else-are_word-2-clause-ran
-returns-else-are_word-2-clause-ran g c =
-    let words = map (string_bytes {Z = Global}) c.args.words.now.items in
-    no_row c.end-else-are_word-2.result
-    (unnamed words c.are_word.result c.are_word-else-are_word.result c.if-are_word.false c.if-are_word-2.false
-    (λ is. c.are_word.ensures.1 (ap (map (string_bytes {Z = Global})) c.deref.ensures.value ∙ is))
-    (λ is. c.are_word-else-are_word.ensures.1 (ap (map (string_bytes {Z = Global})) c.deref-else-are_word.ensures.value ∙ is)))
-    refl c.end-else-are_word-2.ensures.ends
+pub returns-in-None-clause-within : goal.returns-in-None-clause-within
+returns-in-None-clause-within g c file history is = legal_within history is.legal

@@ -1,0 +1,129 @@
+-- What each image of the disk recovers at each moment of a command, and behind it.
+use Rattle.std.proofs.Common.{◌≡◌, ⊎_elim, ℕ, Bool, true, false, IsTrue, List, [], ◌∷◌, ◌++◌, map, Result, Ok, Err, None, ap, subst, refl, sym, ◌∙◌, arith, append-nil}
+use Rattle.std.specs.Prelude.{if◌then◌else◌}
+use Rattle.aid_filings.specs.declared.filing.Filing.{Filing}
+use Rattle.aid_replies.specs.declared.reply.Ask.{Ask}
+use Rattle.desk_forms.specs.declared.error.RowError.{RowError}
+use Rattle.disk_model.specs.Telling.{EachImage, EachMoment, IsHonest}
+use Rattle.disk_model.specs.declared.disk.Disk.{Ghosts}
+use Rattle.disk_model.proofs.Moments.{each_moment_of_read, started, weaken}
+use Rattle.filing_journal.specs.Stands.{IsUnborn}
+use Rattle.filing_journal.proofs.Unique.{born, not_unborn}
+use Rattle.kept_list.specs.Recovers.{payloads_of}
+use Rattle.kept_list.specs.Turns.{with_entry}
+use Rattle.kept_list.proofs.Histories.{recovers_once}
+use Rattle.kept_office.specs.OfficeLaws.{alone}
+use Rattle.kept_office.specs.Recovers.{Recovers}
+use Rattle.kept_office.specs.Scheme.{office_header, office_scheme}
+use Rattle.kept_office.specs.Turns.{office_judging}
+use Rattle.kept_session.specs.Edges.{Input, Output}
+use Rattle.kept_session.specs.Sessions.{FoundSession, founded, unsaid, refused, Opens, Session, read}
+use Rattle.kept_session.specs.Texts.{after_row, after_rows}
+use Rattle.kept_session.specs.declared.stop.FoundStop.{FoundStop}
+use Rattle.kept_session.specs.declared.stop.SessionStop.{SessionStop}
+use Rattle.kept_session.proofs.Fronts.{images_of_session, moments_of_session}
+use Rattle.office_history.specs.Answer.{answer_to, is_admit}
+use Rattle.office_words.specs.declared.command.Command.{Command}
+use Rattle.office_words.specs.declared.command.QuoteRequest.{QuoteRequest}
+use Rattle.aid_office.specs.Asks.{book_rows, book_texts, desk_rows, desk_texts, quote_ask, quote_rows, quote_texts}
+use Rattle.aid_office.specs.Moments.{MayRecover, MustRecover}
+use Rattle.aid_office.specs.Ran.{Does, founding, filing, booking, quoting, checking_rows, checking_book}
+use Rattle.aid_office.specs.Statuses.{ended_file, ended_found}
+use Rattle.aid_office.specs.declared.stop.RunStop.{RunStop}
+
+-- a file recovers one history at most
+once : (file : List ℕ) (one other : List Filing) → Recovers file one → Recovers file other → one ≡ other
+once file one other = recovers_once office_scheme alone file one other
+
+-- ---- a quote adds nothing
+nothing : (asks : Bool) (past : List Filing) → with_entry (if asks then None else None) past ≡ past
+nothing true past = refl
+nothing false past = refl
+
+quote_adds : (quote : QuoteRequest) (past : List Filing) → after_row {Error = RowError} office_judging past (Ok (quote_ask quote)) ≡ past
+quote_adds quote past = nothing (is_admit (answer_to past (quote_ask quote))) past
+
+quotes_add : (quote : QuoteRequest) (past : List Filing) (rows rest : List (Result Ask RowError)) → quote_rows quote ≡ map (λ row. row) rows ++ rest → after_rows office_judging past rows ≡ past
+quotes_add quote past [] rest is = refl
+quotes_add quote past (row ∷ []) rest is =
+    let one : row ≡ Ok (quote_ask quote) = cc in
+    ap (λ (r : Result Ask RowError). after_row office_judging past r) one ∙ quote_adds quote past
+quotes_add quote past (row ∷ other ∷ rows) rest is = absurd (let bad : ⊥ = cc in bad)
+
+-- an input of one answer, whatever it is
+module _ {D : Type 0} (disk : Ghosts D) (only : (d : D) (c : List ℕ) → IsHonest (disk.tells d) → (disk.tells d).image_since (disk.tells d).moment c → (disk.tells d).image c)
+    (here : (d : D) → IsHonest (disk.tells d) → (disk.tells d).image (disk.tells d).reads) where
+  -- each image recovers the list before
+  abbrev Each : D → List Filing → Type 0
+  Each at past = EachImage (disk.tells at) (λ file. Recovers file past)
+
+  -- where no call was made
+  stays : (old new : D) (past : List Filing) → IsHonest (disk.tells old) → Each old past → new ≡ old → EachMoment (disk.tells old) (disk.tells new) (λ file. Recovers file past)
+  stays old new past honest each same =
+      subst (λ (d : D). EachMoment (disk.tells old) (disk.tells d) (λ file. Recovers file past)) (sym same)
+      (started (disk.tells old) (λ file. Recovers file past) (λ c since. each c (only old c honest since)))
+
+  -- a disk whose images recover a list isn't unborn
+  is_born : (old : D) (past : List Filing) → IsHonest (disk.tells old) → Each old past → IsUnborn (disk.tells old).reads → ⊥
+  is_born old past honest each =
+      not_unborn office_header (disk.tells old).reads (born office_header (disk.tells old).reads (payloads_of office_scheme.spelling past) (each (disk.tells old).reads (here old honest)).stands)
+
+  -- a founding there only looks
+  moments_of_found : (old new : D) (line : List ℕ) (output : Output) (ended : Result Unit FoundStop) (past : List Filing) → IsHonest (disk.tells old) → Each old past
+      → FoundSession disk office_scheme old new line output ended → EachMoment (disk.tells old) (disk.tells new) (λ file. Recovers file past)
+  moments_of_found old new line output ended past honest each (founded is wrote) = absurd (is_born old past honest each (is.unborn honest))
+  moments_of_found old new line output ended past honest each (unsaid is wrote) = absurd (is_born old past honest each (is.unborn honest))
+  moments_of_found old new line output ended past honest each (refused fault n same) =
+      ⊎_elim (λ unborn. absurd (is_born old past honest each unborn))
+      (λ looked. each_moment_of_read (disk.tells old) (disk.tells new) (λ file. Recovers file past) (λ c since. only old c honest since) each looked)
+      (n.untouched honest)
+
+  -- a quote is a session over an input that has no bytes, and says what is asked
+  as_session : (quote : QuoteRequest) (old new : D) (output : Output) (ended : Result Unit SessionStop) → Opens disk office_scheme office_judging quote_texts old new output (quote_rows quote) ended
+      → Session disk office_scheme office_judging quote_texts (λ text. quote_rows quote) 0 old new (record { honest = true; before = []; after = [] }) output ended
+  as_session quote old new output ended opens =
+      read (quote_rows quote) ended (record { short = λ honest. omega arith; end = λ honest. refl }) (λ honest. refl) opens
+
+  pub moments : (old new : D) (input : Input) (output : Output) (command : Command) (ended : Result Unit RunStop) (past : List Filing) → Does disk old new input output command ended
+      → IsHonest (disk.tells old) → IsTrue input.honest → Each old past → EachMoment (disk.tells old) (disk.tells new) (MayRecover command input.before past)
+  moments old new input output command ended past (founding inner session) honest sincere each = moments_of_found old new _ output inner past honest each session
+  moments old new input output command ended past (filing inner session) honest sincere each =
+      moments_of_session disk office_scheme office_judging only desk_texts output once desk_rows 16777216 input sincere here inner past old new honest each session
+  moments old new input output command ended past (booking book inner session) honest sincere each =
+      moments_of_session disk office_scheme office_judging only book_texts output once (book_rows book.number) 16777216 input sincere here inner past old new honest each session
+  moments old new input output command ended past (quoting quote inner opens) honest sincere each =
+      weaken (disk.tells old) (disk.tells new) _ (λ file. Recovers file past)
+      (λ file taken. subst (λ (h : List Filing). Recovers file h) (quotes_add quote past taken.0 taken.1 taken.2) taken.3)
+      (moments_of_session disk office_scheme office_judging only quote_texts output once (λ text. quote_rows quote) 0 (record { honest = true; before = []; after = [] }) refl here inner past old new honest each
+      (as_session quote old new output inner opens))
+  moments old new input output command ended past (checking_rows _ same checks) honest sincere each = stays old new past honest each same
+  moments old new input output command ended past (checking_book _ same checks) honest sincere each = stays old new past honest each same
+
+  -- ---- where all was done
+  session_done : (ended : Result Unit SessionStop) → ended_file ended ≡ Ok tt → ended ≡ Ok tt
+  session_done (Ok done) is = refl
+  session_done (Err stop) is = absurd (let bad : ⊥ = cc in bad)
+
+  stands_of_found : (old new : D) (line : List ℕ) (output : Output) (ended : Result Unit FoundStop) (past : List Filing) → IsHonest (disk.tells old) → Each old past
+      → FoundSession disk office_scheme old new line output ended → ended_found ended ≡ Ok tt → Each new past
+  stands_of_found old new line output ended past honest each (founded is wrote) well = absurd (is_born old past honest each (is.unborn honest))
+  stands_of_found old new line output ended past honest each (unsaid is wrote) well = absurd (let bad : ⊥ = cc in bad)
+  stands_of_found old new line output ended past honest each (refused fault n same) well = absurd (let bad : ⊥ = cc in bad)
+
+  pub stands : (old new : D) (input : Input) (output : Output) (command : Command) (ended : Result Unit RunStop) (past : List Filing) → Does disk old new input output command ended
+      → ended ≡ Ok tt → IsHonest (disk.tells old) → IsTrue input.honest → Each old past → EachImage (disk.tells new) (MustRecover command input.before past)
+  stands old new input output command ended past (founding inner session) well honest sincere each = stands_of_found old new _ output inner past honest each session well
+  stands old new input output command ended past (filing inner session) well honest sincere each =
+      let (rows, said, images) = images_of_session disk office_scheme office_judging only desk_texts output once desk_rows 16777216 input sincere inner past old new (session_done inner well) honest
+      (each (disk.tells old).reads (here old honest)) session in
+      λ c image. (rows, said, images c image)
+  stands old new input output command ended past (booking book inner session) well honest sincere each =
+      let (rows, said, images) = images_of_session disk office_scheme office_judging only book_texts output once (book_rows book.number) 16777216 input sincere inner past old new (session_done inner well) honest
+      (each (disk.tells old).reads (here old honest)) session in
+      λ c image. (rows, said, images c image)
+  stands old new input output command ended past (quoting quote inner opens) well honest sincere each =
+      let (rows, said, images) = images_of_session disk office_scheme office_judging only quote_texts output once (λ text. quote_rows quote) 0 (record { honest = true; before = []; after = [] }) refl inner past old new
+      (session_done inner well) honest (each (disk.tells old).reads (here old honest)) (as_session quote old new output inner opens) in
+      λ c image. subst (λ (h : List Filing). Recovers c h) (quotes_add quote past rows [] (sym said ∙ sym (append-nil (map (λ row. row) rows)))) (images c image)
+  stands old new input output command ended past (checking_rows _ same checks) well honest sincere each = subst (λ (d : D). Each d past) (sym same) each
+  stands old new input output command ended past (checking_book _ same checks) well honest sincere each = subst (λ (d : D). Each d past) (sym same) each

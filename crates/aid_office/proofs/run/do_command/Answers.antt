@@ -1,0 +1,27 @@
+use Rattle.std.proofs.Common.{refl}
+use Rattle.aid_office.specs.Ran.{founding, filing, booking, quoting, checking_rows, checking_book}
+use Rattle.aid_office.proofs.Ending.{rows_disk, stood}
+use Rattle.aid_office.proofs.run.do_command.Goals as goal
+
+pub returns-in-Found-clause-does : goal.returns-in-Found-clause-does
+returns-in-Found-clause-does g c = rw (c.in-Found.is, c.ended_founding.ensures) (founding c.found-ended.result.0 c.found-ended.ensures.session)
+
+pub returns-in-File-clause-does : goal.returns-in-File-clause-does
+returns-in-File-clause-does g c = rw (c.in-File.is, c.ended_filing.ensures) (filing c.file-ended.result.0 c.file-ended.ensures.session)
+
+pub returns-in-Book-clause-does : goal.returns-in-Book-clause-does
+returns-in-Book-clause-does g c =
+    rw (c.in-Book.is, c.ended_filing-in-Book.ensures) (booking c.in-Book.book c.file-ended-in-Book.result.0 c.file-ended-in-Book.ensures.session)
+
+pub returns-in-Quote-clause-does : goal.returns-in-Quote-clause-does
+returns-in-Quote-clause-does g c =
+    rw (c.in-Quote.is, c.ended_filing-in-Quote.ensures) (quoting c.in-Quote.quote c.answer-ended.result.0 (rw c.new-row.ensures at c.answer-ended.ensures.session))
+
+pub returns-in-CheckRows-clause-does : goal.returns-in-CheckRows-clause-does
+returns-in-CheckRows-clause-does g c = rw c.in-CheckRows.is (checking_rows c.check_rows.result refl c.check_rows.ensures.checks)
+
+pub returns-in-CheckRows-clause-disk : goal.returns-in-CheckRows-clause-disk
+returns-in-CheckRows-clause-disk g c = stood _ _ (rows_disk _ _ c.check_rows.result c.check_rows.ensures.checks)
+
+pub returns-in-CheckBook-clause-does : goal.returns-in-CheckBook-clause-does
+returns-in-CheckBook-clause-does g c = rw c.in-CheckBook.is (checking_book c.check_book.result refl c.check_book.ensures.checks)
