@@ -12,6 +12,8 @@ mod lists;
 #[cfg(test)]
 mod office;
 #[cfg(test)]
+mod rows;
+#[cfg(test)]
 mod rules;
 #[cfg(test)]
 mod terms_over;
