@@ -8,7 +8,7 @@ use Rattle.kept_list.specs.Scheme.{Scheme, Judging}
 use Rattle.kept_list.specs.Recovers.{Recovers, RecoversEither}
 use Rattle.kept_session.specs.Edges.{Input, Output}
 use Rattle.kept_session.specs.Texts.{Texts, after_row, after_rows}
-use Rattle.kept_session.specs.Links.{Runs, begun, answered, RecoversFront, RecoversTaken}
+use Rattle.kept_session.specs.Links.{Runs, begun, answered, RecoversFront, RecoversOf, RecoversTaken}
 use Rattle.kept_session.specs.Sessions.{Files, Takes, Opens, Session, all, unwritten, faulted, starved, unopened, opened, unread, read}
 use Rattle.kept_session.specs.declared.stop.FileStop.{FileStop}
 use Rattle.kept_session.specs.declared.stop.SessionStop.{SessionStop}
@@ -136,22 +136,23 @@ module _ {D Entry Ask Verdict Error : Type 0} (disk : Ghosts D) (scheme : Scheme
                 (images_of_files takes.rows (Ok done) list at new refl (subst IsTrue (sym is.honest) honest) (is.images honest) takes.files),
           )
 
-      module _ (rows_of : List ℕ → List texts.Meaning) (limit : ℕ) (input : Input) (sincere : IsTrue input.honest) where
+      module _ (rows_of : List ℕ → List texts.Meaning) (limit : ℕ) (input : Input) where
         -- a session, whatever it came to
         pub moments_of_session : ((d : D) → IsHonest (disk.tells d) → (disk.tells d).image (disk.tells d).reads)
             → (ended : Result (Unit {0}) SessionStop) (past : List Entry) (old new : D) → IsHonest (disk.tells old) → EachImage (disk.tells old) (λ file. Recovers scheme file past)
-            → Session disk scheme judging texts rows_of limit old new input output ended → EachMoment (disk.tells old) (disk.tells new) (RecoversTaken scheme judging texts past (rows_of input.before))
+            → Session disk scheme judging texts rows_of limit old new input output ended → EachMoment (disk.tells old) (disk.tells new) (RecoversOf scheme judging texts rows_of input past)
         moments_of_session here ended past old new honest each (unread stop why same _) =
-            subst (λ (d : D). EachMoment (disk.tells old) (disk.tells d) (RecoversTaken scheme judging texts past (rows_of input.before))) (sym same)
-            (started (disk.tells old) (RecoversTaken scheme judging texts past (rows_of input.before)) (λ c since. ([], rows_of input.before, refl, each c (only old c honest since))))
+            subst (λ (d : D). EachMoment (disk.tells old) (disk.tells d) (RecoversOf scheme judging texts rows_of input past)) (sym same)
+            (started (disk.tells old) (RecoversOf scheme judging texts rows_of input past)
+            (λ c since. (rows_of input.before, (λ sincere. refl), ([], rows_of input.before, refl, each c (only old c honest since)))))
         moments_of_session here ended past old new honest each (read left _ is are opens) =
-            subst (λ (l : List texts.Meaning). EachMoment (disk.tells old) (disk.tells new) (RecoversTaken scheme judging texts past l)) (are sincere)
-            (moments_of_opens here left ended past old new honest each opens)
+            weaken (disk.tells old) (disk.tells new) (RecoversTaken scheme judging texts past left) (RecoversOf scheme judging texts rows_of input past)
+            (λ c r. (left, are, r)) (moments_of_opens here left ended past old new honest each opens)
 
         -- and what one leaves that ended well
         pub images_of_session : (ended : Result (Unit {0}) SessionStop) (past : List Entry) (old new : D) → ended ≡ Ok tt → IsHonest (disk.tells old) → Recovers scheme (disk.tells old).reads past
             → Session disk scheme judging texts rows_of limit old new input output ended
-            → (rows : List (Result Ask Error)) × (map texts.said rows ≡ rows_of input.before) × EachImage (disk.tells new) (λ file. Recovers scheme file (after_rows judging past rows))
+            → (rows : List (Result Ask Error)) × (IsTrue input.honest → map texts.said rows ≡ rows_of input.before) × EachImage (disk.tells new) (λ file. Recovers scheme file (after_rows judging past rows))
         images_of_session ended past old new well honest reads (unread stop why same _) = absurd (let bad : ⊥ = cc in bad)
         images_of_session ended past old new well honest reads (read left _ is are opens) =
-            let (rows, said, each) = images_of_opens left ended past old new well honest reads opens in (rows, said ∙ are sincere, each)
+            let (rows, said, each) = images_of_opens left ended past old new well honest reads opens in (rows, λ sincere. said ∙ are sincere, each)

@@ -1,10 +1,11 @@
 -- What the rows of a session do to the disk, one after the other.
-use Rattle.std.specs.Prelude.{◌≡◌, ◌+◌, ◌≤◌, ℕ, List, [], ◌∷◌, ◌++◌, length, map, take, Option, Some, None, IsSome, Result}
+use Rattle.std.specs.Prelude.{◌≡◌, ◌+◌, ◌≤◌, ℕ, List, [], ◌∷◌, ◌++◌, length, map, take, Option, Some, None, IsSome, IsTrue, Result}
 use Rattle.disk_model.specs.Telling.{EachImage, EachMoment, IsHonest, IsQuiet}
 use Rattle.disk_model.specs.declared.disk.Disk.{Ghosts}
 use Rattle.kept_list.specs.Scheme.{Scheme, Judging}
 use Rattle.filing_journal.specs.Stands.{WithGateOpen}
 use Rattle.kept_list.specs.Recovers.{Recovers, RecoversEither, payloads_of}
+use Rattle.kept_session.specs.Edges.{Input}
 use Rattle.kept_session.specs.Texts.{Texts, after_row, after_rows}
 
 -- One row was answered: at each moment of its turn each image recovers the list before it or the list after it, and at
@@ -55,3 +56,7 @@ RecoversFront scheme judging past rows file = (k : ℕ) × Recovers scheme file 
 abbrev pub RecoversTaken : {Entry Ask Verdict Error : Type 0} → Scheme Entry → Judging Entry Ask Verdict → (texts : Texts Ask Verdict Error) → List Entry → List texts.Meaning → List ℕ → Type 0
 RecoversTaken {Ask} {Error} scheme judging texts past said file = (rows : List (Result Ask Error)) × (rest : List texts.Meaning)
     × (said ≡ map texts.said rows ++ rest) × Recovers scheme file (after_rows judging past rows)
+
+-- the same of the rows of an input: those of its text, where the source is honest, and of any where it isn't
+abbrev pub RecoversOf : {Entry Ask Verdict Error : Type 0} → Scheme Entry → Judging Entry Ask Verdict → (texts : Texts Ask Verdict Error) → (List ℕ → List texts.Meaning) → Input → List Entry → List ℕ → Type 0
+RecoversOf scheme judging texts rows_of input past file = (left : List texts.Meaning) × (IsTrue input.honest → left ≡ rows_of input.before) × RecoversTaken scheme judging texts past left file

@@ -4,7 +4,7 @@ ghost use Rattle.disk_model.specs.Telling.{EachImage, EachMoment, IsHonest};
 ghost use Rattle.kept_list.specs.Recovers.{Recovers};
 ghost use Rattle.kept_session.specs.Edges.{Input, Output};
 ghost use Rattle.kept_session.specs.Texts.{after_rows};
-ghost use Rattle.kept_session.specs.Links.{Runs, RecoversFront, RecoversTaken};
+ghost use Rattle.kept_session.specs.Links.{Runs, RecoversFront, RecoversOf};
 ghost use Rattle.kept_session.specs.Sessions.{Session};
 ghost use Rattle.kept_session.specs.declared.stop.SessionStop.{SessionStop};
 
@@ -36,16 +36,16 @@ pub fn answered_stands<D: Disk, R: Docket, L: Rows<R>>(_disk: &D, _docket: &R, _
 /// of the input's add.
 pub fn each_moment_of_session<D: Disk, R: Docket, L: Rows<R>>(_disk: &D, _docket: &R, _rows: &L)
     ensures { (rows_of : List ℕ → List L.texts.Meaning) (limit : ℕ) (past : List R.Entry) (old new : D) (input : Input) (output : Output) (ended : Result (Unit {0}) SessionStop)
-        → IsHonest (D.tells old) → IsTrue input.honest → EachImage (D.tells old) (λ file. Recovers R.scheme file past)
+        → IsHonest (D.tells old) → EachImage (D.tells old) (λ file. Recovers R.scheme file past)
         → Session D.Disk R.scheme R.judging L.texts rows_of limit old new input output ended
-        → EachMoment (D.tells old) (D.tells new) (RecoversTaken R.scheme R.judging L.texts past (rows_of input.before)) }
+        → EachMoment (D.tells old) (D.tells new) (RecoversOf R.scheme R.judging L.texts rows_of input past) }
 {}
 
 /// A session that ended well leaves each image with the list that the disk read as, and all that the rows of its input add.
 pub fn all_stands<D: Disk, R: Docket, L: Rows<R>>(_disk: &D, _docket: &R, _rows: &L)
     ensures { (rows_of : List ℕ → List L.texts.Meaning) (limit : ℕ) (past : List R.Entry) (old new : D) (input : Input) (output : Output)
-        → IsHonest (D.tells old) → IsTrue input.honest → Recovers R.scheme (D.tells old).reads past
+        → IsHonest (D.tells old) → Recovers R.scheme (D.tells old).reads past
         → Session D.Disk R.scheme R.judging L.texts rows_of limit old new input output (Ok tt)
-        → (rows : List (Result R.Ask L.Error)) × (map L.texts.said rows ≡ rows_of input.before)
+        → (rows : List (Result R.Ask L.Error)) × (IsTrue input.honest → map L.texts.said rows ≡ rows_of input.before)
         × EachImage (D.tells new) (λ file. Recovers R.scheme file (after_rows R.judging past rows)) }
 {}
