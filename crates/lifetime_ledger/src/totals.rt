@@ -162,7 +162,8 @@ impl Totals {
 
     /// The Pell of a student's year: nothing where none was written.
     pub fn pell(&self, student: Student, year: Year) -> YearPell
-        ensures { result ≡ pell_of self.now student year }
+        ensures value { result ≡ pell_of self.now student year }
+        ensures within { result.net ≤ 150 * result.scheduled }
     {
         pell_at(&self.years, key_of(student, year))
     }
