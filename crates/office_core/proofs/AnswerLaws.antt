@@ -1,11 +1,12 @@
 -- What an answer tells of the filing that was asked.
 use Rattle.std.proofs.Common.{◌≡◌, ℕ, zero, suc, refl, sym, ap, subst, ◌∙◌, List, Option, Some, None}
+use Rattle.std.specs.Prelude.{is_none}
 use Rattle.aid_types.specs.declared.award.Refusal.{Refusal}
 use Rattle.aid_types.proofs.Same.{tells_key}
 use Rattle.aid_filings.specs.declared.filing.Filing.{Filing}
 use Rattle.aid_replies.specs.declared.reply.Outcome.{Outcome}
 use Rattle.aid_replies.specs.declared.reply.Verdict.TheVariants.{Again, Refused}
-use Rattle.office_history.specs.Answer.{IsLegal, answer_at, answer_new, answer_of, breaks, judged}
+use Rattle.office_history.specs.Answer.{IsLegal, answer_at, answer_new, answer_of, breaks, is_admit, judged}
 use Rattle.office_history.specs.Past.{filing_at, key_at, same_key}
 use Rattle.office_history.proofs.Cases.{answer_of-new}
 use Rattle.office_history.proofs.Legal.{filing_at-new}
@@ -71,3 +72,11 @@ used_there past f r legal e fifteen = at_position (filing_at f past) refl e
 -- a filing with a new key is judged by the rules of its kind
 pub judged_new : (past : List Filing) (f : Filing) (o : Option Refusal) → key_at f.key past ≡ 0 → breaks past f ≡ o → answer_of past f ≡ judged past f o
 judged_new past f o new e = answer_of-new past f (filing_at-new past f new) new ∙ ap (judged past f) e
+
+-- it is admitted just where it breaks none
+judged_none : (past : List Filing) (f : Filing) (o : Option Refusal) → is_admit (judged past f o) ≡ is_none o
+judged_none past f None = refl
+judged_none past f (Some r) = refl
+
+pub admitted_new : (past : List Filing) (f : Filing) → key_at f.key past ≡ 0 → is_admit (answer_of past f) ≡ is_none (breaks past f)
+admitted_new past f new = ap is_admit (judged_new past f (breaks past f) new refl) ∙ judged_none past f (breaks past f)

@@ -85,16 +85,19 @@ pub fn is_legal(history: &[Filing]) -> bool
     ensures { IsTrue result ↔ IsLegal (reverse history.now) }
 {
     for (index, filing) in history.iter().enumerate() {
-        if !is_admitted(answer(&history[..index], filing)) {
+        if !is_admissible(&history[..index], filing) {
             return false;
         }
     }
     true
 }
 
-/// Whether a verdict admits.
-pub(crate) fn is_admitted(verdict: Verdict) -> bool
-    ensures { result ≡ is_admit verdict }
+/// Whether a filing would be admitted: its key is new, and it breaks no rule.
+#[tactic(auto, using(crate::proofs::Short::counted))]
+pub(crate) fn is_admissible(history: &[Filing], filing: &Filing) -> bool
+    requires legal { IsLegal (reverse history.now) }
+    ensures { result ≡ is_admit (answer_of (reverse history.now) filing.now) }
 {
-    matches!(verdict, Verdict::Admit(_))
+    position_of_key(history, &filing.key) == 0
+        && broken(&facts(history, filing), &filing.key, &filing.what).is_none()
 }

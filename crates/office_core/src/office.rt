@@ -19,7 +19,7 @@ ghost use Rattle.office_history.specs.Past.{key_at};
 ghost use Rattle.office_history.specs.Within.{IsWithinEveryLimit};
 ghost use Rattle.office_core.specs.Register.{filing_in, IsKeyUsedAt, IsPellPayment};
 
-use crate::answers::{answer_on_record, is_admitted};
+use crate::answers::{answer_on_record, is_admissible};
 use crate::{outcome, quote, standing};
 use aid_filings::Filing;
 use aid_replies::{Ask, Outcome, StandingRow, Verdict};
@@ -245,7 +245,7 @@ impl Office {
     pub fn admits(&self, filing: &Filing) -> bool
         ensures { result ≡ is_admit (answer_of self.now.history filing.now) }
     {
-        is_admitted(self.judge(filing))
+        is_admissible(self.filings.as_slice(), filing)
     }
 
     /// Appends a filing that the office admits, and answers its outcome. It takes no memory, but one of the places of
