@@ -1,6 +1,7 @@
 """The text of a year book: its fields with ranges and units, and the first thing that is wrong with a text. It is written
 apart from the proved code, so that the two can be compared. Python reads TOML 1.0; the office also takes what 1.1 adds, as a
 line end in an inline table."""
+import re
 import tomllib
 
 AMOUNT = 0, 99_999_999
@@ -50,6 +51,11 @@ class NotABook(Exception):
     def __init__(self, error, detail, sentence):
         super().__init__(sentence)
         self.line = f"1 book {error} {detail}".rstrip() if error < 6 else f"1 book 6 {detail}"
+
+
+def shown(key):
+    """A key in one line: each control character of ASCII is a question mark."""
+    return re.sub("[\\x00-\\x1f\\x7f]", "?", key)
 
 
 def share(amount, rate):
@@ -160,5 +166,5 @@ def judge_keys(book):
         known = set(keys) | {name for name, *_ in SECTIONS} if not section else set(keys)
         unknown += [f"{section}.{key}" if section else key for holder in holders for key in holder if key not in known or not key]
     if unknown:
-        least = min(unknown, key=str.encode)
+        least = shown(min(unknown, key=str.encode))
         raise NotABook(6, least, f"{least} is no key of a book.")

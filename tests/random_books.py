@@ -10,7 +10,7 @@ import worked
 SPECIMEN = year_book.read(worked.SPECIMEN)
 WRONG = ['"7"', "1.0", "true", "[]", "[1]", "{}", "2025-08-25", "[1, 2, 3, 4, 5]", "[[1]]", "nan"]
 NO_TOML = ["x", "= 1", "[pell", "form = ", "a = 1\na = 2", "n = 99999999999999999999", "\x00", "s = \"a", "[a]\n[a]", "v = 01"]
-UNKNOWN = ["bonus", "a", "z", "Maximum", "max-imum", '"two words"', '"ä"', "0"]
+UNKNOWN = ["bonus", "a", "z", "Maximum", "max-imum", '"two words"', '"ä"', "0", r'"two\nlines"', r'"\t\r\u007f"']
 
 
 def right(rng):

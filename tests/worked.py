@@ -98,6 +98,7 @@ BAD_ROWS = [
 ]
 BAD_BOOKS = [
     (SPECIMEN.replace(b"minimum = 740\n", b"minimum = 740\nbonus = 1\n"), "1 book 6 pell.bonus"),
+    (SPECIMEN.replace(b"minimum = 740\n", b'minimum = 740\n"a\\n1 book 1" = 1\n'), "1 book 6 pell.a?1 book 1"),
     (SPECIMEN.replace(b"minimum = 740\n", b"minimum = 7396\n"), "1 book 4 4"),
     (SPECIMEN.replace(b"base = 11240\n", b"base = 11241\n"), "1 book 5 3 5"),
     (SPECIMEN.replace(b"minimum = 740\n", b"bonus = 1\n"), "1 book 2 4"),

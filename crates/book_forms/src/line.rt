@@ -1,7 +1,7 @@
 //! The line of an error of a book's text.
-ghost use Rattle.std.specs.Prelude.{◌≡◌, ◌+◌, ◌≤◌, ◌++◌, OnErr, OnOk, codes, decimal, length};
+ghost use Rattle.std.specs.Prelude.{◌≡◌, ◌+◌, ◌≤◌, ◌++◌, OnErr, OnOk, codes, decimal, length, vec_capacity, vec_len};
 ghost use Rattle.arrayvec.specs.ArrayString.{array_string_len};
-ghost use Rattle.book_forms.specs.Lines.{book_error_line, details, key_in};
+ghost use Rattle.book_forms.specs.Lines.{book_error_line, details, key_in, shown, shown_key};
 
 use arrayvec::ArrayString;
 use itoa::Buffer;
@@ -9,7 +9,7 @@ use std::alloc::AllocError;
 use year_books::BookError;
 
 /// Appends the line of an error: `1 book`, the error's number, and what it names: a field, a table and a row of it, or a key.
-/// Want of memory has no line.
+/// Each control character of a key, as a line feed, is written as `?`. Want of memory has no line.
 pub fn put_book_error(error: &BookError, out: &mut Vec<u8>) -> Result<(), AllocError>
     ensures ok { OnOk result (out.new.items ≡ out.old.items ++ book_error_line error.now) }
     ensures err { OnErr result (out.new.items ≡ out.old.items) }
@@ -26,14 +26,33 @@ pub fn put_book_error(error: &BookError, out: &mut Vec<u8>) -> Result<(), AllocE
 // Appends a line that ends with a key, or nothing.
 fn put_line(start: &[u8], key: &[u8], out: &mut Vec<u8>) -> Result<(), AllocError>
     requires { length start.now ≤ 40 }
-    ensures ok { OnOk result (out.new.items ≡ out.old.items ++ (start.now ++ key.now ++ codes "\n")) }
+    ensures ok { OnOk result (out.new.items ≡ out.old.items ++ (start.now ++ shown_key key.now ++ codes "\n")) }
     ensures err { OnErr result (out.new.items ≡ out.old.items) }
 {
     out.reserve(start.len() + key.len() + 1)?;
     out.extend_from_slice(start)?;
-    out.extend_from_slice(key)?;
+    push_key(key, out);
     out.push_reserved(b'\n');
     Ok(())
+}
+
+// Appends a key as a line shows it, where there is room for it.
+fn push_key(key: &[u8], out: &mut Vec<u8>)
+    requires { vec_len out.old + length key.now ≤ vec_capacity out.old }
+    ensures items { out.new.items ≡ out.old.items ++ shown_key key.now }
+    ensures len { vec_len out.new ≡ vec_len out.old + length key.now }
+    ensures capacity { vec_capacity out.new ≡ vec_capacity out.old }
+{
+    for &byte in key {
+        out.push_reserved(shown(byte));
+    }
+}
+
+// A byte of a key as a line shows it.
+fn shown(byte: u8) -> u8
+    ensures { result ≡ shown byte }
+{
+    if byte.is_ascii_control() { b'?' } else { byte }
 }
 
 // The key that an error names, where it names one.
@@ -48,7 +67,7 @@ fn key_of(error: &BookError) -> &[u8]
 
 // The line of an error as far as the key that it names.
 fn start_of(number: u8, error: &BookError) -> ArrayString<40>
-    ensures { result.bytes ++ key_in error.now ≡ codes "1 book " ++ decimal number ++ details error.now }
+    ensures { result.bytes ++ shown_key (key_in error.now) ≡ codes "1 book " ++ decimal number ++ details error.now }
 {
     let mut start = ArrayString::<40>::new();
     start.push_str("1 book ");

@@ -28,11 +28,21 @@ fn the_specimen_is_filed(rt: HostRuntime) -> Result<(), Fail> {
 // A line of the specimen, what stands in its place, and the line of the error.
 struct Case(&'static str, &'static str, &'static str);
 
-static WORKED: [Case; 4] = [
+static WORKED: [Case; 6] = [
     Case(
         "minimum = 740",
         "minimum = 740\nbonus = 1",
         "1 book 6 pell.bonus\n",
+    ),
+    Case(
+        "minimum = 740",
+        "minimum = 740\n\"a\\n1 0 accepted 1 noted\\n1 book 1\" = 1",
+        "1 book 6 pell.a?1 0 accepted 1 noted?1 book 1\n",
+    ),
+    Case(
+        "minimum = 740",
+        "minimum = 740\n\"\\r\\t\\u007f\\u001f \\u007e\u{e9}\" = 1",
+        "1 book 6 pell.???? ~\u{e9}\n",
     ),
     Case("minimum = 740", "minimum = 7396", "1 book 4 4\n"),
     Case("base = 11240", "base = 11241", "1 book 5 3 5\n"),
@@ -78,5 +88,27 @@ fn lines_of_errors(rt: HostRuntime) -> Result<(), Fail> {
     put_book_error(&BookError::Unknown(key), &mut out)?;
     let lines = b"1 book 3 12\n1 book 5 255 65535\n1 book 6 a\"b.\xc3\xa9\n";
     assert_eq!(rt; out.as_slice(), lines.as_slice());
+    Ok(())
+}
+
+// The line of an unknown key.
+fn line_of_key(alloc: Global, key: Vec<u8>) -> Result<Vec<u8>, Fail> {
+    let mut out = Vec::new(alloc);
+    put_book_error(&BookError::Unknown(Name::new(key)), &mut out)?;
+    Ok(out)
+}
+
+#[test]
+fn no_key_ends_a_line(rt: HostRuntime) -> Result<(), Fail> {
+    for byte in 0..=u8::MAX {
+        let line = line_of_key(rt.alloc(), vec![in rt.alloc(); b'a', byte, b'z']?)?;
+        let ends = line.iter().filter(|&&other| other == b'\n').count();
+        assert_eq!(rt; ends, 1);
+        let shown = if byte < 32 || byte == 127 { b'?' } else { byte };
+        let want = vec![in rt.alloc();
+            b'1', b' ', b'b', b'o', b'o', b'k', b' ', b'6', b' ', b'a', shown, b'z', b'\n',
+        ]?;
+        assert_eq!(rt; line.as_slice(), want.as_slice());
+    }
     Ok(())
 }
