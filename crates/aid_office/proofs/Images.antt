@@ -26,7 +26,7 @@ use Rattle.office_history.specs.Answer.{answer_to, is_admit}
 use Rattle.office_words.specs.declared.command.Command.{Command}
 use Rattle.office_words.specs.declared.command.QuoteRequest.{QuoteRequest}
 use Rattle.aid_office.specs.Asks.{book_rows, book_texts, desk_rows, desk_texts, quote_ask, quote_rows, quote_texts}
-use Rattle.aid_office.specs.Moments.{MayRecover, MustRecover}
+use Rattle.aid_office.specs.Moments.{MayRecover, Stands, StoodBefore}
 use Rattle.aid_office.specs.Ran.{Does, founding, filing, booking, quoting, checking_rows, checking_book}
 use Rattle.aid_office.specs.Statuses.{ended_file, ended_found}
 use Rattle.aid_office.specs.declared.stop.RunStop.{RunStop}
@@ -85,45 +85,41 @@ module _ {D : Type 0} (disk : Ghosts D) (only : (d : D) (c : List ℕ) → IsHon
       read (quote_rows quote) ended (record { short = λ honest. omega arith; end = λ honest. refl }) (λ honest. refl) opens
 
   pub moments : (old new : D) (input : Input) (output : Output) (command : Command) (ended : Result Unit RunStop) (past : List Filing) → Does disk old new input output command ended
-      → IsHonest (disk.tells old) → IsTrue input.honest → Each old past → EachMoment (disk.tells old) (disk.tells new) (MayRecover command input.before past)
-  moments old new input output command ended past (founding inner session) honest sincere each = moments_of_found old new _ output inner past honest each session
-  moments old new input output command ended past (filing inner session) honest sincere each =
-      moments_of_session disk office_scheme office_judging only desk_texts output once desk_rows 16777216 input sincere here inner past old new honest each session
-  moments old new input output command ended past (booking book inner session) honest sincere each =
-      moments_of_session disk office_scheme office_judging only book_texts output once (book_rows book.number) 16777216 input sincere here inner past old new honest each session
-  moments old new input output command ended past (quoting quote inner opens) honest sincere each =
+      → IsHonest (disk.tells old) → Each old past → EachMoment (disk.tells old) (disk.tells new) (MayRecover command input past)
+  moments old new input output command ended past (founding inner session) honest each = moments_of_found old new _ output inner past honest each session
+  moments old new input output command ended past (filing inner session) honest each =
+      moments_of_session disk office_scheme office_judging only desk_texts output once desk_rows 16777216 input here inner past old new honest each session
+  moments old new input output command ended past (booking book inner session) honest each =
+      moments_of_session disk office_scheme office_judging only book_texts output once (book_rows book.number) 16777216 input here inner past old new honest each session
+  moments old new input output command ended past (quoting quote inner opens) honest each =
       weaken (disk.tells old) (disk.tells new) _ (λ file. Recovers file past)
-      (λ file taken. subst (λ (h : List Filing). Recovers file h) (quotes_add quote past taken.0 taken.1 taken.2) taken.3)
-      (moments_of_session disk office_scheme office_judging only quote_texts output once (λ text. quote_rows quote) 0 (record { honest = true; before = []; after = [] }) refl here inner past old new honest each
+      (λ file of. subst (λ (h : List Filing). Recovers file h) (quotes_add quote past of.2.0 of.2.1 (sym (of.1 refl) ∙ of.2.2)) of.2.3)
+      (moments_of_session disk office_scheme office_judging only quote_texts output once (λ text. quote_rows quote) 0 (record { honest = true; before = []; after = [] }) here inner past old new honest each
       (as_session quote old new output inner opens))
-  moments old new input output command ended past (checking_rows _ same checks) honest sincere each = stays old new past honest each same
-  moments old new input output command ended past (checking_book _ same checks) honest sincere each = stays old new past honest each same
+  moments old new input output command ended past (checking_rows _ same checks) honest each = stays old new past honest each same
+  moments old new input output command ended past (checking_book _ same checks) honest each = stays old new past honest each same
 
   -- ---- where all was done
   session_done : (ended : Result Unit SessionStop) → ended_file ended ≡ Ok tt → ended ≡ Ok tt
   session_done (Ok done) is = refl
   session_done (Err stop) is = absurd (let bad : ⊥ = cc in bad)
 
-  stands_of_found : (old new : D) (line : List ℕ) (output : Output) (ended : Result Unit FoundStop) (past : List Filing) → IsHonest (disk.tells old) → Each old past
-      → FoundSession disk office_scheme old new line output ended → ended_found ended ≡ Ok tt → Each new past
-  stands_of_found old new line output ended past honest each (founded is wrote) well = absurd (is_born old past honest each (is.unborn honest))
-  stands_of_found old new line output ended past honest each (unsaid is wrote) well = absurd (let bad : ⊥ = cc in bad)
-  stands_of_found old new line output ended past honest each (refused fault n same) well = absurd (let bad : ⊥ = cc in bad)
+  stands_of_found : (old new : D) (line : List ℕ) (output : Output) (ended : Result Unit FoundStop) → IsHonest (disk.tells old)
+      → FoundSession disk office_scheme old new line output ended → ended_found ended ≡ Ok tt → Each new []
+  stands_of_found old new line output ended honest (founded is wrote) well = is.images honest
+  stands_of_found old new line output ended honest (unsaid is wrote) well = absurd (let bad : ⊥ = cc in bad)
+  stands_of_found old new line output ended honest (refused fault n same) well = absurd (let bad : ⊥ = cc in bad)
 
   pub stands : (old new : D) (input : Input) (output : Output) (command : Command) (ended : Result Unit RunStop) (past : List Filing) → Does disk old new input output command ended
-      → ended ≡ Ok tt → IsHonest (disk.tells old) → IsTrue input.honest → Each old past → EachImage (disk.tells new) (MustRecover command input.before past)
-  stands old new input output command ended past (founding inner session) well honest sincere each = stands_of_found old new _ output inner past honest each session well
-  stands old new input output command ended past (filing inner session) well honest sincere each =
-      let (rows, said, images) = images_of_session disk office_scheme office_judging only desk_texts output once desk_rows 16777216 input sincere inner past old new (session_done inner well) honest
-      (each (disk.tells old).reads (here old honest)) session in
-      λ c image. (rows, said, images c image)
-  stands old new input output command ended past (booking book inner session) well honest sincere each =
-      let (rows, said, images) = images_of_session disk office_scheme office_judging only book_texts output once (book_rows book.number) 16777216 input sincere inner past old new (session_done inner well) honest
-      (each (disk.tells old).reads (here old honest)) session in
-      λ c image. (rows, said, images c image)
-  stands old new input output command ended past (quoting quote inner opens) well honest sincere each =
-      let (rows, said, images) = images_of_session disk office_scheme office_judging only quote_texts output once (λ text. quote_rows quote) 0 (record { honest = true; before = []; after = [] }) refl inner past old new
-      (session_done inner well) honest (each (disk.tells old).reads (here old honest)) (as_session quote old new output inner opens) in
-      λ c image. subst (λ (h : List Filing). Recovers c h) (quotes_add quote past rows [] (sym said ∙ sym (append-nil (map (λ row. row) rows)))) (images c image)
-  stands old new input output command ended past (checking_rows _ same checks) well honest sincere each = subst (λ (d : D). Each d past) (sym same) each
-  stands old new input output command ended past (checking_book _ same checks) well honest sincere each = subst (λ (d : D). Each d past) (sym same) each
+      → ended ≡ Ok tt → IsHonest (disk.tells old) → StoodBefore command (disk.tells old).reads past → Stands command input past (disk.tells new)
+  stands old new input output command ended past (founding inner session) well honest stood = stands_of_found old new _ output inner honest session well
+  stands old new input output command ended past (filing inner session) well honest stood =
+      images_of_session disk office_scheme office_judging only desk_texts output once desk_rows 16777216 input inner past old new (session_done inner well) honest stood session
+  stands old new input output command ended past (booking book inner session) well honest stood =
+      images_of_session disk office_scheme office_judging only book_texts output once (book_rows book.number) 16777216 input inner past old new (session_done inner well) honest stood session
+  stands old new input output command ended past (quoting quote inner opens) well honest stood =
+      let (rows, said, images) = images_of_session disk office_scheme office_judging only quote_texts output once (λ text. quote_rows quote) 0 (record { honest = true; before = []; after = [] }) inner past old new
+      (session_done inner well) honest stood (as_session quote old new output inner opens) in
+      λ c image. subst (λ (h : List Filing). Recovers c h) (quotes_add quote past rows [] (sym (said refl) ∙ sym (append-nil (map (λ row. row) rows)))) (images c image)
+  stands old new input output command ended past (checking_rows _ same checks) well honest stood = tt
+  stands old new input output command ended past (checking_book _ same checks) well honest stood = tt

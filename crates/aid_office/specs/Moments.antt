@@ -1,29 +1,42 @@
 -- What each image of the journal's disk recovers in a run, and after it.
-use Rattle.std.specs.Prelude.{◌≡◌, ℕ, List, map, Result}
+use Rattle.std.specs.Prelude.{◌≡◌, ℕ, IsTrue, List, [], map, Result}
 use Rattle.aid_filings.specs.declared.filing.Filing.{Filing}
 use Rattle.aid_replies.specs.declared.reply.Ask.{Ask}
 use Rattle.aid_replies.specs.declared.reply.Verdict.{Verdict}
+use Rattle.disk_model.specs.Telling.{EachImage, Telling}
 use Rattle.kept_office.specs.Recovers.{Recovers}
 use Rattle.kept_office.specs.Scheme.{office_scheme}
 use Rattle.kept_office.specs.Turns.{office_judging}
-use Rattle.kept_session.specs.Links.{RecoversTaken}
+use Rattle.kept_session.specs.Edges.{Input}
+use Rattle.kept_session.specs.Links.{RecoversOf}
 use Rattle.kept_session.specs.Texts.{Texts, after_rows}
 use Rattle.office_words.specs.declared.command.Command.{Command}
-use Rattle.office_words.specs.declared.command.Command.TheVariants.{File, Book}
+use Rattle.office_words.specs.declared.command.Command.TheVariants.{Found, File, Book, Quote, CheckRows, CheckBook}
 use Rattle.aid_office.specs.Asks.{book_rows, book_texts, desk_rows, desk_texts}
 
 -- a file at a moment of a command over an input recovers the list before it, with what some rows in front of the input's add
-abbrev pub MayRecover : Command → List ℕ → List Filing → List ℕ → Type 0
-MayRecover File text past file = RecoversTaken office_scheme office_judging desk_texts past (desk_rows text) file
-MayRecover (Book book) text past file = RecoversTaken office_scheme office_judging book_texts past (book_rows book.number text) file
-MayRecover _ text past file = Recovers file past
+abbrev pub MayRecover : Command → Input → List Filing → List ℕ → Type 0
+MayRecover File input past file = RecoversOf office_scheme office_judging desk_texts desk_rows input past file
+MayRecover (Book book) input past file = RecoversOf office_scheme office_judging book_texts (book_rows book.number) input past file
+MayRecover _ input past file = Recovers file past
 
--- the list with what all these rows add
-abbrev pub RecoversAll : {Error : Type 0} → (texts : Texts Ask Verdict Error) → List Filing → List texts.Meaning → List ℕ → Type 0
-RecoversAll {Error} texts past said file = (rows : List (Result Ask Error)) × (map texts.said rows ≡ said) × Recovers file (after_rows office_judging past rows)
+-- the list before a command that works on an office: the disk reads as it
+abbrev pub StoodBefore : Command → List ℕ → List Filing → Type 0
+StoodBefore File file past = Recovers file past
+StoodBefore (Book book) file past = Recovers file past
+StoodBefore (Quote quote) file past = Recovers file past
+StoodBefore _ file past = Unit {0}
 
--- a file after a command over an input that was done recovers the list before it, with what all rows of the input add
-abbrev pub MustRecover : Command → List ℕ → List Filing → List ℕ → Type 0
-MustRecover File text past file = RecoversAll desk_texts past (desk_rows text) file
-MustRecover (Book book) text past file = RecoversAll book_texts past (book_rows book.number text) file
-MustRecover _ text past file = Recovers file past
+-- each image recovers the list with what these rows add, which are all of the input's where its source is honest
+abbrev pub AllStand : {Error : Type 0} → (texts : Texts Ask Verdict Error) → (List ℕ → List texts.Meaning) → Input → List Filing → Telling → Type 0
+AllStand {Error} texts rows_of input past told = (rows : List (Result Ask Error)) × (IsTrue input.honest → map texts.said rows ≡ rows_of input.before)
+    × EachImage told (λ file. Recovers file (after_rows office_judging past rows))
+
+-- what each image recovers after a command that was done; a check makes no call on the disk
+abbrev pub Stands : Command → Input → List Filing → Telling → Type 0
+Stands Found input past told = EachImage told (λ file. Recovers file [])
+Stands File input past told = AllStand desk_texts desk_rows input past told
+Stands (Book book) input past told = AllStand book_texts (book_rows book.number) input past told
+Stands (Quote quote) input past told = EachImage told (λ file. Recovers file past)
+Stands CheckRows input past told = Unit {0}
+Stands CheckBook input past told = Unit {0}

@@ -90,7 +90,21 @@ fn is_found(words: &[String]) -> bool {
     }
 }
 
+// Opens the folder / three times. Where a run begins with a standard stream closed, the first file that it opens would
+// take that stream's place, and the journal would be read as its input or written as its text; now the folder does,
+// which takes no text and gives none.
+fn fill_streams(rt: &HostRuntime) -> io::Result<[File; 3]> {
+    Ok([
+        File::open(rt, "/")?,
+        File::open(rt, "/")?,
+        File::open(rt, "/")?,
+    ])
+}
+
 fn main(rt: HostRuntime) -> ExitCode {
+    let Ok(_streams) = fill_streams(&rt) else {
+        return ExitCode::from(RunStop::File(OpenError::DiskFault.into()).status());
+    };
     let mut out = WriteEdge::new(rt.stdout());
     let mut words = match words_of(&rt) {
         Ok(words) => words,

@@ -7,7 +7,7 @@ ghost use Rattle.kept_office.specs.Recovers.{Recovers};
 ghost use Rattle.office_history.specs.Within.{IsWithinEveryLimit};
 ghost use Rattle.office_words.specs.Words.{words_of};
 ghost use Rattle.office_words.specs.declared.command.Command.{Command as CommandData};
-ghost use Rattle.aid_office.specs.Moments.{MayRecover, MustRecover};
+ghost use Rattle.aid_office.specs.Moments.{MayRecover, Stands, StoodBefore};
 ghost use Rattle.aid_office.specs.Ran.{CanBeDone, Does, Ends, HasCause, Moved, Ran, reads_input};
 ghost use Rattle.aid_office.specs.Statuses.{is_disk_fault, is_read_fault, is_write_fault, status_of};
 
@@ -131,11 +131,12 @@ pub fn run<D: Disk, S: Source, K: Sink>(
     // Whatever a run comes to, each image at each moment of it recovers the list before it, with what some rows in front of
     // the input's add; where it was done, with what all of them add. In each such list no student stands above a limit.
     ensures moments { (command : CommandData) (past : List Filing) → map string_bytes words.now.items ≡ words_of command
-        → IsHonest (D.tells disk) → IsTrue (S.honest input.old) → EachImage (D.tells disk) (λ file. Recovers file past)
-        → EachMoment (D.tells disk) (D.tells result.1) (MayRecover command (S.left input.old) past) }
+        → IsHonest (D.tells disk) → EachImage (D.tells disk) (λ file. Recovers file past)
+        → EachMoment (D.tells disk) (D.tells result.1)
+        (MayRecover command (record { honest = S.honest input.old; before = S.left input.old; after = S.left input.new }) past) }
     ensures stands { (command : CommandData) (past : List Filing) → map string_bytes words.now.items ≡ words_of command → result.0 ≡ 0
-        → IsHonest (D.tells disk) → IsTrue (S.honest input.old) → EachImage (D.tells disk) (λ file. Recovers file past)
-        → EachImage (D.tells result.1) (MustRecover command (S.left input.old) past) }
+        → IsHonest (D.tells disk) → StoodBefore command (D.tells disk).reads past
+        → Stands command (record { honest = S.honest input.old; before = S.left input.old; after = S.left input.new }) past (D.tells result.1) }
     ensures within { (file : List ℕ) (history : List Filing) → Recovers file history → IsWithinEveryLimit history }
 
     // 3, 4 and 5 come only where the count of the source, the sink or the disk rose, and no fault is passed over.

@@ -2,7 +2,7 @@ use Rattle.std.proofs.Common.{◌≡◌, ◌∙◌, ap, arith, Global, length, m
 use Rattle.disk_model.specs.Telling.{EachImage, EachMoment}
 use Rattle.office_history.proofs.LegalWithin.{legal_within}
 use Rattle.office_words.specs.declared.command.Command.{Command}
-use Rattle.aid_office.specs.Moments.{MayRecover, MustRecover}
+use Rattle.aid_office.specs.Moments.{MayRecover, Stands, StoodBefore}
 use Rattle.aid_office.specs.Ran.{CanBeDone, no_row, did}
 use Rattle.aid_office.specs.declared.stop.RunStop.TheVariants as stops
 use Rattle.aid_office.proofs.Complete.{complete}
@@ -24,27 +24,28 @@ returns-in-Some-clause-ran g c =
     (ends_as (g.K.Sink.honest c.args.out.now) (g.K.Sink.honest done.new.out) (g.K.Sink.text done.new.out) (g.K.Sink.text c.end.new.out) done.result.0 c.end.result done.ensures.sink_honest c.end.ensures.ends)
 
 pub returns-in-Some-clause-moments : goal.returns-in-Some-clause-moments
-returns-in-Some-clause-moments g c command past words honest sincere each =
+returns-in-Some-clause-moments g c command past words honest each =
     let done = c.do_command-ended in
     let is = c.in-Some.ensures.only command (ap (map (string_bytes {Z = Global})) c.deref.ensures.value ∙ words) in
     let same : c.in-Some.command ≡ command = cc in
-    subst (λ (k : Command). EachMoment (g.D.Disk.tells c.args.disk) (g.D.Disk.tells done.result.1) (MayRecover k (g.S.Source.left c.args.input.now) past)) same
+    subst (λ (k : Command). EachMoment (g.D.Disk.tells c.args.disk) (g.D.Disk.tells done.result.1) (MayRecover k (record { honest = g.S.Source.honest c.args.input.now; before = g.S.Source.left c.args.input.now; after = g.S.Source.left done.new.input }) past)) same
     (moments g.D.Disk g.met.D.Disk.only_now g.met.D.Disk.reads_as_image c.args.disk done.result.1
     (record { honest = g.S.Source.honest c.args.input.now; before = g.S.Source.left c.args.input.now; after = g.S.Source.left done.new.input })
     (record { honest = g.K.Sink.honest c.args.out.now; before = g.K.Sink.text c.args.out.now; after = g.K.Sink.text done.new.out })
-    c.in-Some.command done.result.0 past done.ensures.does honest sincere each)
+    c.in-Some.command done.result.0 past done.ensures.does honest each)
 
 pub returns-in-Some-clause-stands : goal.returns-in-Some-clause-stands
-returns-in-Some-clause-stands g c command past words well honest sincere each =
+returns-in-Some-clause-stands g c command past words well honest stood =
     let done = c.do_command-ended in
     let is = c.in-Some.ensures.only command (ap (map (string_bytes {Z = Global})) c.deref.ensures.value ∙ words) in
     let same : c.in-Some.command ≡ command = cc in
-    subst (λ (k : Command). EachImage (g.D.Disk.tells done.result.1) (MustRecover k (g.S.Source.left c.args.input.now) past)) same
+    subst (λ (k : Command). Stands k (record { honest = g.S.Source.honest c.args.input.now; before = g.S.Source.left c.args.input.now; after = g.S.Source.left done.new.input }) past (g.D.Disk.tells done.result.1)) same
     (stands g.D.Disk g.met.D.Disk.only_now g.met.D.Disk.reads_as_image c.args.disk done.result.1
     (record { honest = g.S.Source.honest c.args.input.now; before = g.S.Source.left c.args.input.now; after = g.S.Source.left done.new.input })
     (record { honest = g.K.Sink.honest c.args.out.now; before = g.K.Sink.text c.args.out.now; after = g.K.Sink.text done.new.out })
     c.in-Some.command done.result.0 past done.ensures.does
-    (done_at (record { honest = g.K.Sink.honest done.new.out; before = g.K.Sink.text done.new.out; after = g.K.Sink.text c.end.new.out }) done.result.0 c.end.result c.end.ensures.ends well) honest sincere each)
+    (done_at (record { honest = g.K.Sink.honest done.new.out; before = g.K.Sink.text done.new.out; after = g.K.Sink.text c.end.new.out }) done.result.0 c.end.result c.end.ensures.ends well) honest
+    (subst (λ (k : Command). StoodBefore k (g.D.Disk.tells c.args.disk).reads past) (sym same) stood))
 
 pub returns-in-Some-clause-within : goal.returns-in-Some-clause-within
 returns-in-Some-clause-within g c file history is = legal_within history is.legal
