@@ -1,6 +1,6 @@
 -- The line of an error of a book's text. Own format.
 use Rattle.std.specs.Char.{is_ascii_control}
-use Rattle.std.specs.Prelude.{ℕ, List, [], ◌++◌, Option, Some, None, codes, decimal, if◌then◌else◌, map}
+use Rattle.std.specs.Prelude.{◌≡◌, ◌≢◌, ◌⊎◌, ℕ, List, [], ◌∷◌, ◌++◌, Option, Some, None, codes, decimal, if◌then◌else◌, map}
 use Rattle.year_books.specs.Errors.{error_number}
 use Rattle.year_books.specs.declared.error.BookError.{BookError}
 use Rattle.year_books.specs.declared.error.BookError.TheVariants.{NotToml, Missing, WrongKind, OutOfRange, NotRising, Unknown, NoMemory}
@@ -31,6 +31,11 @@ numbered_line (Some number) behind = codes "1 book " ++ decimal number ++ behind
 -- the line of an error; want of memory has none
 abbrev pub book_error_line : BookError → List ℕ
 book_error_line error = numbered_line (error_number error) (details error)
+
+-- a text of one line: its last byte is a line feed, and no other byte is
+unfoldable pub IsOneLine : List ℕ → Type 0
+IsOneLine [] = ⊥
+IsOneLine (byte ∷ bytes) = ((byte ≡ 10) × (bytes ≡ [])) ⊎ ((byte ≢ 10) × IsOneLine bytes)
 
 -- ---- what the code writes last
 abbrev pub key_in : BookError → List ℕ

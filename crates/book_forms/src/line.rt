@@ -1,7 +1,8 @@
 //! The line of an error of a book's text.
-ghost use Rattle.std.specs.Prelude.{◌≡◌, ◌+◌, ◌≤◌, ◌++◌, OnErr, OnOk, codes, decimal, length, vec_capacity, vec_len};
+ghost use Rattle.std.specs.Prelude.{◌≡◌, ◌+◌, ◌≤◌, ◌++◌, IfSome, OnErr, OnOk, codes, decimal, length, vec_capacity, vec_len};
 ghost use Rattle.arrayvec.specs.ArrayString.{array_string_len};
-ghost use Rattle.book_forms.specs.Lines.{book_error_line, details, key_in, shown, shown_key};
+ghost use Rattle.book_forms.specs.Lines.{IsOneLine, book_error_line, details, key_in, shown, shown_key};
+ghost use Rattle.year_books.specs.Errors.{error_number};
 
 use arrayvec::ArrayString;
 use itoa::Buffer;
@@ -10,9 +11,11 @@ use year_books::BookError;
 
 /// Appends the line of an error: `1 book`, the error's number, and what it names: a field, a table and a row of it, or a key.
 /// Each control character of a key, as a line feed, is written as `?`. Want of memory has no line.
+#[tactic(auto, using(crate::proofs::LineLemmas::one_line))]
 pub fn put_book_error(error: &BookError, out: &mut Vec<u8>) -> Result<(), AllocError>
     ensures ok { OnOk result (out.new.items ≡ out.old.items ++ book_error_line error.now) }
     ensures err { OnErr result (out.new.items ≡ out.old.items) }
+    ensures one_line { IfSome (error_number error.now) (λ _. IsOneLine (book_error_line error.now)) }
 {
     match error.number() {
         Some(number) => {
