@@ -1,0 +1,70 @@
+//! Policies of awards, each by its name, and the two that the office has.
+ghost use Rattle.std.specs.Prelude.{◌≡◌, [], ◌∷◌, map, IfOk, codes};
+ghost use Rattle.std.specs.List.{find};
+ghost use Rattle.std.specs.Option.{option_copied};
+ghost use Rattle.std.specs.Str.{bytes_eq};
+ghost use Rattle.fund_policy.specs.Answers.{IsAwardRule};
+
+use aid_types::Name;
+use std::alloc::{AllocError, Global};
+
+/// What tells an award in whole dollars from a candidate's need in whole dollars, Student Aid Index and enrolment intensity in
+/// percent.
+pub type Rule = Box<dyn Fn(u32, i32, u8) -> u32 + Send + Sync>;
+
+/// A rule of awards with its name.
+#[derive(Drop)]
+pub struct Policy {
+    pub name: Name,
+    pub rule: Rule,
+    pub ghost is_rule: { IsAwardRule (Rule.pre rule) (Rule.post rule) },
+}
+
+impl Policy {
+    /// A policy of a rule that its caller makes.
+    pub fn new(name: Name, rule: Rule) -> Policy
+        requires { IsAwardRule (Rule.pre rule) (Rule.post rule) }
+        ensures name { result.name ≡ name }
+        ensures rule { result.rule ≡ rule }
+    {
+        Policy { name, rule }
+    }
+}
+
+/// Policies in the order of a search.
+#[derive(Drop)]
+pub struct Policies {
+    pub list: Vec<Policy>,
+}
+
+impl Policies {
+    pub fn new(list: Vec<Policy>) -> Policies
+        ensures { result.list.items ≡ list.items }
+    {
+        Policies { list }
+    }
+
+    /// The first policy of a name.
+    pub fn find(&self, name: &[u8]) -> Option<&Policy>
+        ensures { option_copied result ≡ find (λ p. bytes_eq p.name name.now) self.now.list.items }
+    {
+        self.list.iter().find(
+            |policy|
+                ensures { result ≡ bytes_eq policy.now.now.name name.entry.now }
+            { policy.name.as_bytes() == name },
+        )
+    }
+}
+
+/// The office's two policies, `level` and `quarter`, whose rules are those of this crate: their boxes are the caller's, who sees
+/// what is in them.
+pub fn standard(alloc: Global, level: Rule, quarter: Rule) -> Result<Policies, AllocError>
+    requires level { IsAwardRule (Rule.pre level) (Rule.post level) }
+    requires quarter { IsAwardRule (Rule.pre quarter) (Rule.post quarter) }
+    ensures names { IfOk result (λ p. map (λ q. q.name) p.list.items ≡ codes "level" ∷ codes "quarter" ∷ []) }
+    ensures rules { IfOk result (λ p. map (λ q. q.rule) p.list.items ≡ level ∷ quarter ∷ []) }
+{
+    let level = Policy::new(Name::new(Vec::from_slice(alloc, b"level")?), level);
+    let quarter = Policy::new(Name::new(Vec::from_slice(alloc, b"quarter")?), quarter);
+    Ok(Policies::new(vec![in alloc; level, quarter]?))
+}
