@@ -108,6 +108,8 @@ impl<D: Disk> KeptOffice<D> {
         ensures decided { IfOk result (λ kept. kept_pending kept ≡ None) }
         ensures sound { IsHonest (D.tells disk) → IfOk result (λ kept. IsSound D.Disk kept) }
         ensures quiet { IsHonest (D.tells disk) → IfOk result (λ kept. IsQuiet (D.tells (kept_disk kept))) }
+        // The moment doesn't fall, whatever images there are.
+        ensures elapsed { IsHonest (D.tells disk) → IfOk result (λ kept. (D.tells disk).moment ≤ (D.tells (kept_disk kept)).moment) }
 
         // Each refusal but for the disk and for memory comes by the bytes, and writes nothing.
         ensures no_office { IsHonest (D.tells disk)
