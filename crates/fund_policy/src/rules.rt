@@ -1,6 +1,6 @@
 //! The two rules of awards that the office has.
 ghost use Rattle.std.specs.Prelude.{◌≡◌};
-ghost use Rattle.fund_policy.specs.Answers.{IsAsked, IsAnswer, level as level_of, least as least_of, quarter as quarter_of};
+ghost use Rattle.fund_policy.specs.Answers.{IsAnswer, level as level_of, least as least_of, quarter as quarter_of};
 
 /// The lesser of the need and 1,000 dollars, and nothing where that is below 100.
 pub fn level(need: u32, _sai: i32, _intensity: u8) -> u32
