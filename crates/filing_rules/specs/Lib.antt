@@ -1,4 +1,3 @@
 pub mod InRange
-pub mod Lines
 pub mod Quote
 pub mod Rules

@@ -10,14 +10,12 @@ use Rattle.aid_filings.specs.declared.filing.What.TheVariants.{Book as BookFiled
 use Rattle.aid_types.specs.declared.award.Refusal.{Refusal}
 use Rattle.enrolment.specs.Terms.{intensity_of, payment_of}
 use Rattle.lifetime_ledger.specs.Used.{use_of}
+use Rattle.filing_rules.specs.declared.check.Check.{Check as Line}
 use Rattle.filing_rules.specs.declared.facts.Facts.{Facts}
 
 -- one line: its rule's number, whether it is broken, and the two numbers that it then tells
-pub record Check : Type 0 where
-  pub rule : ℕ
-  pub is_broken : Bool
-  pub kept : ℕ
-  pub bound : ℕ
+abbrev pub Check : Type 0
+Check = Line
 
 -- broken where kept is above bound
 abbrev pub over : ℕ → ℕ → ℕ → Check
@@ -43,6 +41,10 @@ too_early rule day other = where_true rule (nat_lt day other) day other
 abbrev pub only : Bool → List Check → List Check
 only true lines = lines
 only false lines = []
+
+-- a line that isn't broken where the test fails
+abbrev pub tried_if : Bool → Check → Check
+tried_if test line = record { rule = line.rule; is_broken = test && line.is_broken; kept = line.kept; bound = line.bound }
 
 -- what a broken line tells
 abbrev pub told_by : Check → Refusal
@@ -239,18 +241,27 @@ abbrev pub year_of_program : Facts → ℕ → ℕ → List Check
 year_of_program f program cents =
     only (program == 3) (past_year 55 f cents ∷ []) ++ only (program == 4) (past_fseog 55 f cents ∷ [])
 
--- a payment of so many cents of a program by a school to a student in a year's term: its lines in their order
-abbrev pub payment_lines : Facts → ℕ → ℕ → ℕ → ℕ → ℕ → ℕ → List Check
-payment_lines f school student year term program cents =
+-- what a payment of so many cents of a program by a school tries after where the student stands and the amount alone
+abbrev pub amount_lines : Facts → ℕ → ℕ → ℕ → List Check
+amount_lines f school program cents =
     let is_pell = program == 3 in
-    rule_90 f ∷ rule_12 f school ∷ rule_30 f term ∷ rule_31 f student year ∷ rule_50 f student school
-    ∷ not_enrolled 51 f student term ∷ rule_53 is_pell cents
-    ∷ only is_pell (rule_40 f ∷ rule_58 f school ∷ [])
+    only is_pell (rule_40 f ∷ rule_58 f school ∷ [])
     ++ (rule_52 f program cents
     ++ (only is_pell (past_payment 54 f cents ∷ [])
     ++ (year_of_program f program cents
     ++ (only is_pell (past_lifetime 56 f cents ∷ [])
     ++ (past_cost 57 f cents ∷ [])))))
+
+-- what a payment and a withdrawal begin with: the school, the term, and the student there
+abbrev pub standing_lines : Facts → ℕ → ℕ → ℕ → ℕ → List Check
+standing_lines f school student year term =
+    rule_90 f ∷ rule_12 f school ∷ rule_30 f term ∷ rule_31 f student year ∷ rule_50 f student school ∷ []
+
+-- a payment of so many cents of a program by a school to a student in a year's term: its lines in their order
+abbrev pub payment_lines : Facts → ℕ → ℕ → ℕ → ℕ → ℕ → ℕ → List Check
+payment_lines f school student year term program cents =
+    standing_lines f school student year term
+    ++ (not_enrolled 51 f student term ∷ rule_53 (program == 3) cents ∷ amount_lines f school program cents)
 
 -- the lines of a term that is filed
 abbrev pub calendar_lines : Facts → ℕ → Term → List Check
@@ -273,9 +284,9 @@ lines_of f school (Originate o) =
     rule_90 f ∷ rule_12 f school ∷ rule_31 f o.student o.year ∷ rule_41 f o.year ∷ rule_42 o.cost ∷ []
 lines_of f school (Pay a) = payment_lines f school a.student a.year a.term (rank a.program) a.cents
 lines_of f school (Withdraw w) =
-    rule_90 f ∷ rule_12 f school ∷ rule_30 f w.term ∷ rule_31 f w.student w.year ∷ rule_50 f w.student school
-    ∷ not_enrolled 60 f w.student w.term ∷ rule_61 f w.term
-    ∷ rule_62 w.last f.term ++ (too_early 21 w.determined w.last ∷ rule_63 f w.could)
+    standing_lines f school w.student w.year w.term
+    ++ (not_enrolled 60 f w.student w.term ∷ rule_61 f w.term
+    ∷ rule_62 w.last f.term ++ (too_early 21 w.determined w.last ∷ rule_63 f w.could))
 lines_of f school (Repay a) = rule_90 f ∷ rule_12 f school ∷ rule_71 a.cents ∷ rule_70 f a.cents ∷ []
 lines_of f school (Adjust a) =
     rule_90 f ∷ rule_12 f school ∷ rule_30 f a.term ∷ rule_71 a.cents ∷ rule_34 f a.term ∷ rule_72 f a.cents ∷ []

@@ -7,11 +7,12 @@ ghost use Rattle.filing_rules.specs.Rules.{broken_of};
 
 mod award;
 mod calendar;
+mod check;
 mod desk;
 mod facts;
 mod limits;
 mod payment;
-mod refusal;
+mod rules;
 mod school;
 mod withdrawal;
 
@@ -19,7 +20,7 @@ use aid_filings::What;
 use aid_types::{Key, Refusal};
 pub use facts::Facts;
 pub use limits::{MOST_UNITS, limit_of_year, payment_at};
-pub use refusal::MOST_FILINGS;
+pub use rules::MOST_FILINGS;
 
 /// The first rule of its kind's order that a filing breaks, with what stands and what may stand; `None` where it
 /// breaks none. `f` holds the facts of the filings before it.

@@ -1,13 +1,22 @@
 //! The limits on amounts: of a term, of a year, of a lifetime and of the cost of attendance.
-ghost use Rattle.std.specs.Prelude.{◌≡◌, ◌*◌, ◌≤◌, [], ◌∷◌};
+ghost use Rattle.std.specs.Prelude.{◌≡◌, ◌+◌, ◌*◌, ◌≤◌, [], ◌∷◌};
 ghost use Rattle.aid_types.specs.Ranges.{IsBetween};
 ghost use Rattle.enrolment.specs.Terms.{intensity_of, payment_of};
 ghost use Rattle.filing_rules.specs.InRange.{AreFactsInRange};
-ghost use Rattle.filing_rules.specs.Lines.{pell_limits};
-ghost use Rattle.filing_rules.specs.Rules.{first_broken, is_half_time_extra, past_cost, past_fseog, year_limit};
+ghost use Rattle.lifetime_ledger.specs.Used.{use_of as use_in_units};
+ghost use Rattle.filing_rules.specs.Rules.{
+  first_broken as first_broken_of,
+  is_half_time_extra,
+  past_cost as past_cost_of,
+  past_fseog as past_fseog_of,
+  past_lifetime,
+  past_payment,
+  past_year,
+  year_limit,
+};
 
+use crate::check::{Check, first_broken, over};
 use crate::facts::Facts;
-use crate::refusal::refused;
 use aid_types::Refusal;
 use enrolment::{intensity, period_pay};
 use lifetime_ledger::use_of;
@@ -67,53 +76,51 @@ pub fn limit_of_year(f: &Facts) -> u64
     }
 }
 
+/// The units that are used of a lifetime where the year has so many cents of Pell.
+pub(crate) fn units_used(f: &Facts, paid: u64, scheduled: u32) -> u64
+    requires { paid ≤ 150 * scheduled }
+    ensures { result ≡ f.now.used_else + use_in_units paid scheduled }
+{
+    u64::from(f.used_else) + u64::from(use_of(paid, scheduled))
+}
+
 /// The first limit on Pell that so many cents more pass, told under these rules: the term's payment, the year's limit,
-/// the lifetime limit.
+/// the lifetime limit. Lifetime use is computed of a year within its limit.
 pub(crate) fn broken_by_pell(f: &Facts, rules: PellRules, cents: u64) -> Option<Refusal>
     requires facts { AreFactsInRange f.now }
     requires on_file { f.now.school_at ≡ 0 → ⊥ }
     requires enrolled { 1 ≤ f.now.credits }
     requires amount { cents ≤ 99999999 }
-    ensures { result ≡ first_broken (pell_limits rules.term rules.year rules.lifetime f.now cents) }
+    ensures { result ≡ first_broken_of (past_payment rules.term f.now cents ∷ past_year rules.year f.now cents ∷ past_lifetime rules.lifetime f.now cents ∷ []) }
 {
     let payment = payment_at(f.scheduled, f.credits, f.full, f.terms);
-    if f.pell_term + cents > payment {
-        return refused(rules.term, f.pell_term + cents, payment);
-    }
-    let limit = limit_of_year(f);
-    if f.pell_year + cents > limit {
-        return refused(rules.year, f.pell_year + cents, limit);
-    }
-    let used = u64::from(f.used_else) + u64::from(use_of(f.pell_year + cents, f.scheduled));
-    if used > MOST_UNITS {
-        return refused(rules.lifetime, used, MOST_UNITS);
-    }
-    None
+    let paid = f.pell_year + cents;
+    first_broken(&[
+        over(rules.term, f.pell_term + cents, payment),
+        over(rules.year, paid, limit_of_year(f)),
+    ])
+    .or_else(|| {
+        let used = units_used(f, paid, f.scheduled);
+        first_broken(&[over(rules.lifetime, used, MOST_UNITS)])
+    })
 }
 
-/// The refusal under this rule where so many cents of FSEOG more pass the year's limit (HEA 413B(a)(2)), one over all
-/// schools.
-pub(crate) fn broken_by_fseog(f: &Facts, rule: u16, cents: u64) -> Option<Refusal>
+/// So many cents of FSEOG more pass the year's limit (HEA 413B(a)(2)), one over all schools, told under this rule.
+pub(crate) fn past_fseog(rule: u16, f: &Facts, cents: u64) -> Check
     requires facts { AreFactsInRange f.now }
     requires amount { cents ≤ 99999999 }
-    ensures { result ≡ first_broken (past_fseog rule f.now cents ∷ []) }
+    ensures { result ≡ past_fseog_of rule f.now cents }
 {
-    if f.fseog_year + cents > MOST_FSEOG {
-        return refused(rule, f.fseog_year + cents, MOST_FSEOG);
-    }
-    None
+    over(rule, f.fseog_year + cents, MOST_FSEOG)
 }
 
-/// The refusal under this rule where so many cents more of any program pass the cost of attendance (HEA 401(b)(3) for Pell; own for
-/// all programs together).
-pub(crate) fn broken_by_cost(f: &Facts, rule: u16, cents: u64) -> Option<Refusal>
+/// So many cents more of any program pass the cost of attendance (HEA 401(b)(3) for Pell; own for all programs together),
+/// told under this rule.
+pub(crate) fn past_cost(rule: u16, f: &Facts, cents: u64) -> Check
     requires facts { AreFactsInRange f.now }
     requires amount { cents ≤ 599999994 }
-    ensures { result ≡ first_broken (past_cost rule f.now cents ∷ []) }
+    ensures { result ≡ past_cost_of rule f.now cents }
 {
     let cost = 100 * u64::from(f.cost);
-    if f.net_all + cents > cost {
-        return refused(rule, f.net_all + cents, cost);
-    }
-    None
+    over(rule, f.net_all + cents, cost)
 }

@@ -1,14 +1,14 @@
 //! The rules on a payment.
-ghost use Rattle.std.specs.Prelude.{◌≡◌, ◌≤◌, ◌<◌, ◌++◌, [], ◌∷◌, IsNone};
+ghost use Rattle.std.specs.Prelude.{◌≡◌, ◌≤◌};
 ghost use Rattle.aid_types.specs.Programs.{rank};
 ghost use Rattle.aid_filings.specs.declared.filing.What.TheVariants.{Pay};
 ghost use Rattle.filing_rules.specs.InRange.{AreFactsInRange};
-ghost use Rattle.filing_rules.specs.Lines.{fseog_lines, pell_lines, pell_standing, payment_standing, unlimited_lines};
-ghost use Rattle.filing_rules.specs.Rules.{first_broken, lines_of, rule_52};
+ghost use Rattle.filing_rules.specs.Rules.{amount_lines, first_broken as first_broken_of, lines_of, rule_53 as rule_53_of};
 
+use crate::check::{Check, first_broken, over, stands, where_true};
 use crate::facts::Facts;
-use crate::limits::{PellRules, broken_by_cost, broken_by_fseog, broken_by_pell};
-use crate::refusal::{broken_by_standing, refused};
+use crate::limits::{PellRules, broken_by_pell, past_cost, past_fseog};
+use crate::rules::{broken_by_standing, not_enrolled};
 use aid_filings::Amount;
 use aid_types::{Program, Refusal, School};
 
@@ -19,126 +19,50 @@ const PAYMENT_RULES: PellRules = PellRules {
     lifetime: 56,
 };
 
-/// The first broken rule of a payment.
+/// The first broken rule of a payment. The limits are computed for a student who is enrolled at a school on file.
 #[tactic(auto, using(crate::proofs::Groups::payment_groups))]
 pub(crate) fn broken_payment(f: &Facts, school: School, payment: &Amount) -> Option<Refusal>
     requires { AreFactsInRange f.now }
-    ensures { result ≡ first_broken (lines_of f.now school (Pay payment.now)) }
+    ensures { result ≡ first_broken_of (lines_of f.now school (Pay payment.now)) }
 {
-    if let Some(refusal) = broken_by_student(f, school, payment) {
-        return Some(refusal);
-    }
-    match payment.program {
-        Program::Pell => broken_pell(f, school, payment.cents),
-        Program::Fseog => broken_fseog(f, payment.cents),
-        program => broken_unlimited(f, program, payment.cents),
-    }
-}
-
-/// The first broken rule of a payment on where the student stands, and on its amount alone.
-fn broken_by_student(f: &Facts, school: School, payment: &Amount) -> Option<Refusal>
-    ensures value { result ≡ first_broken (payment_standing f.now school payment.now) }
-    ensures on_file { IsNone result → f.now.school_at ≡ 0 → ⊥ }
-    ensures enrolled { IsNone result → 1 ≤ f.now.credits }
-{
-    if let Some(refusal) = broken_by_standing(
-        f,
-        school,
-        payment.student,
-        payment.year,
-        payment.term,
-    ) {
-        return Some(refusal);
-    }
-    if f.credits == 0 {
-        return refused(51, payment.student.0, u64::from(payment.term));
-    }
+    let (student, term, cents) = (payment.student, payment.term, payment.cents);
     let is_pell = payment.program == Program::Pell;
-    if payment.cents == 0 || is_pell && payment.cents % 100 != 0 {
-        return refused(53, payment.cents, 100);
-    }
-    None
+    broken_by_standing(f, school, student, payment.year, term)
+        .or_else(|| first_broken(&[not_enrolled(51, f, student, term), rule_53(is_pell, cents)]))
+        .or_else(|| broken_by_amount(f, school, payment.program, cents))
 }
 
-/// The first rule of a payment's amount that so many cents of Pell break.
+/// There is no amount, or it is one of Pell and not in whole dollars.
+fn rule_53(is_pell: bool, cents: u64) -> Check
+    ensures { result ≡ rule_53_of is_pell cents }
+{
+    where_true(53, cents == 0 || is_pell && cents % 100 != 0, cents, 100)
+}
+
+/// The first broken rule of a payment after those on where the student stands and on the amount alone: after a withdrawal,
+/// no more than may be disbursed of the program, and of all programs (34 CFR 668.22(a)(6)), and then the limits.
 #[tactic(auto, using(crate::proofs::Groups::pell_groups))]
-fn broken_pell(f: &Facts, school: School, cents: u64) -> Option<Refusal>
+fn broken_by_amount(f: &Facts, school: School, program: Program, cents: u64) -> Option<Refusal>
     requires facts { AreFactsInRange f.now }
     requires on_file { f.now.school_at ≡ 0 → ⊥ }
     requires enrolled { 1 ≤ f.now.credits }
     requires amount { cents ≤ 99999999 }
-    ensures { result ≡ first_broken (pell_lines f.now school cents) }
+    ensures { result ≡ first_broken_of (amount_lines f.now school (rank program) cents) }
 {
-    if let Some(refusal) = broken_by_pell_standing(f, school) {
-        return Some(refusal);
+    let has_withdrawn = f.withdrawn_at > 0;
+    let of_program = over(52, f.after + cents, f.could.at(program)).only_if(has_withdrawn);
+    let of_all = over(52, f.after_all + cents, f.post).only_if(has_withdrawn);
+    let cost = past_cost(57, f, cents);
+    match program {
+        Program::Pell => first_broken(&[
+            where_true(40, f.scheduled == 0, u64::from(f.transaction), 0),
+            stands(58, f.other_school, u64::from(school.0)),
+            of_program,
+            of_all,
+        ])
+        .or_else(|| broken_by_pell(f, PAYMENT_RULES, cents))
+        .or_else(|| first_broken(&[cost])),
+        Program::Fseog => first_broken(&[of_program, of_all, past_fseog(55, f, cents), cost]),
+        _ => first_broken(&[of_program, of_all, cost]),
     }
-    if let Some(refusal) = broken_by_withdrawal(f, Program::Pell, cents) {
-        return Some(refusal);
-    }
-    if let Some(refusal) = broken_by_pell(f, PAYMENT_RULES, cents) {
-        return Some(refusal);
-    }
-    broken_by_cost(f, 57, cents)
-}
-
-/// The first rule of a payment's amount that so many cents of FSEOG break.
-#[tactic(auto, using(crate::proofs::Groups::fseog_groups))]
-fn broken_fseog(f: &Facts, cents: u64) -> Option<Refusal>
-    requires facts { AreFactsInRange f.now }
-    requires amount { cents ≤ 99999999 }
-    ensures { result ≡ first_broken (fseog_lines f.now cents) }
-{
-    if let Some(refusal) = broken_by_withdrawal(f, Program::Fseog, cents) {
-        return Some(refusal);
-    }
-    if let Some(refusal) = broken_by_fseog(f, 55, cents) {
-        return Some(refusal);
-    }
-    broken_by_cost(f, 57, cents)
-}
-
-/// The first rule of a payment's amount that so many cents of a program without a limit of its own break.
-#[tactic(auto, using(crate::proofs::Groups::unlimited_groups))]
-fn broken_unlimited(f: &Facts, program: Program, cents: u64) -> Option<Refusal>
-    requires facts { AreFactsInRange f.now }
-    requires amount { cents ≤ 99999999 }
-    ensures { result ≡ first_broken (unlimited_lines f.now (rank program) cents) }
-{
-    if let Some(refusal) = broken_by_withdrawal(f, program, cents) {
-        return Some(refusal);
-    }
-    broken_by_cost(f, 57, cents)
-}
-
-/// The first broken rule of a Pell payment on what the student is awarded and was paid elsewhere.
-fn broken_by_pell_standing(f: &Facts, school: School) -> Option<Refusal>
-    ensures { result ≡ first_broken (pell_standing f.now school) }
-{
-    if f.scheduled == 0 {
-        return refused(40, u64::from(f.transaction), 0);
-    }
-    if f.other_school > 0 {
-        return refused(58, u64::from(f.other_school), u64::from(school.0));
-    }
-    None
-}
-
-/// The refusal where so many cents pass what may be disbursed after a withdrawal, of the program or of all programs (34
-/// CFR 668.22(a)(6)).
-fn broken_by_withdrawal(f: &Facts, program: Program, cents: u64) -> Option<Refusal>
-    requires facts { AreFactsInRange f.now }
-    requires amount { cents ≤ 99999999 }
-    ensures { result ≡ first_broken (rule_52 f.now (rank program) cents) }
-{
-    if f.withdrawn_at == 0 {
-        return None;
-    }
-    let could = f.could.at(program);
-    if f.after + cents > could {
-        return refused(52, f.after + cents, could);
-    }
-    if f.after_all + cents > f.post {
-        return refused(52, f.after_all + cents, f.post);
-    }
-    None
 }

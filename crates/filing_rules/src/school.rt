@@ -1,43 +1,55 @@
 //! The rules on what a school files of its students: credits, costs, repayments and downward adjustments.
 ghost use Rattle.std.specs.Prelude.{◌≡◌};
-ghost use Rattle.filing_rules.specs.InRange.{AreFactsInRange};
-ghost use Rattle.filing_rules.specs.Rules.{first_broken, lines_of};
+ghost use Rattle.aid_types.specs.Ranges.{IsBetween};
 ghost use Rattle.aid_filings.specs.declared.filing.What.TheVariants.{Enrol, Originate, Repay, Adjust};
+ghost use Rattle.filing_rules.specs.InRange.{AreFactsInRange};
+ghost use Rattle.filing_rules.specs.Rules.{first_broken as first_broken_of, lines_of, rule_33 as rule_33_of};
 
+use crate::check::{Check, first_broken, over, stands, where_true};
 use crate::facts::Facts;
 use crate::limits::payment_at;
-use crate::refusal::{
-    broken_by_application, broken_by_cents, broken_by_school, broken_by_term, broken_by_withdrawn,
-    refused,
-};
+use crate::rules::{rule_12, rule_30, rule_31, rule_34, rule_71, rule_90};
 use aid_filings::{Amount, EnrolFacts, OriginateFacts};
 use aid_types::{Refusal, School};
 
 /// The most credits of a student in a term: the office's own.
 const MOST_CREDITS: u8 = 40;
 
-/// The first broken rule of a student's credits in a term.
+/// The first broken rule of a student's credits in a term. What the new credits would pay is computed for credits in range,
+/// at a school on file.
 pub(crate) fn broken_enrolment(f: &Facts, school: School, enrolment: &EnrolFacts) -> Option<Refusal>
     requires { AreFactsInRange f.now }
-    ensures { result ≡ first_broken (lines_of f.now school (Enrol enrolment.now)) }
+    ensures { result ≡ first_broken_of (lines_of f.now school (Enrol enrolment.now)) }
 {
-    if let Some(refusal) = broken_by_school(f, school) {
-        return Some(refusal);
-    }
-    if let Some(refusal) = broken_by_term(f, enrolment.term) {
-        return Some(refusal);
-    }
-    if enrolment.credits == 0 || enrolment.credits > MOST_CREDITS {
-        return refused(32, u64::from(enrolment.credits), u64::from(MOST_CREDITS));
-    }
-    if let Some(refusal) = broken_by_withdrawn(f, enrolment.term) {
-        return Some(refusal);
-    }
-    let payment = payment_at(f.scheduled, enrolment.credits, f.full, f.terms);
-    if f.pell_term > payment {
-        return refused(33, f.pell_term, payment);
-    }
-    None
+    let credits = enrolment.credits;
+    let is_out_of_range = credits == 0 || credits > MOST_CREDITS;
+    first_broken(&[
+        rule_90(f),
+        rule_12(f, school),
+        rule_30(f, enrolment.term),
+        where_true(
+            32,
+            is_out_of_range,
+            u64::from(credits),
+            u64::from(MOST_CREDITS),
+        ),
+        rule_34(f, enrolment.term),
+    ])
+    .or_else(|| first_broken(&[rule_33(f, credits)]))
+}
+
+/// More Pell is paid than the new credits give.
+fn rule_33(f: &Facts, credits: u8) -> Check
+    requires facts { AreFactsInRange f.now }
+    requires on_file { f.now.school_at ≡ 0 → ⊥ }
+    requires credits { IsBetween 1 40 credits }
+    ensures { result ≡ rule_33_of f.now credits }
+{
+    over(
+        33,
+        f.pell_term,
+        payment_at(f.scheduled, credits, f.full, f.terms),
+    )
 }
 
 /// The first broken rule of a student's cost of attendance in a year.
@@ -46,58 +58,42 @@ pub(crate) fn broken_origination(
     school: School,
     origination: &OriginateFacts,
 ) -> Option<Refusal>
-    ensures { result ≡ first_broken (lines_of f.now school (Originate origination.now)) }
+    ensures { result ≡ first_broken_of (lines_of f.now school (Originate origination.now)) }
 {
-    if let Some(refusal) = broken_by_school(f, school) {
-        return Some(refusal);
-    }
-    if let Some(refusal) = broken_by_application(f, origination.student, origination.year) {
-        return Some(refusal);
-    }
-    if f.cost_at > 0 {
-        return refused(41, u64::from(f.cost_at), u64::from(origination.year.0));
-    }
-    if origination.cost == 0 {
-        return refused(42, 0, 1);
-    }
-    None
+    let year = origination.year;
+    first_broken(&[
+        rule_90(f),
+        rule_12(f, school),
+        rule_31(f, origination.student, year),
+        stands(41, f.cost_at, u64::from(year.0)),
+        where_true(42, origination.cost == 0, 0, 1),
+    ])
 }
 
 /// The first broken rule of a grant repayment by a student.
 pub(crate) fn broken_repayment(f: &Facts, school: School, repayment: &Amount) -> Option<Refusal>
     requires { AreFactsInRange f.now }
-    ensures { result ≡ first_broken (lines_of f.now school (Repay repayment.now)) }
+    ensures { result ≡ first_broken_of (lines_of f.now school (Repay repayment.now)) }
 {
-    if let Some(refusal) = broken_by_school(f, school) {
-        return Some(refusal);
-    }
-    if let Some(refusal) = broken_by_cents(repayment.cents) {
-        return Some(refusal);
-    }
-    if f.repaid + repayment.cents > f.owed {
-        return refused(70, f.repaid + repayment.cents, f.owed);
-    }
-    None
+    let cents = repayment.cents;
+    first_broken(&[
+        rule_90(f),
+        rule_12(f, school),
+        rule_71(cents),
+        over(70, f.repaid + cents, f.owed),
+    ])
 }
 
 /// The first broken rule of a downward adjustment.
 pub(crate) fn broken_adjustment(f: &Facts, school: School, adjustment: &Amount) -> Option<Refusal>
-    ensures { result ≡ first_broken (lines_of f.now school (Adjust adjustment.now)) }
+    ensures { result ≡ first_broken_of (lines_of f.now school (Adjust adjustment.now)) }
 {
-    if let Some(refusal) = broken_by_school(f, school) {
-        return Some(refusal);
-    }
-    if let Some(refusal) = broken_by_term(f, adjustment.term) {
-        return Some(refusal);
-    }
-    if let Some(refusal) = broken_by_cents(adjustment.cents) {
-        return Some(refusal);
-    }
-    if let Some(refusal) = broken_by_withdrawn(f, adjustment.term) {
-        return Some(refusal);
-    }
-    if adjustment.cents > f.net {
-        return refused(72, adjustment.cents, f.net);
-    }
-    None
+    first_broken(&[
+        rule_90(f),
+        rule_12(f, school),
+        rule_30(f, adjustment.term),
+        rule_71(adjustment.cents),
+        rule_34(f, adjustment.term),
+        over(72, adjustment.cents, f.net),
+    ])
 }

@@ -1,0 +1,99 @@
+//! The rules that several kinds of filings share.
+ghost use Rattle.std.specs.Prelude.{◌≡◌, IsNone};
+ghost use Rattle.filing_rules.specs.Rules.{
+  first_broken as first_broken_of,
+  not_enrolled as not_enrolled_of,
+  rule_12 as rule_12_of,
+  rule_14 as rule_14_of,
+  rule_30 as rule_30_of,
+  rule_31 as rule_31_of,
+  rule_34 as rule_34_of,
+  rule_71 as rule_71_of,
+  rule_90 as rule_90_of,
+  standing_lines,
+};
+
+use crate::check::{Check, first_broken, lacks, over, stands, where_true};
+use crate::facts::Facts;
+use aid_types::{Refusal, School, Student, Year};
+
+/// The greatest number of filings that an office holds: the office's own.
+pub const MOST_FILINGS: u32 = 200_000;
+
+/// The office is full.
+pub(crate) fn rule_90(f: &Facts) -> Check
+    ensures { result ≡ rule_90_of f.now }
+{
+    let most = u64::from(MOST_FILINGS);
+    where_true(90, f.filings >= MOST_FILINGS, most, most)
+}
+
+/// The school is unknown.
+pub(crate) fn rule_12(f: &Facts, school: School) -> Check
+    ensures { result ≡ rule_12_of f.now school }
+{
+    lacks(12, f.school_at, u64::from(school.0), 0)
+}
+
+/// The office's own desk alone files this.
+pub(crate) fn rule_14(school: School) -> Check
+    ensures { result ≡ rule_14_of school }
+{
+    over(14, u64::from(school.0), 0)
+}
+
+/// The school has no such term on file.
+pub(crate) fn rule_30(f: &Facts, number: u8) -> Check
+    ensures { result ≡ rule_30_of f.now number }
+{
+    lacks(30, f.term_at, u64::from(number), 0)
+}
+
+/// The student has no application of the year on file.
+pub(crate) fn rule_31(f: &Facts, student: Student, year: Year) -> Check
+    ensures { result ≡ rule_31_of f.now student year }
+{
+    lacks(31, f.transaction, student.0, u64::from(year.0))
+}
+
+/// The student has withdrawn from the term.
+pub(crate) fn rule_34(f: &Facts, number: u8) -> Check
+    ensures { result ≡ rule_34_of f.now number }
+{
+    stands(34, f.withdrawn_at, u64::from(number))
+}
+
+/// The student isn't enrolled in the term, told under this rule.
+pub(crate) fn not_enrolled(rule: u16, f: &Facts, student: Student, term: u8) -> Check
+    ensures { result ≡ not_enrolled_of rule f.now student term }
+{
+    lacks(rule, u32::from(f.credits), student.0, u64::from(term))
+}
+
+/// There is no amount.
+pub(crate) fn rule_71(cents: u64) -> Check
+    ensures { result ≡ rule_71_of cents }
+{
+    where_true(71, cents == 0, 0, 1)
+}
+
+/// The first broken rule of a payment and of a withdrawal alike, on what is on file of the school, the term and the student:
+/// last, rule 50 on the cost of attendance there.
+pub(crate) fn broken_by_standing(
+    f: &Facts,
+    school: School,
+    student: Student,
+    year: Year,
+    term: u8,
+) -> Option<Refusal>
+    ensures value { result ≡ first_broken_of (standing_lines f.now school student year term) }
+    ensures on_file { IsNone result → f.now.school_at ≡ 0 → ⊥ }
+{
+    first_broken(&[
+        rule_90(f),
+        rule_12(f, school),
+        rule_30(f, term),
+        rule_31(f, student, year),
+        lacks(50, f.cost_at, student.0, u64::from(school.0)),
+    ])
+}
