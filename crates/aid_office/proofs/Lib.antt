@@ -1,3 +1,4 @@
 pub mod Complete
 pub mod Ending
 pub mod Images
+pub mod Shown

@@ -94,6 +94,13 @@ pub record HasCause (counts : Counts) (ended : Result Unit RunStop) (status : �
   pub disk : Moved (is_disk_fault ended) counts.disk
   pub sink : Moved (status == 4) counts.sink
 
+-- What a status shows of the counts: the sink's rose exactly at 4; and at every other status the source's exactly at 3, and the
+-- disk's exactly at 5.
+pub record Shows (counts : Counts) (status : ℕ) : Type 0 where
+  pub sink : Moved (status == 4) counts.sink
+  pub source : (status == 4) ≡ false → Moved (status == 3) counts.source
+  pub disk : (status == 4) ≡ false → Moved (status == 5) counts.disk
+
 -- A run with these words over a disk.
 pub data Ran {D : Type 0} (disk : Ghosts D) (counts : Counts) (words : List (List ℕ)) (old new : D) (input : Input) (output : Output) : ℕ → Type 0 where
   -- the words are no row: nothing is read, and no call is made on the disk
@@ -112,7 +119,7 @@ reads_input Found = false
 reads_input (Quote quote) = false
 reads_input _ = true
 
--- A command can be done: its input isn't too long, and the file is one for it. (`honest` and `length` are those of the source.)
+-- A command can be done: its source is honest and has not too many bytes, and the file is one for it.
 abbrev pub IsShort : Bool → ℕ → Type 0
 IsShort honest size = IsTrue honest × (size ≤ 16777216)
 

@@ -113,7 +113,10 @@ fn main(rt: HostRuntime) -> ExitCode {
             return ExitCode::from(end(Err(stop), &mut out));
         }
         // A word that is no text is no row of words.
-        Err(_) => return ExitCode::from(end(Err(RunStop::Usage), &mut out)),
+        Err(_) => {
+            say(&rt, USAGE);
+            return ExitCode::from(end(Err(RunStop::Usage), &mut out));
+        }
     };
     if words.is_empty() {
         say(&rt, USAGE);

@@ -48,16 +48,15 @@ impl Rows<FiledOffice> for QuoteRow {
     }
 
     fn next(&mut self) -> Result<Option<Result<Ask, RowError>>, AllocError> {
-        Ok(
-            self.quote.take().map(|quote| {
-                Ok(Ask::Quote {
-                    school: quote.school,
-                    student: quote.student,
-                    year: quote.year,
-                    term: quote.term,
-                })
-            }),
-        )
+        match self.quote.take() {
+            Some(quote) => Ok(Some(Ok(Ask::Quote {
+                school: quote.school,
+                student: quote.student,
+                year: quote.year,
+                term: quote.term,
+            }))),
+            None => Ok(None),
+        }
     }
 
     fn put_answer(

@@ -1,5 +1,5 @@
 //! A run of the program: its words, its input, its journal, what it writes, and its status.
-ghost use Rattle.std.specs.Prelude.{◌≡◌, ◌≢◌, ◌⊎◌, ◌≤◌, ◌↔◌, ◌==◌, [], ℕ, false, List, Err, IfErr, IfOk, IsOk, IsTrue, OnOk, length, map, string_bytes};
+ghost use Rattle.std.specs.Prelude.{◌≡◌, ◌⊎◌, ◌≤◌, ◌↔◌, ℕ, false, List, Err, IfErr, IsOk, length, map, string_bytes};
 ghost use Rattle.aid_filings.specs.declared.filing.Filing.{Filing};
 ghost use Rattle.aid_edges.specs.Faults.{Rose};
 ghost use Rattle.disk_model.specs.Telling.{EachImage, EachMoment, IsHonest};
@@ -8,7 +8,7 @@ ghost use Rattle.office_history.specs.Within.{IsWithinEveryLimit};
 ghost use Rattle.office_words.specs.Words.{words_of};
 ghost use Rattle.office_words.specs.declared.command.Command.{Command as CommandData};
 ghost use Rattle.aid_office.specs.Moments.{MayRecover, Stands, StoodBefore};
-ghost use Rattle.aid_office.specs.Ran.{CanBeDone, Does, Ends, HasCause, Moved, Ran, reads_input};
+ghost use Rattle.aid_office.specs.Ran.{CanBeDone, Does, Ends, Moved, Ran, Shows, reads_input};
 ghost use Rattle.aid_office.specs.Statuses.{is_disk_fault, is_read_fault, is_write_fault, status_of};
 
 use crate::book::BookForms;
@@ -140,11 +140,8 @@ pub fn run<D: Disk, S: Source, K: Sink>(
     ensures within { (file : List ℕ) (history : List Filing) → Recovers file history → IsWithinEveryLimit history }
 
     // 3, 4 and 5 come only where the count of the source, the sink or the disk rose, and no fault is passed over.
-    ensures read_fault { result.0 ≡ 3 → Rose (S.faults input.old) (S.faults input.new) }
-    ensures write_fault { Moved (result.0 == 4) (K.faults out.old, K.faults out.new) }
-    ensures disk_fault { result.0 ≡ 5 → Rose (D.faults disk) (D.faults result.1) }
-    ensures source_unmoved { result.0 ≢ 3 → result.0 ≢ 4 → S.faults input.new ≡ S.faults input.old }
-    ensures disk_unmoved { result.0 ≢ 5 → result.0 ≢ 4 → D.faults result.1 ≡ D.faults disk }
+    ensures shows { Shows
+        (record { source = (S.faults input.old, S.faults input.new); sink = (K.faults out.old, K.faults out.new); disk = (D.faults disk, D.faults result.1) }) result.0 }
 
     // Where no count rose, a command that can be done is done, if there is memory.
     ensures complete { (command : CommandData) → map string_bytes words.now.items ≡ words_of command

@@ -1,5 +1,5 @@
 use Rattle.std.proofs.Common.{◌≡◌, ◌∙◌, ap, arith, Global, length, map, refl, string_bytes, subst, sym, Err}
-use Rattle.disk_model.specs.Telling.{EachImage, EachMoment}
+use Rattle.disk_model.specs.Telling.{EachMoment}
 use Rattle.office_history.proofs.LegalWithin.{legal_within}
 use Rattle.office_words.specs.declared.command.Command.{Command}
 use Rattle.aid_office.specs.Moments.{MayRecover, Stands, StoodBefore}
@@ -8,6 +8,7 @@ use Rattle.aid_office.specs.declared.stop.RunStop.TheVariants as stops
 use Rattle.aid_office.proofs.Complete.{complete}
 use Rattle.aid_office.proofs.Ending.{done_at, ends_as, sink_moved, stood}
 use Rattle.aid_office.proofs.Images.{moments, stands}
+use Rattle.aid_office.proofs.Shown.{run_shows}
 use Rattle.aid_office.proofs.run.run.Goals as goal
 
 pub returns-in-Some-clause-ran : goal.returns-in-Some-clause-ran
@@ -87,3 +88,30 @@ returns-in-None-clause-ran g c =
 
 pub returns-in-None-clause-within : goal.returns-in-None-clause-within
 returns-in-None-clause-within g c file history is = legal_within history is.legal
+
+pub returns-in-Some-clause-shows : goal.returns-in-Some-clause-shows
+returns-in-Some-clause-shows g c =
+    let done = c.do_command-ended in
+    run_shows g.D.Disk
+    (record {
+      source = (g.S.Source.faults c.args.input.now, g.S.Source.faults done.new.input);
+      sink = (g.K.Sink.faults c.args.out.now, g.K.Sink.faults c.end.new.out);
+      disk = (g.D.Disk.faults c.args.disk, g.D.Disk.faults done.result.1);
+    })
+    (map (string_bytes {Z = Global}) c.args.words.now.items) c.args.disk done.result.1
+    (record { honest = g.S.Source.honest c.args.input.now; before = g.S.Source.left c.args.input.now; after = g.S.Source.left done.new.input })
+    (record { honest = g.K.Sink.honest c.args.out.now; before = g.K.Sink.text c.args.out.now; after = g.K.Sink.text c.end.new.out })
+    c.end.result (returns-in-Some-clause-ran g c)
+
+pub returns-in-None-clause-shows : goal.returns-in-None-clause-shows
+returns-in-None-clause-shows g c =
+    run_shows g.D.Disk
+    (record {
+      source = (g.S.Source.faults c.args.input.now, g.S.Source.faults c.args.input.now);
+      sink = (g.K.Sink.faults c.args.out.now, g.K.Sink.faults c.end-in-None.new.out);
+      disk = (g.D.Disk.faults c.args.disk, g.D.Disk.faults c.args.disk);
+    })
+    (map (string_bytes {Z = Global}) c.args.words.now.items) c.args.disk c.args.disk
+    (record { honest = g.S.Source.honest c.args.input.now; before = g.S.Source.left c.args.input.now; after = g.S.Source.left c.args.input.now })
+    (record { honest = g.K.Sink.honest c.args.out.now; before = g.K.Sink.text c.args.out.now; after = g.K.Sink.text c.end-in-None.new.out })
+    c.end-in-None.result (returns-in-None-clause-ran g c)
