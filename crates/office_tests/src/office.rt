@@ -1,9 +1,6 @@
 //! An office that goes through steps.
 ghost use Rattle.std.specs.Prelude.{◌≡◌, ◌<◌};
 
-use crate::answers::Answer::{self, Greatest, Noted};
-use crate::filings::Filed::{self, Book, Enrol, Exempt, Extra, Main, Originate, School};
-use crate::filings::{filing, numbered, what};
 use aid_filings::Filing;
 use aid_replies::{Ask, Outcome, StandingRow, Verdict};
 use aid_types::{Program, School as SchoolCode, Year};
@@ -14,6 +11,9 @@ use std::process::Abort;
 use std::sync::ledger::{Blank, Ledger};
 use std::test::Fail;
 use steps::Steps;
+use worked_filings::Answer::{self, Greatest, Noted};
+use worked_filings::Filed::{self, Book, Enrol, Exempt, Extra, Main, Originate, School};
+use worked_filings::{filing, numbered, what};
 
 /// A step, in small numbers; amounts are in cents.
 #[derive(Clone, Copy)]

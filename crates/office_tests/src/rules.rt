@@ -1,16 +1,16 @@
 //! Each rule from both sides: a filing that breaks it, with what is kept and what bounds it, and its neighbour that doesn't.
 //! An office begins with the nine filings of `base`, so the first that it takes has position 10.
-use crate::answers::Answer::{Again, Greatest, Indexed, Noted, Paid, Refused, Returned};
-use crate::filings::Filed::{
-    Adjust, Apply, Book, Enrol, Exempt, Extra, Graduate, Household, Main, Originate, Pay, Prior,
-    Repay, School, TwiceBroken, Withdraw,
-};
 use crate::office::Step::{self, File};
 use crate::office::{BASE, assert_each};
 use aid_replies::Outcome;
 use aid_types::Program::{Fseog, Pell, Sub, Teach, Unsub};
 use aid_types::Way;
 use std::test::Fail;
+use worked_filings::Answer::{Again, Greatest, Indexed, Noted, Paid, Refused, Returned};
+use worked_filings::Filed::{
+    Adjust, Apply, Book, Enrol, Exempt, Extra, Graduate, Household, Main, Originate, Pay, Prior,
+    Repay, School, TwiceBroken, Withdraw,
+};
 
 #[test]
 fn each_rule(rt: HostRuntime) -> Result<(), Fail> {

@@ -1,14 +1,14 @@
 //! Where more than one term breaks a rule at once, the least by school code and then term number is told, in whichever order
 //! the terms were filed.
-use crate::answers::Answer::{Greatest, Indexed, Noted, Paid, Refused};
-use crate::filings::Filed::{
-    Adjust, Apply, Book, Enrol, Exempt, Extra, Main, Originate, Pay, School,
-};
 use crate::office::Step::{self, File};
 use crate::office::assert_each;
 use aid_types::Program::Pell;
 use aid_types::Way;
 use std::test::Fail;
+use worked_filings::Answer::{Greatest, Indexed, Noted, Paid, Refused};
+use worked_filings::Filed::{
+    Adjust, Apply, Book, Enrol, Exempt, Extra, Main, Originate, Pay, School,
+};
 
 #[test]
 fn terms_over_their_payment(rt: HostRuntime) -> Result<(), Fail> {

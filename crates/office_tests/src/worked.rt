@@ -1,10 +1,10 @@
 //! Payments, quotes and withdrawals worked by hand, of a student whose Scheduled Award is 7,395 dollars.
-use crate::answers::Answer::{Greatest, Noted, Paid, Refused, Returned};
-use crate::filings::Filed::{Adjust, Enrol, Exempt, Extra, Originate, Pay, Prior, Withdraw};
 use crate::office::Step::{self, File, Net, Quote};
 use crate::office::{BASE, assert_each};
 use aid_types::Program::{Pell, Unsub};
 use std::test::Fail;
+use worked_filings::Answer::{Greatest, Noted, Paid, Refused, Returned};
+use worked_filings::Filed::{Adjust, Enrol, Exempt, Extra, Originate, Pay, Prior, Withdraw};
 
 #[test]
 fn worked_rows(rt: HostRuntime) -> Result<(), Fail> {

@@ -1,14 +1,14 @@
 //! An award year: a student enrols at two schools whose terms overlap, is paid at both, and withdraws from the second.
-use crate::answers::Answer::{Again, Indexed, Noted, Paid, Refused, Returned};
-use crate::filings::Filed::{
-    Apply, Book, Broken, Enrol, Main, Originate, Pay, Prior, Repay, School, Withdraw,
-};
 use crate::office::Step::{self, Brought, File, Front, Net, Standing, Stands};
 use crate::office::assert_each;
 use aid_replies::{Outcome, StandingRow};
 use aid_types::Program::{Pell, Unsub};
 use aid_types::{Formula, Way};
 use std::test::Fail;
+use worked_filings::Answer::{Again, Indexed, Noted, Paid, Refused, Returned};
+use worked_filings::Filed::{
+    Apply, Book, Broken, Enrol, Main, Originate, Pay, Prior, Repay, School, Withdraw,
+};
 
 const AWARD_YEAR: [Step; 32] = [
     // The book, two schools and their terms, of which only the first has a break.

@@ -20,7 +20,7 @@ const YEAR: u16 = 2025;
 /// What a row files. A student and a year are their numbers, a day is its number since 1970-01-01, an amount is in cents,
 /// and an income or a cost in dollars. All but some books, terms and applications are of award year 2025.
 #[derive(Clone, Copy)]
-pub(crate) enum Filed {
+pub enum Filed {
     /// The specimen book as that of a year.
     Book(u16),
     /// A school with 12 full-time credits: its code and its main terms.
@@ -60,7 +60,7 @@ pub(crate) enum Filed {
 }
 
 /// What a school files under a number, or the office's own desk, which is school 0.
-pub(crate) fn filing(rt: &impl Abort, school: u16, number: u32, what: What) -> Filing {
+pub fn filing(rt: &impl Abort, school: u16, number: u32, what: What) -> Filing {
     assert!(rt; number > 0);
     Filing {
         key: Key {
@@ -72,7 +72,7 @@ pub(crate) fn filing(rt: &impl Abort, school: u16, number: u32, what: What) -> F
 }
 
 /// What a row files.
-pub(crate) fn what(rt: &impl Abort, alloc: Global, filed: Filed) -> Result<What, AllocError> {
+pub fn what(rt: &impl Abort, alloc: Global, filed: Filed) -> Result<What, AllocError> {
     Ok(match filed {
         Filed::Book(year) => return book(rt, alloc, year),
         Filed::School(code, terms) => school(rt, code, terms),
@@ -126,7 +126,7 @@ pub(crate) fn what(rt: &impl Abort, alloc: Global, filed: Filed) -> Result<What,
 }
 
 // A student, whose number isn't 0.
-pub(crate) fn numbered(rt: &impl Abort, student: u16) -> Student {
+pub fn numbered(rt: &impl Abort, student: u16) -> Student {
     assert!(rt; student > 0);
     Student(u64::from(student))
 }

@@ -1,8 +1,5 @@
 //! What stands in plain lists of filings, and what is answered on them. School 110 files beside school 120, and student 5001
 //! used 550,000 units before this office.
-use crate::answers::Answer::{self, Noted, Refused};
-use crate::filings::Filed::{self, Enrol, Extra, Main, Originate, Prior, School as Opens};
-use crate::filings::{filing, what};
 use aid_filings::{Filing, WithdrawFacts};
 use aid_replies::{Outcome, Verdict};
 use aid_types::{Breaks, ByProgram, Day, Key, Program, School, Student, Term, Year};
@@ -16,6 +13,9 @@ use on_file::{
 use std::alloc::Global;
 use std::process::Abort;
 use std::test::Fail;
+use worked_filings::Answer::{self, Noted, Refused};
+use worked_filings::Filed::{self, Enrol, Extra, Main, Originate, Prior, School as Opens};
+use worked_filings::{filing, what};
 
 const SCHOOL: School = School(110);
 

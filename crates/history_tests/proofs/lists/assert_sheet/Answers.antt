@@ -2,7 +2,7 @@ use Rattle.std.proofs.Common.{sym, arith, rules}
 use Rattle.std.specs.Prelude.{reverse}
 use Rattle.office_history.specs.Answer.{IsLegal}
 use Rattle.office_history.proofs.Lawful.{term_is_lawful}
-use Rattle.office_tests.proofs.lists.assert_sheet.Goals as goal
+use Rattle.history_tests.proofs.lists.assert_sheet.Goals as goal
 
 pub sheet-lines-requires-clause-worked_out : goal.sheet-lines-requires-clause-worked_out
 sheet-lines-requires-clause-worked_out g c =

@@ -4,7 +4,7 @@ use aid_types::{Formula, Refusal, Way};
 
 /// What a row is answered, amounts in cents and awards in dollars.
 #[derive(Clone, Copy)]
-pub(crate) enum Answer {
+pub enum Answer {
     /// It is admitted, with nothing to say.
     Noted,
     /// A dependent student's application is admitted: the index, the way to the award, and the Scheduled Award.
@@ -24,7 +24,7 @@ pub(crate) enum Answer {
 
 impl Answer {
     /// The office's verdict.
-    pub(crate) fn verdict(self) -> Verdict {
+    pub fn verdict(self) -> Verdict {
         match self {
             Answer::Noted => Verdict::Admit(Outcome::Noted),
             Answer::Indexed(sai, way, scheduled) => indexed(sai, way, scheduled),
