@@ -56,8 +56,8 @@ impl Policies {
     }
 }
 
-/// The office's two policies, `level` and `quarter`, whose rules are those of this crate: their boxes are the caller's, who sees
-/// what is in them.
+/// Two policies, named `level` and `quarter` as the office's own. What their boxes hold is the caller's to see to: a contract of
+/// this crate knows of a box only that it keeps to `IsAwardRule`.
 pub fn standard(alloc: Global, level: Rule, quarter: Rule) -> Result<Policies, AllocError>
     requires level { IsAwardRule (Rule.pre level) (Rule.post level) }
     requires quarter { IsAwardRule (Rule.pre quarter) (Rule.post quarter) }
