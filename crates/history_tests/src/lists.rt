@@ -31,7 +31,7 @@ const YEAR: Year = Year(2025);
 fn list(rt: &impl Abort, alloc: Global, rows: &[(u16, u32, Filed)]) -> Result<Vec<Filing>, Fail> {
     let mut filings = Vec::new(alloc);
     for &(school, number, filed) in rows {
-        filings.push(filing(rt, school, number, what(rt, alloc, filed)?))?;
+        filings.push(filing(school, number, what(alloc, filed)?)?)?;
     }
     Ok(filings)
 }
@@ -145,7 +145,7 @@ fn answers_after_two_filings(rt: HostRuntime) -> Result<(), Fail> {
 fn assert_judged(rt: &impl Abort, alloc: Global, history: &[Filing]) -> Result<(), Fail> {
     assert!(rt; history.len() < 100 && is_legal(history));
     for (school, number, filed, wanted) in JUDGED {
-        let filing = filing(rt, school, number, what(rt, alloc, filed)?);
+        let filing = filing(school, number, what(alloc, filed)?)?;
         assert_eq!(rt;
             answer(history, &filing),
             wanted.verdict(),

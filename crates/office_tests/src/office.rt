@@ -13,7 +13,7 @@ use std::test::Fail;
 use steps::Steps;
 use worked_filings::Answer::{self, Greatest, Noted};
 use worked_filings::Filed::{self, Book, Enrol, Exempt, Extra, Main, Originate, School};
-use worked_filings::{filing, numbered, what};
+use worked_filings::{Unfiled, filing, numbered, what};
 
 /// A step, in small numbers; amounts are in cents.
 #[derive(Clone, Copy)]
@@ -95,7 +95,7 @@ fn assert_steps<L: Ledger>(
     for &step in steps {
         match step {
             File(school, number, filed, answer) => {
-                let filing = filing(rt, school, number, what(rt, alloc, filed)?);
+                let filing = filing(school, number, what(alloc, filed)?)?;
                 let verdict = file(office, filing)?;
                 assert_eq!(rt;
                     verdict,
@@ -131,21 +131,21 @@ fn assert_asked<L: Ledger>(
     match step {
         File(..) => {}
         Step::Quote(school, student, term, cents) => {
-            let verdict = office.ask(&quote(rt, school, student, term), looks);
+            let verdict = office.ask(&quote(school, student, term)?, looks);
             assert_eq!(rt; verdict, Verdict::Quoted(cents), "{name}: in term {term}");
         }
         Step::Standing(student, row) => {
-            let verdict = office.ask(&standing(rt, student), looks);
+            let verdict = office.ask(&standing(student)?, looks);
             assert_eq!(rt; verdict, Verdict::Standing(row), "{name}");
         }
         Step::Net(school, student, term, program, cents) => {
-            let net = net(rt, office, school, student, term, program);
+            let net = net(office, school, student, term, program)?;
             assert_eq!(rt; net, cents, "{name}: at {school} in term {term}");
         }
         Step::Front(front) => assert_eq!(rt; office.front(), front, "{name}"),
         Step::Stands(position, None) => assert!(rt; office.filing(position).is_none(), "{name}"),
         Step::Stands(position, Some((school, number, filed))) => {
-            let filing = filing(rt, school, number, what(rt, alloc, filed)?);
+            let filing = filing(school, number, what(alloc, filed)?)?;
             assert_eq!(rt; office.filing(position), Some(&filing), "{name}");
         }
         Step::Brought(position, outcome) => {
@@ -155,31 +155,30 @@ fn assert_asked<L: Ledger>(
     Ok(())
 }
 
-fn quote(rt: &impl Abort, school: u16, student: u16, term: u8) -> Ask {
-    Ask::Quote {
+fn quote(school: u16, student: u16, term: u8) -> Result<Ask, Unfiled> {
+    Ok(Ask::Quote {
         school: SchoolCode(u32::from(school)),
-        student: numbered(rt, student),
+        student: numbered(student)?,
         year: Year(2025),
         term,
-    }
+    })
 }
 
-fn standing(rt: &impl Abort, student: u16) -> Ask {
-    Ask::Standing {
-        student: numbered(rt, student),
+fn standing(student: u16) -> Result<Ask, Unfiled> {
+    Ok(Ask::Standing {
+        student: numbered(student)?,
         year: Year(2025),
-    }
+    })
 }
 
 // The net cents of a program in a term of a school.
 fn net(
-    rt: &impl Abort,
     office: &Office,
     school: u16,
     student: u16,
     term: u8,
     program: Program,
-) -> u64 {
+) -> Result<u64, Unfiled> {
     let code = SchoolCode(u32::from(school));
-    office.net(numbered(rt, student), code, Year(2025), term, program)
+    Ok(office.net(numbered(student)?, code, Year(2025), term, program))
 }

@@ -1,8 +1,8 @@
 //! Filings by rows of small numbers.
-ghost use Rattle.std.specs.Prelude.{◌≤◌};
+ghost use Rattle.std.specs.Prelude.{◌≡◌, ◌≤◌, IfOk, IsTrue, OnOk};
 ghost use Rattle.aid_types.specs.Ranges.{IsBetween};
 
-use aid_books::BoxedBook;
+use aid_books::{Book, BoxedBook};
 use aid_filings::{
     Amount, CalendarFacts, EnrolFacts, Filing, OriginateFacts, PriorFacts, SchoolFacts, What,
     WithdrawFacts,
@@ -12,7 +12,25 @@ use aid_types::{
 };
 use specimen::specimen_book;
 use std::alloc::{AllocError, Global};
-use std::process::Abort;
+
+/// Why a row is no filing.
+#[derive(Clone, Copy, Debug, PartialEq, Eq)]
+pub enum Unfiled {
+    /// A number is out of its range.
+    OutOfRange,
+    /// There is no memory.
+    NoMemory,
+}
+
+impl From<AllocError> for Unfiled {
+    ghost use Rattle.worked_filings.specs.declared.filings.Unfiled.TheVariants.{NoMemory};
+
+    ghost from_gives = { λ _ unfiled. unfiled ≡ NoMemory };
+
+    fn from(_: AllocError) -> Unfiled {
+        Unfiled::NoMemory
+    }
+}
 
 /// The award year of most filings.
 const YEAR: u16 = 2025;
@@ -60,116 +78,118 @@ pub enum Filed {
 }
 
 /// What a school files under a number, or the office's own desk, which is school 0.
-pub fn filing(rt: &impl Abort, school: u16, number: u32, what: What) -> Filing {
-    assert!(rt; number > 0);
-    Filing {
+pub fn filing(school: u16, number: u32, what: What) -> Result<Filing, Unfiled> {
+    in_range(number > 0)?;
+    Ok(Filing {
         key: Key {
             school: School(u32::from(school)),
             number: u64::from(number),
         },
         what,
-    }
-}
-
-/// What a row files.
-pub fn what(rt: &impl Abort, alloc: Global, filed: Filed) -> Result<What, AllocError> {
-    Ok(match filed {
-        Filed::Book(year) => return book(rt, alloc, year),
-        Filed::School(code, terms) => school(rt, code, terms),
-        Filed::Main(year, term, first, last) => main_term(
-            rt,
-            year,
-            term,
-            (first, last),
-            Breaks::new(),
-        ),
-        Filed::Broken(term, days, pause) => main_term(rt, YEAR, term, days, one_break(pause)),
-        Filed::Extra(term, first, last) => extra_term(rt, term, (first, last), Breaks::new()),
-        Filed::TwiceBroken(term, days, early, late) => extra_term(
-            rt,
-            term,
-            days,
-            two_breaks(early, late),
-        ),
-        Filed::Prior(student, units) => prior(rt, student, units),
-        Filed::Apply(student, transaction, agi) => What::Apply(application(
-            rt,
-            student,
-            transaction,
-            agi,
-        )),
-        Filed::Graduate(student, transaction, agi) => What::Apply(graduate(
-            rt,
-            student,
-            transaction,
-            agi,
-        )),
-        Filed::Exempt(student, transaction) => What::Apply(exempt(rt, student, transaction)),
-        Filed::Household(student, year, birth_year, family) => What::Apply(household(
-            rt, student, year, birth_year, family,
-        )),
-        Filed::Enrol(student, term, credits) => enrol(rt, student, term, credits),
-        Filed::Originate(student, cost) => originate(rt, student, cost),
-        Filed::Pay(student, term, program, cents) => What::Pay(amount(
-            rt, student, term, program, cents,
-        )),
-        Filed::Repay(student, term, program, cents) => What::Repay(amount(
-            rt, student, term, program, cents,
-        )),
-        Filed::Adjust(student, term, program, cents) => What::Adjust(amount(
-            rt, student, term, program, cents,
-        )),
-        Filed::Withdraw(student, term, days, charges, could) => withdraw(
-            rt, student, term, days, charges, could,
-        ),
     })
 }
 
-// A student, whose number isn't 0.
-pub fn numbered(rt: &impl Abort, student: u16) -> Student {
-    assert!(rt; student > 0);
-    Student(u64::from(student))
+/// What a row files.
+pub fn what(alloc: Global, filed: Filed) -> Result<What, Unfiled> {
+    match filed {
+        Filed::Book(year) => book(alloc, year),
+        Filed::School(code, terms) => school(code, terms),
+        Filed::Main(year, number, first, last) => {
+            main_term(year, number, (first, last), Breaks::new())
+        }
+        Filed::Broken(number, days, pause) => main_term(YEAR, number, days, one_break(pause)),
+        Filed::Extra(number, first, last) => extra_term(number, (first, last), Breaks::new()),
+        Filed::TwiceBroken(number, days, early, late) => {
+            extra_term(number, days, two_breaks(early, late))
+        }
+        Filed::Prior(student, units) => prior(student, units),
+        Filed::Apply(student, transaction, agi) => {
+            Ok(What::Apply(application(student, transaction, agi)?))
+        }
+        Filed::Graduate(student, transaction, agi) => {
+            Ok(What::Apply(graduate(student, transaction, agi)?))
+        }
+        Filed::Exempt(student, transaction) => Ok(What::Apply(exempt(student, transaction)?)),
+        Filed::Household(student, year, birth_year, family) => {
+            Ok(What::Apply(household(student, year, birth_year, family)?))
+        }
+        Filed::Enrol(student, number, credits) => enrol(student, number, credits),
+        Filed::Originate(student, cost) => originate(student, cost),
+        Filed::Pay(student, number, program, cents) => {
+            Ok(What::Pay(amount(student, number, program, cents)?))
+        }
+        Filed::Repay(student, number, program, cents) => {
+            Ok(What::Repay(amount(student, number, program, cents)?))
+        }
+        Filed::Adjust(student, number, program, cents) => {
+            Ok(What::Adjust(amount(student, number, program, cents)?))
+        }
+        Filed::Withdraw(student, number, days, charges, could) => {
+            withdraw(student, number, days, charges, could)
+        }
+    }
+}
+
+// Whether a number fits, as an answer.
+fn in_range(fits: bool) -> Result<(), Unfiled>
+    ensures { OnOk result (IsTrue fits) }
+{
+    if fits {
+        Ok(())
+    } else {
+        Err(Unfiled::OutOfRange)
+    }
+}
+
+/// A student, whose number isn't 0.
+pub fn numbered(student: u16) -> Result<Student, Unfiled> {
+    in_range(student > 0)?;
+    Ok(Student(u64::from(student)))
 }
 
 // A term, of number 1 to 8.
-fn term(rt: &impl Abort, number: u8) -> u8
-    ensures { IsBetween 1 8 result }
+fn term(number: u8) -> Result<u8, Unfiled>
+    ensures { IfOk result (λ n. IsBetween 1 8 n) }
 {
-    assert!(rt; number >= 1 && number <= 8);
-    number
+    in_range(number >= 1 && number <= 8)?;
+    Ok(number)
 }
 
 // A year from 2000 to 2099.
-fn dated(rt: &impl Abort, year: u16) -> Year {
-    assert!(rt; year >= 2000 && year <= 2099);
-    Year(year)
+fn dated(year: u16) -> Result<Year, Unfiled> {
+    in_range(year >= 2000 && year <= 2099)?;
+    Ok(Year(year))
 }
 
 // Cents below a million dollars.
-fn within(rt: &impl Abort, cents: u32) -> u64
-    ensures { result ≤ 99999999 }
+fn within(cents: u32) -> Result<u64, Unfiled>
+    ensures { IfOk result (λ n. n ≤ 99999999) }
 {
-    assert!(rt; cents <= 99_999_999);
-    u64::from(cents)
+    in_range(cents <= 99_999_999)?;
+    Ok(u64::from(cents))
 }
 
 fn day(number: u16) -> Day {
     Day(i32::from(number))
 }
 
-fn book(rt: &impl Abort, alloc: Global, year: u16) -> Result<What, AllocError> {
+fn book(alloc: Global, year: u16) -> Result<What, Unfiled> {
     let mut book = specimen_book();
-    book.year = dated(rt, year);
+    book.year = dated(year)?;
+    Ok(boxed(alloc, book)?)
+}
+
+fn boxed(alloc: Global, book: Book) -> Result<What, AllocError> {
     Ok(What::Book(BoxedBook::new(Box::new(alloc, book)?)))
 }
 
-fn school(rt: &impl Abort, code: u16, terms: u8) -> What {
-    assert!(rt; code > 0 && terms >= 2 && terms <= 3);
-    What::School(SchoolFacts {
+fn school(code: u16, terms: u8) -> Result<What, Unfiled> {
+    in_range(code > 0 && terms >= 2 && terms <= 3)?;
+    Ok(What::School(SchoolFacts {
         code: u32::from(code),
         terms,
         full: 12,
-    })
+    }))
 }
 
 fn one_break(pause: (u16, u16)) -> Breaks {
@@ -185,38 +205,38 @@ fn two_breaks(early: (u16, u16), late: (u16, u16)) -> Breaks {
     breaks
 }
 
-fn main_term(rt: &impl Abort, year: u16, number: u8, days: (u16, u16), breaks: Breaks) -> What {
-    What::Calendar(CalendarFacts {
-        year: dated(rt, year),
-        term: term(rt, number),
+fn main_term(year: u16, number: u8, days: (u16, u16), breaks: Breaks) -> Result<What, Unfiled> {
+    Ok(What::Calendar(CalendarFacts {
+        year: dated(year)?,
+        term: term(number)?,
         extra: false,
         first: day(days.0),
         last: day(days.1),
         breaks,
-    })
+    }))
 }
 
-fn extra_term(rt: &impl Abort, number: u8, days: (u16, u16), breaks: Breaks) -> What {
-    What::Calendar(CalendarFacts {
+fn extra_term(number: u8, days: (u16, u16), breaks: Breaks) -> Result<What, Unfiled> {
+    Ok(What::Calendar(CalendarFacts {
         year: Year(YEAR),
-        term: term(rt, number),
+        term: term(number)?,
         extra: true,
         first: day(days.0),
         last: day(days.1),
         breaks,
-    })
+    }))
 }
 
-fn prior(rt: &impl Abort, student: u16, units: u32) -> What {
-    What::Prior(PriorFacts {
-        student: numbered(rt, student),
+fn prior(student: u16, units: u32) -> Result<What, Unfiled> {
+    Ok(What::Prior(PriorFacts {
+        student: numbered(student)?,
         units,
-    })
+    }))
 }
 
 // The parents' side: they earned 50,000 and 35,000 dollars.
-fn parents(rt: &impl Abort, agi: u32) -> Side {
-    assert!(rt; agi <= 1_000_000);
+fn parents(agi: u32) -> Result<Side, Unfiled> {
+    in_range(agi <= 1_000_000)?;
     let mut side = Side::EMPTY;
     side.agi = i64::from(agi);
     side.tax = 5200;
@@ -224,7 +244,7 @@ fn parents(rt: &impl Abort, agi: u32) -> Side {
     side.earned_second = 35_000;
     side.cash = 12_000;
     side.investments = 20_000;
-    side
+    Ok(side)
 }
 
 // The student's side: 6,000 dollars earned.
@@ -237,10 +257,10 @@ fn own() -> Side {
 }
 
 // The application of a dependent student, four in the family, whose parents had to file a return.
-fn application(rt: &impl Abort, student: u16, transaction: u8, agi: u32) -> Application {
-    assert!(rt; transaction >= 1 && transaction <= 99);
-    Application {
-        student: numbered(rt, student),
+fn application(student: u16, transaction: u8, agi: u32) -> Result<Application, Unfiled> {
+    in_range(transaction >= 1 && transaction <= 99)?;
+    Ok(Application {
+        student: numbered(student)?,
         year: Year(YEAR),
         transaction,
         birth_year: 2006,
@@ -261,82 +281,81 @@ fn application(rt: &impl Abort, student: u16, transaction: u8, agi: u32) -> Appl
         parents_married: true,
         parents_file: true,
         parent_age: 48,
-        parents: parents(rt, agi),
-    }
+        parents: parents(agi)?,
+    })
 }
 
-fn graduate(rt: &impl Abort, student: u16, transaction: u8, agi: u32) -> Application {
-    let mut a = application(rt, student, transaction, agi);
+fn graduate(student: u16, transaction: u8, agi: u32) -> Result<Application, Unfiled> {
+    let mut a = application(student, transaction, agi)?;
     a.bachelor = true;
-    a
+    Ok(a)
 }
 
-fn exempt(rt: &impl Abort, student: u16, transaction: u8) -> Application {
-    let mut a = application(rt, student, transaction, 0);
+fn exempt(student: u16, transaction: u8) -> Result<Application, Unfiled> {
+    let mut a = application(student, transaction, 0)?;
     a.parents_file = false;
-    a
+    Ok(a)
 }
 
-fn household(rt: &impl Abort, student: u16, year: u16, birth_year: u16, family: u8) -> Application {
-    assert!(rt; birth_year >= 1900 && birth_year <= 2099);
-    assert!(rt; family >= 1 && family <= 30);
-    let mut a = exempt(rt, student, 1);
-    a.year = dated(rt, year);
+fn household(student: u16, year: u16, birth_year: u16, family: u8) -> Result<Application, Unfiled> {
+    in_range(birth_year >= 1900 && birth_year <= 2099)?;
+    in_range(family >= 1 && family <= 30)?;
+    let mut a = exempt(student, 1)?;
+    a.year = dated(year)?;
     a.birth_year = birth_year;
     a.family = family;
-    a
+    Ok(a)
 }
 
-fn enrol(rt: &impl Abort, student: u16, number: u8, credits: u8) -> What {
-    What::Enrol(EnrolFacts {
-        student: numbered(rt, student),
+fn enrol(student: u16, number: u8, credits: u8) -> Result<What, Unfiled> {
+    Ok(What::Enrol(EnrolFacts {
+        student: numbered(student)?,
         year: Year(YEAR),
-        term: term(rt, number),
+        term: term(number)?,
         credits,
-    })
+    }))
 }
 
-fn originate(rt: &impl Abort, student: u16, cost: u32) -> What {
-    assert!(rt; cost <= 999_999);
-    What::Originate(OriginateFacts {
-        student: numbered(rt, student),
+fn originate(student: u16, cost: u32) -> Result<What, Unfiled> {
+    in_range(cost <= 999_999)?;
+    Ok(What::Originate(OriginateFacts {
+        student: numbered(student)?,
         year: Year(YEAR),
         cost,
-    })
+    }))
 }
 
-fn amount(rt: &impl Abort, student: u16, number: u8, program: Program, cents: u32) -> Amount {
-    Amount {
-        student: numbered(rt, student),
+fn amount(student: u16, number: u8, program: Program, cents: u32) -> Result<Amount, Unfiled> {
+    Ok(Amount {
+        student: numbered(student)?,
         year: Year(YEAR),
-        term: term(rt, number),
+        term: term(number)?,
         program,
-        cents: within(rt, cents),
-    }
+        cents: within(cents)?,
+    })
 }
 
 fn withdraw(
-    rt: &impl Abort,
     student: u16,
     number: u8,
     days: (u16, u16),
     charges: u32,
     could: [u32; 6],
-) -> What {
-    What::Withdraw(WithdrawFacts {
-        student: numbered(rt, student),
+) -> Result<What, Unfiled> {
+    Ok(What::Withdraw(WithdrawFacts {
+        student: numbered(student)?,
         year: Year(YEAR),
-        term: term(rt, number),
+        term: term(number)?,
         last: day(days.0),
         determined: day(days.1),
-        charges: within(rt, charges),
+        charges: within(charges)?,
         could: ByProgram::new([
-            within(rt, could[0]),
-            within(rt, could[1]),
-            within(rt, could[2]),
-            within(rt, could[3]),
-            within(rt, could[4]),
-            within(rt, could[5]),
+            within(could[0])?,
+            within(could[1])?,
+            within(could[2])?,
+            within(could[3])?,
+            within(could[4])?,
+            within(could[5])?,
         ]),
-    })
+    }))
 }

@@ -5,4 +5,4 @@ mod answers;
 mod filings;
 
 pub use answers::Answer;
-pub use filings::{Filed, filing, numbered, what};
+pub use filings::{Filed, Unfiled, filing, numbered, what};
