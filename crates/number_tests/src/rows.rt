@@ -1,7 +1,9 @@
-//! Tables of sorted rows: each key is found with the value that it was last given, in whatever order the keys came.
+//! Tables of sorted rows, and rows that stay at their slots: each key is found with the value that it was last given, in
+//! whatever order the keys came.
 ghost use Rattle.std.specs.Prelude.{◌≡◌, ◌<◌};
 
-use sorted_rows::Table;
+use sorted_rows::{Slots, Table};
+use std::alloc::AllocError;
 use std::collections::BTreeMap;
 use std::marker::Brand;
 use std::sync::ledger::{Blank, Ledger};
@@ -10,6 +12,9 @@ use steps::Steps;
 
 /// More keys than four tails hold.
 const KEYS: u32 = 5_000;
+
+/// A long row.
+type Page = [u32; 40];
 
 /// A key of two fields.
 #[derive(Clone, Copy, PartialEq, Eq, PartialOrd, Ord, Debug)]
@@ -92,4 +97,101 @@ fn look<L: Ledger>(
 {
     let mut looks: Steps<L> = Steps::new(blank);
     table.get(&Seat { school, student }, &mut looks)
+}
+
+#[test]
+fn rows_stay_at_their_slots(rt: HostRuntime) -> Result<(), Fail> {
+    let mut slots = Slots::new(rt.alloc());
+    for turn in 0..KEYS {
+        let slot = put(&mut slots, key_at(turn), page(turn))?;
+        assert_eq!(rt; slot, Some(turn));
+    }
+    // A third is written once more by key, and a third by slot.
+    for turn in 0..KEYS / 3 {
+        let slot = put(&mut slots, key_at(3 * turn), page(KEYS + turn))?;
+        assert_eq!(rt; slot, Some(3 * turn));
+        write_at(&mut slots, 3 * turn + 1, page(2 * KEYS + turn));
+    }
+    for turn in 0..KEYS / 3 {
+        for (slot, wanted) in [
+            (3 * turn, page(KEYS + turn)),
+            (3 * turn + 1, page(2 * KEYS + turn)),
+            (3 * turn + 2, page(3 * turn + 2)),
+        ] {
+            let key = key_at(slot);
+            assert_eq!(rt; row_at(&slots, slot), Some((key, wanted)));
+            assert_eq!(rt; slots.at(&key), Some(wanted));
+        }
+        assert_eq!(rt; slots.at(&key_at(KEYS + turn)), None);
+    }
+    assert_eq!(rt; slots.len(), KEYS as usize);
+    Ok(())
+}
+
+#[test]
+fn slots_of_keys_that_fall(rt: HostRuntime) -> Result<(), Fail> {
+    let mut slots = Slots::new(rt.alloc());
+    slots.reserve(3)?;
+    slots.put(30, 'a');
+    slots.put(20, 'b');
+    slots.put(10, 'c');
+    let found = [
+        find::<Brand>(&slots, 10, Blank::new(1)),
+        find::<Brand>(&slots, 20, Blank::new(1)),
+        find::<Brand>(&slots, 30, Blank::new(1)),
+        find::<Brand>(&slots, 15, Blank::new(1)),
+    ];
+    assert_eq!(rt;
+        found,
+        [
+            Some((2, 'c', 'c')),
+            Some((1, 'b', 'b')),
+            Some((0, 'a', 'a')),
+            None
+        ]
+    );
+    Ok(())
+}
+
+// A long row of one number.
+fn page(number: u32) -> Page {
+    [number; 40]
+}
+
+// Writes the page of a key, and answers its slot, as long as there are few.
+fn put(slots: &mut Slots<u32, Page>, key: u32, value: Page) -> Result<Option<u32>, AllocError> {
+    slots.reserve(1)?;
+    if slots.len() <= KEYS as usize {
+        Ok(Some(slots.put(key, value)))
+    } else {
+        Ok(None)
+    }
+}
+
+// The row at a slot, if there is one.
+fn row_at(slots: &Slots<u32, Page>, slot: u32) -> Option<(u32, Page)> {
+    if (slot as usize) < slots.len() {
+        Some(slots.row(slot))
+    } else {
+        None
+    }
+}
+
+// Writes over the row at a slot, if there is one.
+fn write_at(slots: &mut Slots<u32, Page>, slot: u32, value: Page) {
+    if (slot as usize) < slots.len() {
+        slots.set(slot, value);
+    }
+}
+
+// The slot of a key, and its value by slot and by key, with the looks counted on a blank.
+fn find<L: Ledger>(slots: &Slots<u32, char>, key: u32, blank: Blank) -> Option<(u32, char, char)>
+    requires name { blank.name ≡ L.name }
+    requires parts { blank.parts ≡ L.parts }
+    requires some { 0 < blank.parts }
+{
+    let mut looks: Steps<L> = Steps::new(blank);
+    let slot = slots.slot_of(&key, &mut looks)?;
+    let (_, value) = slots.look(slot, &mut looks);
+    Some((slot, value, slots.get(&key, &mut looks)?))
 }

@@ -23,7 +23,7 @@ first_of_cond : {V : Type 0} (b : Bool) (v : V) (x y : Option V) → first (cond
 first_of_cond true v x y = refl
 first_of_cond false v x y = refl
 
-second_of_cond : {V : Type 0} (b : Bool) (v : V) (x y : Option V) → (b ≡ true → x ≡ None) → first x (cond b (Some v) y) ≡ cond b (Some v) (first x y)
+pub second_of_cond : {V : Type 0} (b : Bool) (v : V) (x y : Option V) → (b ≡ true → x ≡ None) → first x (cond b (Some v) y) ≡ cond b (Some v) (first x y)
 second_of_cond true v x y none = ap (λ z. first z (Some v)) (none refl)
 second_of_cond false v x y none = refl
 
@@ -42,7 +42,7 @@ in_second test xs ys h = ap (λ r. first r (lookup test ys)) h ∙ sym (lookup_a
 pub in_neither : {K V : Type 0} (test : K → Bool) (xs ys : List (K × V)) → lookup test xs ≡ None → lookup test ys ≡ None → lookup test (xs ++ ys) ≡ None
 in_neither test xs ys none lacks = sym (in_second test xs ys (sym none)) ∙ lacks
 
-first_none : {V : Type 0} (a : Option V) → first a None ≡ a
+pub first_none : {V : Type 0} (a : Option V) → first a None ≡ a
 first_none (Some v) = refl
 first_none None = refl
 
@@ -74,7 +74,7 @@ module _ {K V : Type 0} {R : K → K → Ordering} (o : IsTotalOrder R) where
   abbrev pub IsWritten : K → V → List (K × V) → List (K × V) → Type 0
   IsWritten k v old new = (q : K) → lookup (is_at (R q)) new ≡ cond (is_eq (R k q)) (Some v) (lookup (is_at (R q)) old)
 
-  alike : (k q : K) (rows : List (K × V)) → is_eq (R k q) ≡ true → lookup (is_at (R k)) rows ≡ lookup (is_at (R q)) rows
+  pub alike : (k q : K) (rows : List (K × V)) → is_eq (R k q) ≡ true → lookup (is_at (R k)) rows ≡ lookup (is_at (R q)) rows
   alike k q rows h = test_same (is_at (R k)) (is_at (R q)) rows (λ x. (eq_by_cmp_equiv o).congr k q x h)
 
   tail_lacks : (k q : K) (tail main : List (K × V)) → AreApart R tail main → IsSome (lookup (is_at (R k)) main) → is_eq (R k q) ≡ true → lookup (is_at (R q)) tail ≡ None

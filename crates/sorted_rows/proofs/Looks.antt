@@ -1,5 +1,5 @@
 -- How many looks a search takes that halves what is left at each.
-use Rattle.std.proofs.Common.{◌≡◌, ℕ, ◌+◌, ◌*◌, ◌^◌, ◌<◌, ◌≤◌, arith, sym, subst, List, Some, get_or, add-one, inl, inr}
+use Rattle.std.proofs.Common.{◌≡◌, ℕ, zero, suc, ◌+◌, ◌*◌, ◌^◌, ◌<◌, ◌≤◌, arith, sym, subst, List, Some, get_or, add-one, inl, inr}
 use Rattle.std.specs.List.{slice_get}
 use Rattle.std.specs.declared.cmp.Ordering.{Ordering}
 use Rattle.std.proofs.Math.Nat.{pow-succ', mul-le-mul_left, mul_assoc, mul_left_comm}
@@ -37,6 +37,35 @@ looks_in_digits looks all digits few short =
           let more : 2 ^ (digits + 1) ≤ 2 ^ looks = pow_mono {i = digits + 1} {j = looks} above in
           absurd (omega (arith, pow_more digits))
     ]
+
+-- an odd bound on an even number is one too many
+halves : (power half n : ℕ) → power ≡ 2 * half → power ≤ 2 * n + 1 → half ≤ n
+halves power half n even bound = omega arith
+
+-- two searches that share the rows do not both take as many looks as the number of all rows has digits
+pub not_both : (digits tail main : ℕ) → 0 < tail + main → tail + main < 2 ^ digits → 2 ^ digits ≤ 2 * tail + 1 → 2 ^ digits ≤ 2 * main + 1 → ⊥
+not_both zero tail main some short in_tail in_main = omega arith
+not_both (suc digits) tail main some short in_tail in_main =
+    let twice : 2 ^ suc digits ≡ 2 * 2 ^ digits = pow-succ' 2 digits in
+    omega (arith, halves (2 ^ suc digits) (2 ^ digits) tail twice in_tail, halves (2 ^ suc digits) (2 ^ digits) main twice in_main)
+
+pub two_searches : (in_tail in_main tail main digits : ℕ) → 2 ^ in_tail ≤ 2 * tail + 1 → 2 ^ in_main ≤ 2 * main + 1 → 0 < tail + main → tail + main < 2 ^ digits → in_tail + in_main + 1 ≤ 2 * digits
+two_searches in_tail in_main tail main digits tail_looks main_looks some short =
+    let tail_in : in_tail ≤ digits = looks_in_digits in_tail tail digits tail_looks (omega arith) in
+    let main_in : in_main ≤ digits = looks_in_digits in_main main digits main_looks (omega arith) in
+    elim (cases_lt (in_tail + in_main) (2 * digits)) [
+      | inl below ↦ omega arith
+      | inr above ↦
+          let tail_is : in_tail ≡ digits = omega arith in
+          let main_is : in_main ≡ digits = omega arith in
+          absurd
+          (not_both digits tail main some short (subst (λ (n : ℕ). 2 ^ n ≤ 2 * tail + 1) tail_is tail_looks) (subst (λ (n : ℕ). 2 ^ n ≤ 2 * main + 1) main_is main_looks))
+    ]
+
+-- the number of some rows has a digit
+pub some_digit : (rows digits : ℕ) → 0 < rows → rows < 2 ^ digits → 0 < digits
+some_digit rows zero some short = omega arith
+some_digit rows (suc digits) some short = omega arith
 
 -- how the key compares with the row that was read at place i
 pub compared : {K V : Type 0} (cmp : K → K → Ordering) (key : K) (rows : List (K × V)) (i : ℕ) (x : K × V) (o : Ordering) →

@@ -15,7 +15,7 @@ use Rattle.std.proofs.lemmas.Map.Entries.{lookup_at_gap}
 use Rattle.std.proofs.lemmas.Option.{slice_get-get_or, none-some}
 use Rattle.sorted_rows.specs.Places.{IsHere, IsGap, IsAfterSmaller, IsBeforeGreater}
 
-some_same : {X : Type 0} (x y : X) → Some x ≡ Some y → x ≡ y
+pub some_same : {X : Type 0} (x y : X) → Some x ≡ Some y → x ≡ y
 some_same x y e = cc
 
 module _ {K V : Type 0} (test : K → Bool) where

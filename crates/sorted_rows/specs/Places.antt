@@ -50,6 +50,17 @@ pub record AreApart {K V : Type 0} (cmp : K → K → Ordering) (tail main : Lis
   pub main_sorted : IsStrictlySortedBy cmp (keys_of main)
   pub apart : (q : K) → (lookup (is_at (cmp q)) tail ≡ None) ⊎ (lookup (is_at (cmp q)) main ≡ None)
 
+-- the rows of a table of slots by key, and the rows that stand at these slots: each key's slot is the place of a row with
+-- that key, and the place of each row is the slot of its key, so that no key stands twice
+pub record ArePlaced {K V : Type 0} (cmp : K → K → Ordering) (slots : List (K × ℕ)) (rows : List (K × V)) : Type 0 where
+  pub count : length slots ≡ length rows
+  pub here : (q : K) (slot : ℕ) → value_at cmp q slots ≡ Some slot → IsHere cmp q rows slot
+  pub once : (slot : ℕ) (row : K × V) → slice_get rows slot ≡ Some row → value_at cmp row.0 slots ≡ Some slot
+
+-- each old row keeps its slot and its key; its value may be another
+abbrev pub AreStaying : {K V : Type 0} → List (K × V) → List (K × V) → Type 0
+AreStaying {K} {V} old new = (slot : ℕ) (row : K × V) → slice_get old slot ≡ Some row → (v : V) × (slice_get new slot ≡ Some (row.0, v))
+
 -- the looks that a search of the tail takes at most, and the rows at which it is merged: 2 to the power of the looks
 abbrev pub tail_looks : ℕ
 tail_looks = 10
