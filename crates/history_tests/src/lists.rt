@@ -1,20 +1,26 @@
 //! What stands in plain lists of filings, and what is answered on them. School 110 files beside school 120, and student 5001
 //! used 550,000 units before this office.
-use aid_filings::{Filing, WithdrawFacts};
+ghost use Rattle.std.specs.Prelude.{◌≡◌, ◌<◌, IfOk, reverse};
+ghost use Rattle.office_history.specs.Answer.{IsLegal};
+
+use aid_filings::{CalendarFacts, Filing, WithdrawFacts};
 use aid_replies::{Outcome, Verdict};
-use aid_types::{Breaks, ByProgram, Day, Key, Program, School, Student, Term, Year};
-use office_core::{answer, facts, is_legal, past_outcome, quote, standing};
+use aid_types::{Breaks, ByProgram, Day, Program, School, Student, Term, Year};
+use office_history::admitted_is_legal;
 use on_file::{
-    Account, account_of, application_since, before_student, cost_since, credits_since,
-    is_paid_pell_since, main_terms, net_in_year, overlapping_term, position_of_cost_since,
-    position_of_term, prior_units_since, scheduled_since, sheet, term, used, used_else, withdrawal,
-    withdrawal_since,
+    Account, CalendarRow, OnFile, PlaceRow, Plain, SchoolRow, SchoolYearRow, StudentRow, TermRow,
+    admits, answer, gather, payment_facts, quote, sheet, standing,
 };
 use std::alloc::Global;
+use std::marker::Brand;
 use std::process::Abort;
+use std::sync::ledger::{Blank, Ledger};
 use std::test::Fail;
+use steps::Steps;
 use worked_filings::Answer::{self, Noted, Refused};
-use worked_filings::Filed::{self, Enrol, Extra, Main, Originate, Prior, School as Opens};
+use worked_filings::Filed::{
+    self, Book, Enrol, Exempt, Extra, Main, Originate, Prior, School as Opens,
+};
 use worked_filings::{filing, what};
 
 const SCHOOL: School = School(110);
@@ -27,19 +33,54 @@ const STRANGER: Student = Student(5002);
 
 const YEAR: Year = Year(2025);
 
-// The filings of rows, the oldest first.
-fn list(rt: &impl Abort, alloc: Global, rows: &[(u16, u32, Filed)]) -> Result<Vec<Filing>, Fail> {
+#[test]
+fn plain_lists(rt: HostRuntime) -> Result<(), Fail> {
+    told_on::<Brand>(&rt, rt.alloc(), Blank::new(1))
+}
+
+// What the lists tell, with the looks counted on a blank.
+fn told_on<L: Ledger>(rt: &impl Abort, alloc: Global, blank: Blank) -> Result<(), Fail>
+    requires name { blank.name ≡ L.name }
+    requires parts { blank.parts ≡ L.parts }
+    requires some { 0 < blank.parts }
+{
+    let mut steps: Steps<L> = Steps::new(blank);
+    what_is_in_force(rt, alloc, &mut steps)?;
+    use_before_this_office(rt, alloc, &mut steps)?;
+    answers_after_two_filings(rt, alloc, &mut steps)?;
+    a_worksheet(rt, alloc, &mut steps)
+}
+
+// The filings of rows, the oldest first, each admitted after those before it.
+fn list<L: Ledger>(
+    rt: &impl Abort,
+    alloc: Global,
+    rows: &[(u16, u32, Filed)],
+    steps: &mut Steps<L>,
+) -> Result<Vec<Filing>, Fail>
+    ensures { IfOk result (λ filings. IsLegal (reverse filings.items)) }
+{
     let mut filings = Vec::new(alloc);
     for &(school, number, filed) in rows {
-        filings.push(filing(school, number, what(alloc, filed)?)?)?;
+        let filing = filing(school, number, what(alloc, filed)?)?;
+        assert!(rt;
+            admits(&Plain::new(&filings), &filing, steps),
+            "{school} under {number}"
+        );
+        admitted_is_legal(&filings, &filing);
+        filings.push(filing)?;
     }
     Ok(filings)
 }
 
-const TERM: [(u16, u32, Filed); 8] = [
+const TERM: [(u16, u32, Filed); 12] = [
+    (0, 2, Book(2025)),
+    (0, 3, Opens(120, 2)),
+    (0, 4, Opens(110, 3)),
     (120, 1, Main(2025, 1, 20_300, 20_400)),
     (110, 1, Main(2025, 1, 20_320, 20_430)),
     (110, 2, Extra(3, 20_640, 20_690)),
+    (110, 6, Exempt(5001, 1)),
     (120, 2, Originate(5001, 30_000)),
     (110, 3, Originate(5001, 20_000)),
     (110, 4, Enrol(5001, 1, 12)),
@@ -47,41 +88,90 @@ const TERM: [(u16, u32, Filed); 8] = [
     (0, 1, Prior(5001, 550_000)),
 ];
 
-#[test]
-fn what_is_in_force(rt: HostRuntime) -> Result<(), Fail> {
-    let history = list(&rt, rt.alloc(), &TERM)?;
-    assert_student(&rt, &history);
-    assert_nothing_else(&rt, &history);
-    assert_terms(&rt, &history);
+fn what_is_in_force<L: Ledger>(
+    rt: &impl Abort,
+    alloc: Global,
+    steps: &mut Steps<L>,
+) -> Result<(), Fail> {
+    let filings = list(rt, alloc, &TERM, steps)?;
+    let past = Plain::new(&filings);
+    assert_student(rt, &past, steps);
+    assert_stranger(rt, &past, steps);
+    assert_schools(rt, &past, steps);
+    assert_terms(rt, &past, steps);
     Ok(())
 }
 
-fn assert_student(rt: &impl Abort, history: &[Filing]) {
-    assert!(rt; history.len() < 100);
-    let since = before_student(history, STUDENT);
-    assert_eq!(rt; since, 3);
-    assert_eq!(rt; credits_since(history, since, SCHOOL, STUDENT, YEAR, 1), 9);
-    assert_eq!(rt; credits_since(history, since, OTHER, STUDENT, YEAR, 1), 0);
-    assert_eq!(rt; cost_since(history, since, SCHOOL, STUDENT, YEAR), 20_000);
+// Nothing stands of a student's term.
+const NO_PLACE: PlaceRow = PlaceRow {
+    credits: 0,
+    withdrawn_at: 0,
+    could: ByProgram::EMPTY,
+    account: Account::EMPTY,
+};
+
+fn assert_student<L: Ledger>(rt: &impl Abort, past: &Plain, steps: &mut Steps<L>) {
+    let place = past.place(SCHOOL, STUDENT, YEAR, 1, steps);
     assert_eq!(rt;
-        position_of_cost_since(history, since, SCHOOL, STUDENT, YEAR),
-        5
+        place,
+        PlaceRow {
+            credits: 9,
+            ..NO_PLACE
+        }
     );
-    assert_eq!(rt; prior_units_since(history, since, STUDENT), 550_000);
-    assert_eq!(rt; before_student(history, STRANGER), history.len());
+    assert_eq!(rt; past.place(OTHER, STUDENT, YEAR, 1, steps), NO_PLACE);
+    let costs = [
+        past.school_year(SCHOOL, STUDENT, YEAR, steps),
+        past.school_year(OTHER, STUDENT, YEAR, steps),
+        past.school_year(SCHOOL, STUDENT, Year(2026), steps),
+    ];
+    assert_eq!(rt; costs, [cost(9, 20_000), cost(8, 30_000), cost(0, 0)]);
+    let student = StudentRow {
+        prior_at: 12,
+        pell_at: 0,
+        used: 550_000,
+    };
+    assert_eq!(rt; past.student(STUDENT, steps), student);
+    let year = past.year(STUDENT, YEAR, steps);
+    assert_eq!(rt; year.application.map(|filed| filed.transaction), Some(1));
+    assert_eq!(rt; year.scheduled, 7395);
 }
 
-fn assert_nothing_else(rt: &impl Abort, history: &[Filing]) {
-    let since = before_student(history, STUDENT);
-    assert!(rt; withdrawal_since(history, since, SCHOOL, STUDENT, YEAR, 1).is_none());
-    assert!(rt; withdrawal(history, SCHOOL, STUDENT, YEAR, 1).is_none());
-    assert!(rt; application_since(history, since, STUDENT, YEAR).is_none());
-    assert_eq!(rt; scheduled_since(history, since, STUDENT, YEAR), 0);
-    assert!(rt; !is_paid_pell_since(history, since, STUDENT));
+// A cost at a position, where nothing is paid.
+fn cost(cost_at: u32, cost: u32) -> SchoolYearRow {
+    SchoolYearRow {
+        cost_at,
+        cost,
+        net: 0,
+    }
 }
 
-fn assert_terms(rt: &impl Abort, history: &[Filing]) {
-    assert!(rt; history.len() < 100);
+fn assert_stranger<L: Ledger>(rt: &impl Abort, past: &Plain, steps: &mut Steps<L>) {
+    assert_eq!(rt; past.place(SCHOOL, STRANGER, YEAR, 1, steps), NO_PLACE);
+    assert_eq!(rt; past.school_year(SCHOOL, STRANGER, YEAR, steps), cost(0, 0));
+    let year = past.year(STRANGER, YEAR, steps);
+    assert!(rt; year.application.is_none());
+    assert_eq!(rt; year.scheduled, 0);
+    assert_eq!(rt; past.student(STRANGER, steps).pell_at, 0);
+}
+
+fn assert_schools<L: Ledger>(rt: &impl Abort, past: &Plain, steps: &mut Steps<L>) {
+    let schools = [
+        past.school(110, steps),
+        past.school(120, steps),
+        past.school(130, steps),
+    ];
+    let wanted = [school(3, 3, 12), school(2, 2, 12), school(0, 0, 0)];
+    assert_eq!(rt; schools, wanted);
+    assert_eq!(rt; past.book_at(YEAR, steps), 1);
+    assert_eq!(rt; past.book_at(Year(2026), steps), 0);
+}
+
+fn school(at: u32, terms: u8, full: u8) -> SchoolRow {
+    SchoolRow { at, terms, full }
+}
+
+fn assert_terms<L: Ledger>(rt: &impl Abort, past: &Plain, steps: &mut Steps<L>) {
     let summer = Term {
         number: 3,
         extra: true,
@@ -89,38 +179,52 @@ fn assert_terms(rt: &impl Abort, history: &[Filing]) {
         last: Day(20_690),
         breaks: Breaks::new(),
     };
-    let next = Term {
-        number: 2,
+    let next = CalendarFacts {
+        year: YEAR,
+        term: 2,
         extra: false,
         first: Day(20_690),
         last: Day(20_700),
         breaks: Breaks::new(),
     };
-    assert_eq!(rt; term(history, SCHOOL, YEAR, 3), Some(summer));
-    assert_eq!(rt; position_of_term(history, SCHOOL, YEAR, 1), 2);
-    assert_eq!(rt; position_of_term(history, SCHOOL, YEAR, 2), 0);
-    assert_eq!(rt; main_terms(history, SCHOOL, YEAR), 1);
-    assert_eq!(rt; overlapping_term(history, SCHOOL, &next), 3);
-    assert_eq!(rt; overlapping_term(history, OTHER, &next), 0);
+    let row = TermRow {
+        at: 6,
+        term: Some(summer),
+    };
+    assert_eq!(rt; past.term(SCHOOL, YEAR, 3, steps).1, row);
+    assert_eq!(rt; past.term(SCHOOL, YEAR, 1, steps).1.at, 5);
+    assert_eq!(rt; past.term(SCHOOL, YEAR, 2, steps).1.at, 0);
+    assert_eq!(rt; past.calendar(SCHOOL, &next, steps).1, terms(6));
+    assert_eq!(rt; past.calendar(OTHER, &next, steps).1, terms(0));
 }
 
-#[test]
-fn use_before_this_office(rt: HostRuntime) -> Result<(), Fail> {
-    let history = list(&rt, rt.alloc(), &[(0, 1, Prior(5001, 550_000))])?;
-    assert_used(&rt, &history);
-    Ok(())
+// A school with one main term, and the position of a term that shares a day.
+fn terms(overlap_at: u32) -> CalendarRow {
+    CalendarRow {
+        term_at: 0,
+        overlap_at,
+        main_terms: 1,
+    }
 }
 
-fn assert_used(rt: &impl Abort, history: &[Filing]) {
-    assert!(rt; history.len() < 100 && is_legal(history));
-    assert_eq!(rt; used(history, 0, STUDENT), 550_000);
-    assert_eq!(rt; used(history, 0, STRANGER), 0);
-    assert_eq!(rt; used_else(history, 0, STUDENT, YEAR), 550_000);
-    assert_eq!(rt; net_in_year(history, 0, STUDENT, YEAR, Program::Pell), 0);
+fn use_before_this_office<L: Ledger>(
+    rt: &impl Abort,
+    alloc: Global,
+    steps: &mut Steps<L>,
+) -> Result<(), Fail> {
+    let filings = list(rt, alloc, &[(0, 1, Prior(5001, 550_000))], steps)?;
+    let past = Plain::new(&filings);
+    assert_eq!(rt; past.student(STUDENT, steps).used, 550_000);
+    assert_eq!(rt; past.student(STRANGER, steps).used, 0);
+    let facts = payment_facts(&past, SCHOOL, STUDENT, YEAR, 1, Program::Pell, steps);
+    assert_eq!(rt; facts.used_else, 550_000);
+    let nets = past.year(STUDENT, YEAR, steps).nets;
+    assert_eq!(rt; nets.at(Program::Pell), 0);
     assert_eq!(rt;
-        account_of(history, 0, SCHOOL, STUDENT, YEAR, 1),
+        past.place(SCHOOL, STUDENT, YEAR, 1, steps).account,
         Account::EMPTY
     );
+    Ok(())
 }
 
 const FIRST_ROWS: [(u16, u32, Filed); 2] = [(0, 1, Opens(110, 2)), (0, 2, Prior(5001, 550_000))];
@@ -134,20 +238,29 @@ const JUDGED: [(u16, u32, Filed, Answer); 6] = [
     (0, 7, Prior(5002, 600_000), Noted),
 ];
 
-#[test]
-fn answers_after_two_filings(rt: HostRuntime) -> Result<(), Fail> {
-    let history = list(&rt, rt.alloc(), &FIRST_ROWS)?;
-    assert_judged(&rt, rt.alloc(), &history)?;
-    assert_told(&rt, &history);
+fn answers_after_two_filings<L: Ledger>(
+    rt: &impl Abort,
+    alloc: Global,
+    steps: &mut Steps<L>,
+) -> Result<(), Fail> {
+    let filings = list(rt, alloc, &FIRST_ROWS, steps)?;
+    assert!(rt; filings.len() == 2);
+    let past = Plain::new(&filings);
+    assert_judged(rt, alloc, &past, steps)?;
+    assert_told(rt, &past, &filings[1], steps);
     Ok(())
 }
 
-fn assert_judged(rt: &impl Abort, alloc: Global, history: &[Filing]) -> Result<(), Fail> {
-    assert!(rt; history.len() < 100 && is_legal(history));
+fn assert_judged<L: Ledger>(
+    rt: &impl Abort,
+    alloc: Global,
+    past: &Plain,
+    steps: &mut Steps<L>,
+) -> Result<(), Fail> {
     for (school, number, filed, wanted) in JUDGED {
         let filing = filing(school, number, what(alloc, filed)?)?;
         assert_eq!(rt;
-            answer(history, &filing),
+            answer(past, &filing, steps),
             wanted.verdict(),
             "{school} under {number}"
         );
@@ -155,17 +268,20 @@ fn assert_judged(rt: &impl Abort, alloc: Global, history: &[Filing]) -> Result<(
     Ok(())
 }
 
-fn assert_told(rt: &impl Abort, history: &[Filing]) {
-    assert!(rt; history.len() == 2 && is_legal(history));
+// What is told after the school and the use before this office, of which the second is filed again.
+fn assert_told<L: Ledger>(rt: &impl Abort, past: &Plain, prior: &Filing, steps: &mut Steps<L>) {
     let again = Verdict::Again {
         position: 2,
         outcome: Outcome::Noted,
     };
-    assert_eq!(rt; answer(history, &history[1]), again);
-    assert_eq!(rt; facts(history, &history[1]).prior_at, 2);
-    assert_eq!(rt; past_outcome(history, 1), Outcome::Noted);
-    assert_eq!(rt; quote(history, SCHOOL, STUDENT, YEAR, 1), 0);
-    assert_eq!(rt; standing(history, STUDENT, YEAR).used, 550_000);
+    assert_eq!(rt; answer(past, prior, steps), again);
+    assert_eq!(rt; gather(past, prior, steps).facts.prior_at, 2);
+    assert_eq!(rt; past.filing(2), Some(prior));
+    assert_eq!(rt; past.key_at(&prior.key, steps), 2);
+    assert!(rt; past.front() == 2);
+    assert_eq!(rt; past.outcome(1), Outcome::Noted);
+    assert_eq!(rt; quote(past, SCHOOL, STUDENT, YEAR, 1, steps), 0);
+    assert_eq!(rt; standing(past, STUDENT, YEAR, steps).used, 550_000);
 }
 
 const WITH_TERM: [(u16, u32, Filed); 2] = [
@@ -173,10 +289,25 @@ const WITH_TERM: [(u16, u32, Filed); 2] = [
     (110, 1, Main(2025, 1, 20_320, 20_431)),
 ];
 
+fn a_worksheet<L: Ledger>(
+    rt: &impl Abort,
+    alloc: Global,
+    steps: &mut Steps<L>,
+) -> Result<(), Fail> {
+    let filings = list(rt, alloc, &WITH_TERM, steps)?;
+    assert_sheet(rt, &Plain::new(&filings), steps);
+    Ok(())
+}
+
 // 42 of 112 days are 37.5 percent: of 1,000 dollars that could have been disbursed 375 are earned.
-#[test]
-fn a_worksheet(rt: HostRuntime) -> Result<(), Fail> {
-    let history = list(&rt, rt.alloc(), &WITH_TERM)?;
+fn assert_sheet<L: Ledger>(rt: &impl Abort, past: &Plain, steps: &mut Steps<L>) {
+    let term = Term {
+        number: 1,
+        extra: false,
+        first: Day(20_320),
+        last: Day(20_431),
+        breaks: Breaks::new(),
+    };
     let withdrawal = WithdrawFacts {
         student: STUDENT,
         year: YEAR,
@@ -186,25 +317,12 @@ fn a_worksheet(rt: HostRuntime) -> Result<(), Fail> {
         charges: 250_000,
         could: ByProgram::of(Program::Pell, 100_000),
     };
-    assert_sheet(&rt, &history, &withdrawal);
-    Ok(())
-}
-
-fn assert_sheet(rt: &impl Abort, history: &[Filing], withdrawal: &WithdrawFacts) {
-    assert!(rt; history.len() < 100 && is_legal(history));
-    let key = Key {
-        school: SCHOOL,
-        number: 2,
-    };
-    let Some(found) = term(history, SCHOOL, withdrawal.year, withdrawal.term) else {
-        panic!(rt; "the term is on file");
-    };
-    let day = withdrawal.last.count();
-    let first = found.first.count();
-    let last = found.last.count();
-    assert!(rt; first <= day);
-    assert!(rt; day <= last);
-    let lines = sheet(history, 0, &key, withdrawal);
+    assert_eq!(rt; past.term(SCHOOL, YEAR, 1, steps).1.term, Some(term));
+    assert_eq!(rt;
+        past.place(SCHOOL, STUDENT, YEAR, 1, steps).account,
+        Account::EMPTY
+    );
+    let lines = sheet(&term, &withdrawal, &Account::EMPTY);
     assert_eq!(rt; lines.percent, 375);
     assert_eq!(rt; lines.post, 37_500);
     assert_eq!(rt; lines.returned, ByProgram::EMPTY);

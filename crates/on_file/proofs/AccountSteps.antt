@@ -1,8 +1,6 @@
 -- An account with what one filing more moves.
-use Rattle.std.proofs.Common.{◌≡◌, ℕ, refl, sym, ◌∙◌, ◌-◌, ◌≤◌, arith, Bool, List, ◌∷◌}
-use Rattle.std.specs.Prelude.{slice_index}
-use Rattle.aid_types.specs.Programs.{minus, plus, rank, six}
-use Rattle.aid_types.specs.declared.number.Program.{Program}
+use Rattle.std.proofs.Common.{◌≡◌, ℕ, refl, sym, ◌∙◌, ◌≤◌, arith, Bool, List, ◌∷◌}
+use Rattle.aid_types.specs.Programs.{minus, plus, six}
 use Rattle.aid_filings.specs.declared.filing.Filing.{Filing}
 use Rattle.office_history.specs.Net.{Cell, Move, is_cell, in_term, moved, onto, net_at, paid, taken, owed, repaid, post, paid_after, payments_in, takings_in, owings_in, repayments_in, payments_after, posts_in}
 use Rattle.office_history.specs.FactsOf.{cell_at}
@@ -10,7 +8,7 @@ use Rattle.office_history.specs.Answer.{IsLegal}
 use Rattle.office_history.proofs.Cells.{onto_is}
 use Rattle.on_file.specs.declared.account.Account.{Account}
 use Rattle.on_file.specs.Accounts.{IsAccount, IsEntry, HasSums, joined, nothing}
-use Rattle.on_file.proofs.Sixes.{plus-six, six-sums, six-rank}
+use Rattle.on_file.proofs.Sixes.{plus-six, six-sums}
 use Rattle.on_file.proofs.Bounds.{paid-most, taken-most, owed-most, repaid-most, after-most, post-most}
 
 pub account-joined : (past : List Filing) (f : Filing) (school student year term : ℕ) (a e : Account) →
@@ -85,25 +83,3 @@ entry-sums past f school student year term e legal k =
 pub account-nets : (past : List Filing) (school student year term : ℕ) (a : Account) → IsAccount past school student year term a →
     minus a.paid a.taken ≡ six (λ p. net_at past (cell_at school student year term p))
 account-nets past school student year term a h = rw (h.paid, h.taken) refl
-
--- its amounts of a program
-pub net-of_program : (past : List Filing) (school student year term : ℕ) (a : Account) (program : Program) → IsAccount past school student year term a →
-    slice_index a.paid (rank program) - slice_index a.taken (rank program) ≡ net_at past (cell_at school student year term (rank program))
-net-of_program past school student year term a program h =
-    let cell = λ (p : ℕ). is_cell (cell_at school student year term p) in
-    rw (h.paid, h.taken, six-rank (λ p. paid past (cell p)) program, six-rank (λ p. taken past (cell p)) program) refl
-
-pub repaid-of_program : (past : List Filing) (school student year term : ℕ) (a : Account) (program : Program) → IsAccount past school student year term a →
-    slice_index a.repaid (rank program) ≡ repaid past (is_cell (cell_at school student year term (rank program)))
-repaid-of_program past school student year term a program h =
-    rw (h.repaid, six-rank (λ p. repaid past (is_cell (cell_at school student year term p))) program) refl
-
-pub after-of_program : (past : List Filing) (school student year term : ℕ) (a : Account) (program : Program) → IsAccount past school student year term a →
-    slice_index a.after (rank program) ≡ paid_after past (is_cell (cell_at school student year term (rank program)))
-after-of_program past school student year term a program h =
-    rw (h.after, six-rank (λ p. paid_after past (is_cell (cell_at school student year term p))) program) refl
-
-pub owed-of_program : (past : List Filing) (school student year term : ℕ) (a : Account) (program : Program) → IsAccount past school student year term a →
-    slice_index a.owed (rank program) ≡ owed past (is_cell (cell_at school student year term (rank program)))
-owed-of_program past school student year term a program h =
-    rw (h.owed, six-rank (λ p. owed past (is_cell (cell_at school student year term p))) program) refl

@@ -1,5 +1,6 @@
 -- What 200,000 filings can hold, at the cells that pass.
-use Rattle.std.proofs.Common.{◌≤◌, arith, Bool, List}
+use Rattle.std.proofs.Common.{◌≤◌, ◌<◌, ◌^◌, arith, Bool, List, length, reverse}
+use Rattle.std.proofs.lemmas.List.{length-reverse}
 use Rattle.aid_filings.specs.declared.filing.Filing.{Filing}
 use Rattle.office_history.specs.Net.{Cell, paid, taken, owed, repaid, post, paid_after}
 use Rattle.office_history.specs.Answer.{IsLegal}
@@ -23,3 +24,7 @@ after-most past legal sel = omega (arith, after_is_paid past sel, paid-most past
 
 pub post-most : (past : List Filing) → IsLegal past → (sel : Cell → Bool) → post past sel ≤ 20000000000000
 post-most past legal sel = omega (arith, post_is_small past legal sel, legal_is_short past legal)
+
+-- a legal list is short, oldest first too
+pub short : (h : List Filing) → IsLegal (reverse h) → length h < 2 ^ 32
+short h legal = omega (arith, legal_is_short (reverse h) legal, length-reverse h)

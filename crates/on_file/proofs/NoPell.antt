@@ -1,5 +1,5 @@
 -- Without a Pell payment nothing is used.
-use Rattle.std.proofs.Common.{◌≡◌, ℕ, refl, ap, ◌∙◌, arith, cond, Bool, true, false, ◌&&◌, List, [], ◌∷◌, length, Option, Some, None}
+use Rattle.std.proofs.Common.{◌≡◌, ℕ, refl, ap, ◌∙◌, arith, cond, Bool, true, false, ◌&&◌, List, [], ◌∷◌, length}
 use Rattle.std.specs.Prelude.{◌==◌}
 use Rattle.aid_types.specs.Programs.{rank}
 use Rattle.aid_types.specs.declared.number.Key.{Key}
@@ -15,7 +15,6 @@ use Rattle.office_history.specs.Past.{pell_payment_in}
 use Rattle.office_history.proofs.Nets.{none_before}
 use Rattle.office_history.proofs.Numbers.{use_none}
 use Rattle.office_history.proofs.Steps.{by_payment}
-use Rattle.on_file.specs.Years.{use_but}
 
 off : (a b c : Bool) (n : ℕ) → (a && c) ≡ false → cond (a && (b && c)) n 0 ≡ 0
 off false b c n h = refl
@@ -49,13 +48,5 @@ sum_of_none : (g : ℕ → ℕ) (ys : List ℕ) → ((y : ℕ) → g y ≡ 0) �
 sum_of_none g [] none = refl
 sum_of_none g (y ∷ ys) none = let k = none y in let rest = sum_of_none g ys none in omega arith
 
-pub none_used : (past : List Filing) (student : ℕ) (out : Option ℕ) → pell_at past student ≡ 0 → sum_over (use_but past student out) all_years ≡ 0
-none_used past student out h = sum_of_none (use_but past student out) all_years (but out)
-  where
-    but : (out : Option ℕ) (year : ℕ) → use_but past student out year ≡ 0
-    but None year = nothing_used past student h year
-    but (Some left) year = go (year == left)
-      where
-        go : (b : Bool) → cond b 0 (use_in past student year) ≡ 0
-        go true = refl
-        go false = nothing_used past student h year
+pub none_used : (past : List Filing) (student : ℕ) → pell_at past student ≡ 0 → sum_over (use_in past student) all_years ≡ 0
+none_used past student h = sum_of_none (use_in past student) all_years (nothing_used past student h)

@@ -1,6 +1,6 @@
 -- Lists by program.
-use Rattle.std.proofs.Common.{◌≡◌, ℕ, zero, suc, ◌+◌, ◌≤◌, refl, List, [], ◌∷◌, length, set, arith, ◌^◌, zero-le}
-use Rattle.std.specs.Prelude.{slice_index, ◌==◌, if◌then◌else◌}
+use Rattle.std.proofs.Common.{◌≡◌, ℕ, zero, suc, ◌+◌, ◌≤◌, refl, arith, ◌^◌, zero-le}
+use Rattle.std.specs.Prelude.{slice_index}
 use Rattle.aid_types.specs.Programs.{plus, rank, six}
 use Rattle.aid_types.specs.declared.number.Program.{Program}
 use Rattle.aid_types.specs.declared.number.Program.TheVariants.{Unsub, Sub, Plus, Pell, Fseog, Teach}

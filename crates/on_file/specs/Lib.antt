@@ -1,5 +1,9 @@
 pub mod Accounts
+pub mod Basis
+pub mod Brought
 pub mod CellTests
 pub mod Filed
-pub mod Names
-pub mod Years
+pub mod Own
+pub mod Rows
+pub mod Terms
+pub mod Walked

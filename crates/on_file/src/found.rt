@@ -10,16 +10,16 @@ ghost use Rattle.office_history.specs.Past.{
   the_withdrawal,
 };
 
+use crate::place::Place;
 use crate::questions::{
-    book_in, cost_at_school, credits_at_school, prior_in, school_in, term_at_school,
-    withdrawal_at_school,
+    book_in, cost_at_school, credits_at, prior_in, school_in, term_at_school, withdrawal_at,
 };
 use aid_books::Book;
 use aid_filings::{Filing, SchoolFacts, WithdrawFacts};
 use aid_types::{School, Student, Term, Year};
 
 /// The year's book.
-pub fn book(history: &[Filing], year: Year) -> Option<&Book>
+pub(crate) fn book(history: &[Filing], year: Year) -> Option<&Book>
     ensures { option_copied result ≡ the_book (reverse history.now) year }
 {
     history
@@ -28,7 +28,7 @@ pub fn book(history: &[Filing], year: Year) -> Option<&Book>
 }
 
 /// The school with this code.
-pub fn school(history: &[Filing], code: u32) -> Option<SchoolFacts>
+pub(crate) fn school(history: &[Filing], code: u32) -> Option<SchoolFacts>
     ensures { result ≡ the_school (reverse history.now) code }
 {
     history
@@ -37,7 +37,7 @@ pub fn school(history: &[Filing], code: u32) -> Option<SchoolFacts>
 }
 
 /// The school's term of this year and number.
-pub fn term(history: &[Filing], school: School, year: Year, number: u8) -> Option<Term>
+pub(crate) fn term(history: &[Filing], school: School, year: Year, number: u8) -> Option<Term>
     ensures { result ≡ the_term (reverse history.now) school year number }
 {
     history
@@ -46,16 +46,12 @@ pub fn term(history: &[Filing], school: School, year: Year, number: u8) -> Optio
 }
 
 /// The student's withdrawal from the school's term.
-pub fn withdrawal(
-    history: &[Filing],
-    school: School,
-    student: Student,
-    year: Year,
-    term: u8,
-) -> Option<WithdrawFacts>
-    ensures { result ≡ the_withdrawal (reverse history.now) school student year term }
+pub(crate) fn withdrawal(history: &[Filing], place: &Place) -> Option<WithdrawFacts>
+    ensures { result ≡ the_withdrawal (reverse history.now) place.now.school place.now.student place.now.year place.now.term }
 {
-    history.iter().find_map(|filing| withdrawal_at_school(filing, school, student, year, term))
+    history
+        .iter()
+        .find_map(|filing| withdrawal_at(filing, place))
 }
 
 /// The student's use of the lifetime limit before this office, in thousandths of a percent, 0 where none is on file.
@@ -79,18 +75,12 @@ pub(crate) fn cost(history: &[Filing], school: School, student: Student, year: Y
 }
 
 /// The student's credits in the school's term, 0 where none are on file. Those filed last are in force.
-pub(crate) fn credits(
-    history: &[Filing],
-    school: School,
-    student: Student,
-    year: Year,
-    term: u8,
-) -> u8
-    ensures { result ≡ credits_in_force (reverse history.now) school student year term }
+pub(crate) fn credits(history: &[Filing], place: &Place) -> u8
+    ensures { result ≡ credits_in_force (reverse history.now) place.now.school place.now.student place.now.year place.now.term }
 {
     history
         .iter()
         .rev()
-        .find_map(|filing| credits_at_school(filing, school, student, year, term))
+        .find_map(|filing| credits_at(filing, place))
         .unwrap_or(0)
 }

@@ -1,31 +1,37 @@
-//! What stands on file in a list of filings, the oldest first: what is in force, the net amounts, and the worksheets of withdrawals.
+//! What stands on file, however it is kept: what is in force, the net amounts, and the worksheets of withdrawals; and what is answered on it. A plain list of filings, the oldest first, is read from end to end at each question.
 #![tactic(auto)]
 
 mod account;
 mod applications;
+mod beside;
 mod cells;
 mod entry;
 mod found;
+mod gathered;
 mod lifetime;
+mod listed;
+mod moved;
+mod newest;
+mod on_file;
+mod place;
+mod plain;
 mod positions;
 mod questions;
+mod rows;
 mod sheets;
-mod since;
+mod standings;
 mod terms;
+mod uncounted;
+mod verdicts;
 
-pub use account::{Account, account_of, net_at, owed, paid_after, paid_after_all, post, repaid};
+pub use account::Account;
 pub use applications::award;
-pub use cells::{net_at_school, net_in_year, net_of_main_terms};
-pub use found::{book, school, term, withdrawal};
-pub use lifetime::{used, used_else};
-pub use positions::{
-    position_of_book, position_of_filing, position_of_key, position_of_pell, position_of_prior,
-    position_of_school, position_of_term,
-};
+pub use entry::entry_of;
+pub use gathered::{Basis, Gathered, gather, payment_facts};
+pub use on_file::OnFile;
+pub use plain::Plain;
+pub use rows::{CalendarRow, PlaceRow, SchoolRow, SchoolYearRow, StudentRow, TermRow, YearRow};
 pub use sheets::sheet;
-pub use since::{
-    application_since, before_student, cost_since, credits_since, is_paid_pell_since,
-    position_of_cost_since, position_of_withdrawal_since, prior_units_since, scheduled_since,
-    withdrawal_since,
-};
-pub use terms::{main_terms, overlapping_term};
+pub use standings::{quote, standing};
+pub use uncounted::{is_admitted, is_legal, outcome_on, quote_on, standing_on, verdict_on};
+pub use verdicts::{admits, answer, outcome};

@@ -1,12 +1,12 @@
 //! Where something stands in a list of filings, the oldest first. A position counts from 1, and is 0 where there is none.
-ghost use Rattle.std.specs.Prelude.{◌≡◌, ◌+◌, ◌^◌, ◌<◌, ◌≤◌, IfSome, reverse, length};
-ghost use Rattle.office_history.specs.Past.{filing_at, key_at};
+ghost use Rattle.std.specs.Prelude.{◌≡◌, ◌+◌, ◌^◌, ◌<◌, IfSome, reverse, length};
+ghost use Rattle.office_history.specs.Past.{key_at};
 ghost use Rattle.office_history.specs.FactsOf.{book_at, cost_at, pell_at, prior_at, school_at, term_at, withdrawn_at};
 ghost use Rattle.office_history.specs.Places.{place_of};
 
+use crate::place::Place;
 use crate::questions::{
-    cost_at_school, is_book, is_pell_payment, prior_in, school_in, term_at_school,
-    withdrawal_at_school,
+    cost_at_school, is_book, is_pell_payment, prior_in, school_in, term_at_school, withdrawal_at,
 };
 use aid_filings::Filing;
 use aid_types::{Key, School, Student, Year};
@@ -23,28 +23,17 @@ pub(crate) fn place(found: Option<usize>) -> u32
 }
 
 /// The position of the filing with this key.
-pub fn position_of_key(history: &[Filing], key: &Key) -> u32
+pub(crate) fn position_of_key(history: &[Filing], key: &Key) -> u32
     requires { length history.now < 2 ^ 32 }
-    ensures value { result ≡ key_at key.now (reverse history.now) }
-    ensures within { result ≤ length history.now }
+    ensures { result ≡ key_at key.now (reverse history.now) }
 {
     place(history.iter().position(|filing| *key == filing.key))
 }
 
-/// The position of this filing.
-pub fn position_of_filing(history: &[Filing], filing: &Filing) -> u32
-    requires { length history.now < 2 ^ 32 }
-    ensures value { result ≡ filing_at filing.now (reverse history.now) }
-    ensures within { result ≤ length history.now }
-{
-    place(history.iter().position(|other| *filing == *other))
-}
-
 /// The position of the year's book.
-pub fn position_of_book(history: &[Filing], year: Year) -> u32
+pub(crate) fn position_of_book(history: &[Filing], year: Year) -> u32
     requires { length history.now < 2 ^ 32 }
-    ensures value { result ≡ book_at (reverse history.now) year }
-    ensures within { result ≤ length history.now }
+    ensures { result ≡ book_at (reverse history.now) year }
 {
     place(
         history
@@ -54,10 +43,9 @@ pub fn position_of_book(history: &[Filing], year: Year) -> u32
 }
 
 /// The position of the school with this code.
-pub fn position_of_school(history: &[Filing], code: u32) -> u32
+pub(crate) fn position_of_school(history: &[Filing], code: u32) -> u32
     requires { length history.now < 2 ^ 32 }
-    ensures value { result ≡ school_at (reverse history.now) code }
-    ensures within { result ≤ length history.now }
+    ensures { result ≡ school_at (reverse history.now) code }
 {
     place(
         history
@@ -67,19 +55,17 @@ pub fn position_of_school(history: &[Filing], code: u32) -> u32
 }
 
 /// The position of the school's term of this year and number.
-pub fn position_of_term(history: &[Filing], school: School, year: Year, number: u8) -> u32
+pub(crate) fn position_of_term(history: &[Filing], school: School, year: Year, number: u8) -> u32
     requires { length history.now < 2 ^ 32 }
-    ensures value { result ≡ term_at (reverse history.now) school year number }
-    ensures within { result ≤ length history.now }
+    ensures { result ≡ term_at (reverse history.now) school year number }
 {
     place(history.iter().position(|filing| term_at_school(filing, school, year, number).is_some()))
 }
 
 /// The position of the student's use before this office.
-pub fn position_of_prior(history: &[Filing], student: Student) -> u32
+pub(crate) fn position_of_prior(history: &[Filing], student: Student) -> u32
     requires { length history.now < 2 ^ 32 }
-    ensures value { result ≡ prior_at (reverse history.now) student }
-    ensures within { result ≤ length history.now }
+    ensures { result ≡ prior_at (reverse history.now) student }
 {
     place(
         history
@@ -89,10 +75,9 @@ pub fn position_of_prior(history: &[Filing], student: Student) -> u32
 }
 
 /// The position of the student's first Pell payment.
-pub fn position_of_pell(history: &[Filing], student: Student) -> u32
+pub(crate) fn position_of_pell(history: &[Filing], student: Student) -> u32
     requires { length history.now < 2 ^ 32 }
-    ensures value { result ≡ pell_at (reverse history.now) student }
-    ensures within { result ≤ length history.now }
+    ensures { result ≡ pell_at (reverse history.now) student }
 {
     place(
         history
@@ -109,27 +94,19 @@ pub(crate) fn position_of_cost(
     year: Year,
 ) -> u32
     requires { length history.now < 2 ^ 32 }
-    ensures value { result ≡ cost_at (reverse history.now) school student year }
-    ensures within { result ≤ length history.now }
+    ensures { result ≡ cost_at (reverse history.now) school student year }
 {
     place(history.iter().position(|filing| cost_at_school(filing, school, student, year).is_some()))
 }
 
 /// The position of the student's withdrawal from the school's term.
-pub(crate) fn position_of_withdrawal(
-    history: &[Filing],
-    school: School,
-    student: Student,
-    year: Year,
-    term: u8,
-) -> u32
+pub(crate) fn position_of_withdrawal(history: &[Filing], at: &Place) -> u32
     requires { length history.now < 2 ^ 32 }
-    ensures value { result ≡ withdrawn_at (reverse history.now) school student year term }
-    ensures within { result ≤ length history.now }
+    ensures { result ≡ withdrawn_at (reverse history.now) at.now.school at.now.student at.now.year at.now.term }
 {
     place(
-        history.iter().position(|filing| withdrawal_at_school(
-            filing, school, student, year, term,
-        ).is_some()),
+        history
+            .iter()
+            .position(|filing| withdrawal_at(filing, at).is_some()),
     )
 }

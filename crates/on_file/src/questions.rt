@@ -13,6 +13,7 @@ ghost use Rattle.office_history.specs.Past.{
   withdrawal_in as withdrawal_told,
 };
 
+use crate::place::Place;
 use aid_books::Book;
 use aid_filings::{Filing, SchoolFacts, What, WithdrawFacts};
 use aid_types::{Application, Program, School, Student, Term, Year};
@@ -135,17 +136,11 @@ pub fn term_at_school(filing: &Filing, school: School, year: Year, number: u8) -
 }
 
 /// The student's credits in the school's term, where they are filed.
-pub fn credits_at_school(
-    filing: &Filing,
-    school: School,
-    student: Student,
-    year: Year,
-    term: u8,
-) -> Option<u8>
-    ensures { result ≡ at_school school (credits_told student year term) filing.now }
+pub fn credits_at(filing: &Filing, place: &Place) -> Option<u8>
+    ensures { result ≡ at_school place.now.school (credits_told place.now.student place.now.year place.now.term) filing.now }
 {
-    if filing.key.school == school {
-        credits_in(&filing.what, student, year, term)
+    if filing.key.school == place.school {
+        credits_in(&filing.what, place.student, place.year, place.term)
     } else {
         None
     }
@@ -163,17 +158,11 @@ pub fn cost_at_school(filing: &Filing, school: School, student: Student, year: Y
 }
 
 /// The student's withdrawal from the school's term, where that is filed.
-pub fn withdrawal_at_school(
-    filing: &Filing,
-    school: School,
-    student: Student,
-    year: Year,
-    term: u8,
-) -> Option<WithdrawFacts>
-    ensures { result ≡ at_school school (withdrawal_told student year term) filing.now }
+pub fn withdrawal_at(filing: &Filing, place: &Place) -> Option<WithdrawFacts>
+    ensures { result ≡ at_school place.now.school (withdrawal_told place.now.student place.now.year place.now.term) filing.now }
 {
-    if filing.key.school == school {
-        withdrawal_in(&filing.what, student, year, term)
+    if filing.key.school == place.school {
+        withdrawal_in(&filing.what, place.student, place.year, place.term)
     } else {
         None
     }

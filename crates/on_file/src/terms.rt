@@ -1,5 +1,5 @@
 //! What the terms on file of a school say of a term that is to be filed.
-ghost use Rattle.std.specs.Prelude.{◌≡◌, ◌==◌, ◌&&◌, ◌^◌, ◌<◌, ◌≤◌, not, filter, reverse, length};
+ghost use Rattle.std.specs.Prelude.{◌≡◌, ◌==◌, ◌&&◌, ◌^◌, ◌<◌, not, filter, reverse, length};
 ghost use Rattle.enrolment.specs.Terms.{shares_day};
 ghost use Rattle.office_history.specs.Past.{terms_on_file};
 ghost use Rattle.office_history.specs.FactsOf.{first_term_at};
@@ -33,10 +33,9 @@ fn is_main_term(filing: &Filing, school: School, year: Year) -> bool
 }
 
 /// The position, from 1, of the school's earliest term on file that shares a day with this one, 0 where there is none.
-pub fn overlapping_term(history: &[Filing], school: School, term: &Term) -> u32
+pub(crate) fn overlapping_term(history: &[Filing], school: School, term: &Term) -> u32
     requires { length history.now < 2 ^ 32 }
-    ensures value { result ≡ first_term_at (λ t. t.school == school && shares_day term.now t.term) (terms_on_file (reverse history.now)) }
-    ensures within { result ≤ length history.now }
+    ensures { result ≡ first_term_at (λ t. t.school == school && shares_day term.now t.term) (terms_on_file (reverse history.now)) }
 {
     place(
         history
@@ -46,10 +45,9 @@ pub fn overlapping_term(history: &[Filing], school: School, term: &Term) -> u32
 }
 
 /// How many main terms the school has on file in the year.
-pub fn main_terms(history: &[Filing], school: School, year: Year) -> u32
+pub(crate) fn main_terms(history: &[Filing], school: School, year: Year) -> u32
     requires { length history.now < 2 ^ 32 }
-    ensures value { result ≡ length (filter (λ t. t.school == school && (t.year == year && not t.term.extra)) (terms_on_file (reverse history.now))) }
-    ensures within { result ≤ length history.now }
+    ensures { result ≡ length (filter (λ t. t.school == school && (t.year == year && not t.term.extra)) (terms_on_file (reverse history.now))) }
 {
     history
         .iter()

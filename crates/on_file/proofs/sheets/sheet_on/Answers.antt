@@ -1,13 +1,12 @@
-use Rattle.std.proofs.Common.{◌∙◌, List, ℕ, ap, reverse}
-use Rattle.enrolment.specs.Terms.{days_upto}
-use Rattle.on_file.proofs.AccountSteps.{account-nets}
-use Rattle.on_file.proofs.Ranges.{inputs_in_range}
+use Rattle.std.proofs.Common.{reverse}
+use Rattle.on_file.proofs.Ranges.{nets-cents, sheet-is}
 use Rattle.on_file.proofs.sheets.sheet_on.Goals as goal
 
-pub worksheet-requires : goal.worksheet-requires
-worksheet-requires c =
-    let t = c.in-Some.term in
+pub sheet-requires-clause-nets : goal.sheet-requires-clause-nets
+sheet-requires-clause-nets c =
     let w = c.args.withdrawal.now in
-    inputs_in_range (reverse c.args.history.now) c.args.key.now w t c.inputs.result c.requires.legal c.requires.worked_out c.in-Some.ensures
-    (c.inputs.ensures ∙ ap (λ (net : List ℕ). record { completed = days_upto t w.last; total = days_upto t t.last; charges = w.charges; net = net; could = w.could })
-    (account-nets _ _ _ _ _ _ c.requires.account))
+    nets-cents (reverse c.args.past.now) c.args.key.now.school w.student w.year w.term c.args.so_far.now c.requires.legal c.requires.account
+
+pub returns : goal.returns
+returns c =
+    sheet-is (reverse c.args.past.now) c.args.key.now c.args.withdrawal.now c.in-Some.term c.args.so_far.now c.sheet.result c.sheet.ensures c.in-Some.ensures c.requires.account

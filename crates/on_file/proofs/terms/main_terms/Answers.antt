@@ -4,7 +4,7 @@ use Rattle.on_file.specs.Filed.{is_main_term}
 use Rattle.on_file.proofs.Filed.{main_count}
 use Rattle.on_file.proofs.terms.main_terms.Goals as goal
 
-pub returns-clause-value : goal.returns-clause-value
-returns-clause-value c =
+pub returns : goal.returns
+returns c =
     let count : c.count.result ≡ count_by (λ f. is_main_term c.args.school c.args.year f.key.school f.what) c.args.history.now = search rules in
     count ∙ main_count c.args.school c.args.year c.args.history.now

@@ -4,8 +4,8 @@ use Rattle.on_file.proofs.Filed.{overlap_place}
 use Rattle.on_file.proofs.Oldest.{placed}
 use Rattle.on_file.proofs.terms.overlapping_term.Goals as goal
 
-pub returns-clause-value : goal.returns-clause-value
-returns-clause-value c =
+pub returns : goal.returns
+returns c =
     c.place.ensures
     ∙ placed _ _ _ _ _ _ _ c.iter.ensures.rest c.position.ensures.ran (λ x b q k. search (rules, tests))
     ∙ overlap_place c.args.school c.args.term.now (reverse c.args.history.now)

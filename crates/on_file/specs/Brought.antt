@@ -1,0 +1,33 @@
+-- What a payment and a withdrawal bring, on the filings before them.
+use Rattle.std.specs.Prelude.{◌≡◌, ℕ, ◌+◌, ◌*◌, ◌≤◌, ◌==◌, List, sum, if◌then◌else◌}
+use Rattle.aid_types.specs.Programs.{rank}
+use Rattle.aid_filings.specs.declared.filing.Amount.{Amount}
+use Rattle.aid_filings.specs.declared.filing.Filing.{Filing}
+use Rattle.aid_replies.specs.declared.reply.Outcome.{Outcome}
+use Rattle.aid_replies.specs.declared.reply.Outcome.TheVariants.{Paid, Returned}
+use Rattle.lifetime_ledger.specs.Used.{use_of}
+use Rattle.withdrawal_returns.specs.declared.Lines.{Lines}
+use Rattle.office_history.specs.Award.{scheduled}
+use Rattle.office_history.specs.Net.{in_year, net, used, used_else}
+
+-- the year's net of a payment's program with it
+abbrev pub net_with : List Filing → Amount → ℕ
+net_with past a = net past (in_year a.student a.year (rank a.program)) + a.cents
+
+-- where the program is Pell, the year's net with the payment is within one and a half Scheduled Awards
+abbrev pub IsWithPayment : List Filing → Amount → Type 0
+IsWithPayment past a = rank a.program ≡ 3 → net_with past a ≤ 150 * scheduled past a.student a.year
+
+-- the lifetime use with a payment
+abbrev pub used_with : List Filing → Amount → ℕ
+used_with past a =
+    if rank a.program == 3
+    then used_else past a.student a.year + use_of (net_with past a) (scheduled past a.student a.year)
+    else used past a.student
+
+abbrev pub paid_with : List Filing → Amount → Outcome
+paid_with past a = Paid (net_with past a) (used_with past a)
+
+-- the figures of a worksheet
+abbrev pub returned_by : Lines → Outcome
+returned_by s = Returned s.percent s.school (sum s.owed) s.post
