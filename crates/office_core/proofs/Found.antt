@@ -1,14 +1,21 @@
 -- The filing at a position that a search tells.
-use Rattle.std.proofs.Common.{◌≡◌, ℕ, zero, suc, ◌+◌, refl, sym, ap, subst, ◌∙◌, arith, Bool, true, false, List, [], ◌∷◌, ◌++◌, length, reverse, Some}
+use Rattle.std.proofs.Common.{◌≡◌, ℕ, zero, suc, ◌+◌, refl, sym, ap, subst, ◌∙◌, arith, Bool, true, false, List, [], ◌∷◌, ◌++◌, length, reverse, Option, Some, None, Bor, add-one}
+use Rattle.std.specs.Prelude.{◌==◌, is_some}
 use Rattle.std.specs.List.{slice_get}
+use Rattle.std.specs.Option.{option_copied}
 use Rattle.std.proofs.lemmas.List.{length-reverse, reverse-append}
 use Rattle.aid_types.proofs.Same.{tells_key}
+use Rattle.aid_books.specs.declared.book.Book.{Book}
 use Rattle.aid_filings.specs.declared.filing.Filing.{Filing}
+use Rattle.aid_filings.specs.declared.filing.What.{What}
+use Rattle.aid_filings.specs.declared.filing.What.TheVariants.{Book as BookFiled, School, Calendar, Prior, Apply, Enrol, Originate, Pay, Withdraw, Repay, Adjust}
 use Rattle.aid_filings.proofs.SameFiling.{tells_filing}
 use Rattle.office_history.specs.Answer.{IsLegal}
-use Rattle.office_history.specs.Past.{filing_at, first_at, first_of_two, key_at, same_filing, same_key}
+use Rattle.office_history.specs.FactsOf.{book_at}
+use Rattle.office_history.specs.Past.{book_in, earlier, earliest, filing_at, first_at, first_of_two, given, key_at, same_filing, same_key, the_book}
 use Rattle.office_history.proofs.Legal.{filing_at-new}
-use Rattle.office_core.specs.Register.{filing_in}
+use Rattle.on_file.specs.Rows.{filing_in}
+use Rattle.office_core.specs.Index.{book_filed}
 
 -- an element stays where others are appended, and the first of these comes after the list
 stays : (xs ys : List Filing) (i : ℕ) (x : Filing) → slice_get xs i ≡ Some x → slice_get (xs ++ ys) i ≡ Some x
@@ -85,3 +92,68 @@ other_stands past f g n legal key at other = go (filing_at f past) refl
         let same : suc k ≡ suc n = sym (key_stands past f k legal e) ∙ key in
         let here : filing_in past (suc n) ≡ Some f = subst (λ (m : ℕ). filing_in past m ≡ Some f) same (filing_found past f k e) in
         absurd (other cc)
+
+-- what the earliest filing tells is told by the filing at the position that a search finds
+abbrev asked : {A : Type 0} → (Filing → Option A) → Option Filing → Option A
+asked ask None = None
+asked ask (Some f) = ask f
+
+earlier_some : {A : Type 0} (a : A) (o : Option A) → is_some o ≡ true → earlier (Some a) o ≡ o
+earlier_some a None some = cc
+earlier_some a (Some b) some = refl
+
+pub earliest_at : {A : Type 0} (ask : Filing → Option A) (past : List Filing) →
+    earliest ask past ≡ asked ask (filing_in past (first_at (λ f. is_some (ask f)) past))
+earliest_at ask [] = refl
+earliest_at {A} ask (f ∷ past) = go (earliest_at ask past) (ask f) refl (first_at (λ g. is_some (ask g)) past) refl
+  where
+    go : earliest ask past ≡ asked ask (filing_in past (first_at (λ g. is_some (ask g)) past)) → (o : Option A) → ask f ≡ o → (k : ℕ) →
+        first_at (λ g. is_some (ask g)) past ≡ k →
+        earlier o (earliest ask past) ≡ asked ask (filing_in (f ∷ past) (first_of_two (is_some o) k (length past + 1)))
+    go ih None t zero e = ih ∙ ap (λ (n : ℕ). asked ask (filing_in past n)) e
+    go ih None t (suc n) e =
+        let w = found (λ g. is_some (ask g)) past n e in
+        ih ∙ ap (λ (n : ℕ). asked ask (filing_in past n)) e ∙ ap (asked ask) (w.1 ∙ sym (older past f w.0 n w.1))
+    go ih (Some a) t zero e =
+        ap (earlier (Some a)) (ih ∙ ap (λ (n : ℕ). asked ask (filing_in past n)) e)
+        ∙ sym t
+        ∙ sym (ap (asked ask) (ap (filing_in (f ∷ past)) (add-one (length past)) ∙ newest past f (length past) (add-one (length past))))
+    go ih (Some a) t (suc n) e =
+        let w = found (λ g. is_some (ask g)) past n e in
+        let told : earliest ask past ≡ ask w.0 = ih ∙ ap (λ (n : ℕ). asked ask (filing_in past n)) e ∙ ap (asked ask) w.1 in
+        earlier_some a (earliest ask past) (ap is_some told ∙ w.2) ∙ told ∙ sym (ap (asked ask) (older past f w.0 n w.1))
+
+-- so a year's book is the one that is filed where its search tells
+abbrev pub filed_at : Option Filing → Option Book
+filed_at None = None
+filed_at (Some f) = book_filed f.what
+
+given_filed : (year : ℕ) (w : What) → is_some (book_in year w) ≡ true → book_in year w ≡ book_filed w
+given_filed year (BookFiled b) some = go (b.year == year) some
+  where
+    go : (t : Bool) → is_some (given t b) ≡ true → given t b ≡ Some b
+    go true some = refl
+    go false some = cc
+given_filed year (School s) some = cc
+given_filed year (Calendar s) some = cc
+given_filed year (Prior s) some = cc
+given_filed year (Apply s) some = cc
+given_filed year (Enrol s) some = cc
+given_filed year (Originate s) some = cc
+given_filed year (Pay s) some = cc
+given_filed year (Withdraw s) some = cc
+given_filed year (Repay s) some = cc
+given_filed year (Adjust s) some = cc
+
+pub book_found : (past : List Filing) (year : ℕ) → the_book past year ≡ filed_at (filing_in past (book_at past year))
+book_found past year = earliest_at (λ f. book_in year f.what) past ∙ go (book_at past year) refl
+  where
+    go : (k : ℕ) → book_at past year ≡ k → asked (λ f. book_in year f.what) (filing_in past k) ≡ filed_at (filing_in past k)
+    go zero e = refl
+    go (suc n) e =
+        let w = found (λ f. is_some (book_in year f.what)) past n e in
+        ap (asked (λ f. book_in year f.what)) w.1 ∙ given_filed year w.0.what w.2 ∙ sym (ap filed_at w.1)
+
+pub book_here : (past : List Filing) (year position : ℕ) (o : Option (Bor Filing)) → position ≡ book_at past year → option_copied o ≡ filing_in past position →
+    the_book past year ≡ filed_at (option_copied o)
+book_here past year position o at here = book_found past year ∙ ap (λ (n : ℕ). filed_at (filing_in past n)) (sym at) ∙ ap filed_at (sym here)

@@ -1,13 +1,28 @@
 mod AnswerLaws
+mod AtPosition
+mod Digits
+mod EnrolmentsLeast
+mod EnrolmentsRows
+mod EnrolmentsTerms
+mod EnrolmentsWalk
+mod IndexGrown
+mod LinksChain
+mod LinksMore
+mod LinksTerms
+mod NetTold
+mod NoRows
 mod OtherRules
 mod Quoted
+mod RowsWritten
 mod StandingLemmas
 mod Unpaid
 pub mod Found
-pub mod Indexed
 pub mod OnRecord
-pub mod OutcomeLemmas
-pub mod Owed
-pub mod Payments
-pub mod Places
-pub mod Short
+pub mod PlacesAfter
+pub mod RowNames
+pub mod SchoolYearsAfter
+pub mod SchoolsAfter
+pub mod StudentUse
+pub mod YearFilings
+pub mod YearMoves
+pub mod YearNames

@@ -14,7 +14,8 @@ use Rattle.office_history.specs.Answer.{IsLegal, answer_of, outcome_at, outcome_
 use Rattle.office_history.specs.Past.{filing_at, key_at, same_filing}
 use Rattle.office_history.proofs.Cases.{answer_of-used}
 use Rattle.office_history.proofs.Recorded.{outcome_at-stays}
-use Rattle.office_core.specs.Register.{filing_in, outcomes_of}
+use Rattle.on_file.specs.Rows.{filing_in}
+use Rattle.office_core.specs.Register.{outcomes_of}
 use Rattle.office_core.proofs.Found.{other_stands}
 use Rattle.office_core.proofs.StandingLemmas.{standing_at}
 
@@ -43,24 +44,3 @@ on_record (f ∷ past) i o lt =
           ∙ sym (outcome_at-stays [] past f)
           ∙ ap (λ (n : ℕ). outcome_at (f ∷ past) (n + 1)) (sym e)
     ]
-
--- a filing at the position of its key is answered by what is on record there
-pub answer_recorded : (h : List Filing) (outcomes : List Outcome) (i position : ℕ) (f g : Filing) (o : Outcome) → IsLegal (reverse h) → outcomes ≡ outcomes_of (reverse h) →
-    position ≡ suc i → i < length h → g ≡ get_or h i g → same_filing f g ≡ true → Again position (get_or outcomes i o) ≡ answer_of (reverse h) f
-answer_recorded h outcomes i position f g o legal kept at lt is same =
-    let here : slice_get h i ≡ Some f = slice_get_read h (length h) i g refl lt is ∙ ap (λ (x : Filing). Some x) (sym (tells_filing.same f g same)) in
-    let within : i < length (reverse h) = omega (arith, length-reverse h) in
-    let told : get_or outcomes i o ≡ outcome_at (reverse h) (suc i) =
-    ap (λ (l : List Outcome). get_or l i o) kept ∙ on_record (reverse h) i o within ∙ ap (outcome_at (reverse h)) (add-one i) in
-    (λ k. Again (at k) (told k)) ∙ sym (standing_at h i f legal here)
-
--- another filing at the position of its key is refusal 15
-pub answer_used : (h : List Filing) (i position : ℕ) (f g : Filing) → IsLegal (reverse h) → position ≡ key_at f.key (reverse h) →
-    position ≡ suc i → i < length h → g ≡ get_or h i g → same_filing f g ≡ false →
-    Refused (record { rule = 15; kept = position; bound = f.key.number }) ≡ answer_of (reverse h) f
-answer_used h i position f g legal key at lt is other =
-    let here : filing_in (reverse h) (suc i) ≡ Some g =
-    ap (λ (l : List Filing). slice_get l i) (reverse-reverse h) ∙ slice_get_read h (length h) i g refl lt is in
-    let nowhere : filing_at f (reverse h) ≡ 0 = other_stands (reverse h) f g i legal (sym key ∙ at) here
-    (λ e. let same : same_filing f g ≡ true = subst (λ (x : Filing). same_filing f x ≡ true) (sym e) (tells_filing.told f) in let bad : ⊥ = cc in bad) in
-    sym (answer_of-used (reverse h) f position nowhere key (omega arith))

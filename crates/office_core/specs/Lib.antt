@@ -1,5 +1,11 @@
-pub mod Outcomes
+pub mod After
+pub mod Digits
+pub mod Enrolments
+pub mod Index
+pub mod Links
+pub mod Moved
 pub mod Register
-pub mod Terms
+pub mod WalkedFor
+pub mod Walks
 pub use Rattle.office_history.specs.Answer
 pub use Rattle.office_history.specs.Past

@@ -1,22 +1,17 @@
 -- An office as its callers see it.
-use Rattle.std.specs.Prelude.{◌≡◌, ◌≢◌, ℕ, zero, suc, ◌*◌, List, [], ◌∷◌, ◌++◌, reverse, Option, Some, None}
-use Rattle.std.specs.List.{slice_get}
+use Rattle.std.specs.Prelude.{◌≡◌, ◌≢◌, ℕ, ◌*◌, List, [], ◌∷◌, ◌++◌, Some}
 use Rattle.aid_filings.specs.declared.filing.Amount.{Amount}
 use Rattle.aid_filings.specs.declared.filing.Filing.{Filing}
 use Rattle.aid_filings.specs.declared.filing.What.TheVariants.{Pay}
 use Rattle.aid_types.specs.declared.number.Program.TheVariants.{Pell}
 use Rattle.aid_replies.specs.declared.reply.Outcome.{Outcome}
 use Rattle.office_history.specs.Answer.{outcome_of}
+use Rattle.on_file.specs.Rows.{filing_in}
 
 -- its filings, the newest first, and how many more it takes without asking for memory
 pub record Register : Type 0 where
   pub history : List Filing
   pub spare : ℕ
-
--- the filing at a position, which counts from 1 at the oldest
-abbrev pub filing_in : List Filing → ℕ → Option Filing
-filing_in past zero = None
-filing_in past (suc i) = slice_get (reverse past) i
 
 -- at a position stands another filing with a filing's key
 abbrev pub IsKeyUsedAt : List Filing → ℕ → Filing → Type 0

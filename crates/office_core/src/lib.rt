@@ -1,16 +1,25 @@
-//! The office: which filings stand, what it answers to an ask, and how a filing is admitted. Each answer is computed from the filings so far; the outcome of each admission is kept.
+//! The office: which filings stand, what it answers to an ask, and how a filing is admitted. Its filings are kept with the
+//! outcomes of their admissions and with sorted rows that tell what is on file.
 #![tactic(auto)]
 
-mod answers;
-mod award;
-mod kinds;
+mod after_places;
+mod after_schools;
+mod after_years;
+mod enrolments;
+mod entries;
+mod filed;
+mod indexed;
+mod links;
+mod names;
 mod office;
-mod outcomes;
-mod standings;
-mod terms;
+mod own_entry;
+mod uncounted;
+mod walks;
+mod written;
 
-pub use answers::{answer, is_legal};
-pub use kinds::{facts, payment_facts};
+pub use entries::{SchoolEntry, StudentEntry};
+pub use indexed::Indexed;
+pub use links::Link;
+pub use names::{FilingName, StudentPlace, StudentSchoolYear, StudentYear};
 pub use office::Office;
-pub use outcomes::{outcome, past_outcome};
-pub use standings::{quote, standing};
+pub use written::Written;

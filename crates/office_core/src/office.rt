@@ -1,5 +1,5 @@
-//! The office over a list of filings.
-ghost use Rattle.std.specs.Prelude.{◌≡◌, ◌≢◌, ◌↔◌, ◌+◌, ◌*◌, ◌<◌, ◌≤◌, ◌∷◌, [], ℕ, Some, None, max, length, reverse, IsTrue, IsOk, IsSome, IfSome, OnOk, OnErr};
+//! The office.
+ghost use Rattle.std.specs.Prelude.{◌≡◌, ◌≢◌, ◌↔◌, ◌+◌, ◌*◌, ◌^◌, ◌<◌, ◌≤◌, ◌∷◌, [], ℕ, Some, None, max, length, reverse, IsTrue, IsOk, IsSome, IfSome, OnOk, OnErr};
 ghost use Rattle.std.specs.List.{AllPairs};
 ghost use Rattle.std.specs.Option.{option_copied};
 ghost use Rattle.aid_filings.specs.declared.filing.Amount.{Amount};
@@ -17,14 +17,18 @@ ghost use Rattle.office_history.specs.FactsOf.{cell_at};
 ghost use Rattle.office_history.specs.Net.{net_at as net_of_cell};
 ghost use Rattle.office_history.specs.Past.{key_at};
 ghost use Rattle.office_history.specs.Within.{IsWithinEveryLimit};
-ghost use Rattle.office_core.specs.Register.{filing_in, IsKeyUsedAt, IsPellPayment};
+ghost use Rattle.on_file.specs.Rows.{filing_in};
+ghost use Rattle.office_core.specs.Register.{IsKeyUsedAt, IsPellPayment};
+ghost use Rattle.office_core.specs.WalkedFor.{walked_for};
 
-use crate::answers::{answer_on_record, is_admissible};
-use crate::{outcome, quote, standing};
+use crate::indexed::Indexed;
+use crate::uncounted::place_of;
 use aid_filings::Filing;
 use aid_replies::{Ask, Outcome, StandingRow, Verdict};
 use aid_types::{Program, School, Student, Year};
-use on_file::net_at;
+use on_file::{
+    OnFile, answer, is_admitted, outcome_on, quote, quote_on, standing, standing_on, verdict_on,
+};
 use std::alloc::{AllocError, Global};
 use std::marker::Model;
 use std::sync::ledger::Ledger;
@@ -34,22 +38,15 @@ use steps::Steps;
 /// its history, the newest filing first, and its spare room. The history of every office is legal.
 #[derive(Drop)]
 pub struct Office {
-    filings: Vec<Filing>,
-    outcomes: Vec<Outcome>,
-    spare: u32,
+    indexed: Indexed,
 }
 
 impl Model for Office {
-    ghost use Rattle.std.specs.Prelude.{◌≡◌, ◌+◌, ◌≤◌, reverse, vec_len, vec_capacity};
-    ghost use Rattle.office_history.specs.Answer.{IsLegal};
-    ghost use Rattle.office_core.specs.Register.{Register, outcomes_of};
+    ghost use Rattle.office_core.specs.Register.{Register};
 
     ghost Value = { Register };
 
-    ghost view = { λ o. record { history = reverse o.filings.items; spare = o.spare } };
-
-    ghost invariant = { λ o. IsLegal (reverse o.filings.items) × (o.outcomes.items ≡ outcomes_of (reverse o.filings.items))
-        × (vec_len o.filings + o.spare ≤ vec_capacity o.filings) × (vec_len o.outcomes + o.spare ≤ vec_capacity o.outcomes) };
+    ghost view = { λ o. o.indexed };
 }
 
 impl Office {
@@ -59,9 +56,7 @@ impl Office {
         ensures spare { result.spare ≡ 0 }
     {
         Office {
-            filings: Vec::new(alloc),
-            outcomes: Vec::new(alloc),
-            spare: 0,
+            indexed: Indexed::new(alloc),
         }
     }
 
@@ -72,12 +67,7 @@ impl Office {
         ensures succeeds { n ≤ self.old.spare → IsOk result }
         ensures err { OnErr result (self.new ≡ self.old) }
     {
-        if self.spare < n {
-            self.filings.reserve(n as usize)?;
-            self.outcomes.reserve(n as usize)?;
-            self.spare = n;
-        }
-        Ok(())
+        self.indexed.reserve(n)
     }
 
     /// The number of filings.
@@ -90,14 +80,14 @@ impl Office {
         ensures within { IsWithinEveryLimit self.now.history }
         ensures keys { AllPairs (λ f g. f.key ≢ g.key) self.now.history }
     {
-        self.filings.as_slice().len() as u32
+        self.indexed.front()
     }
 
     /// The filings, the oldest first.
     pub fn filings(&self) -> &[Filing]
         ensures { reverse result.now ≡ self.now.history }
     {
-        self.filings.as_slice()
+        self.indexed.filings()
     }
 
     /// The filing at this position, counted from 1; `None` where there is no such position.
@@ -105,10 +95,7 @@ impl Office {
         ensures value { option_copied result ≡ filing_in self.now.history position }
         ensures stands { IsSome result ↔ (1 ≤ position) × (position ≤ length self.now.history) }
     {
-        if position == 0 {
-            return None;
-        }
-        self.filings.as_slice().get(position as usize - 1)
+        self.indexed.filing(position)
     }
 
     /// The outcome with which the filing at this position was admitted; `None` where there is no such position.
@@ -119,8 +106,7 @@ impl Office {
         if position == 0 || position > self.front() {
             return None;
         }
-        let index = position as usize - 1;
-        Some(self.outcomes.as_slice()[index])
+        Some(self.indexed.outcome(position))
     }
 
     /// The net of a program in a student's term at a school, in cents: payments less school returns, repayments and
@@ -136,15 +122,13 @@ impl Office {
         ensures value { result ≡ net_of_cell self.now.history (cell_at school student year term (rank_of program)) }
         ensures at_most { result ≤ 99999999 }
     {
-        net_at(
-            self.filings.as_slice(),
-            0,
-            school,
-            student,
-            year,
-            term,
-            program,
-        )
+        // The front tells that the history is legal.
+        let _filings = self.indexed.front();
+        let account = place_of(&self.indexed, school, student, year, term).account;
+        account
+            .paid
+            .at(program)
+            .saturating_sub(account.taken.at(program))
     }
 
     /// The verdict on a filing. It changes nothing and takes no memory.
@@ -167,7 +151,9 @@ impl Office {
         ensures used { (refusal : Refusing) → result ≡ Refused refusal → refusal.rule ≡ 15
             → IsKeyUsedAt self.now.history refusal.kept filing.now × (refusal.bound ≡ filing.now.key.number) }
     {
-        answer_on_record(self.filings.as_slice(), self.outcomes.as_slice(), filing)
+        // The front tells that the history is legal.
+        let _filings = self.indexed.front();
+        verdict_on(&self.indexed, filing)
     }
 
     /// The greatest Pell payment in cents, of whole dollars, that the school could file for the student's term under a new
@@ -182,7 +168,7 @@ impl Office {
             → result < 100 * dollars → breaks self.now.history filing ≢ None }
         ensures at_most { result ≤ 99999900 }
     {
-        quote(self.filings.as_slice(), school, student, year, term)
+        quote_on(&self.indexed, school, student, year, term)
     }
 
     /// Where a student stands in a year. It changes nothing and takes no memory.
@@ -192,11 +178,14 @@ impl Office {
         // Without an application in force nothing is paid.
         ensures unpaid { result.transaction ≡ 0 → result.paid ≡ 0 }
     {
-        standing(self.filings.as_slice(), student, year)
+        // The front tells that the history is legal.
+        let _filings = self.indexed.front();
+        standing_on(&self.indexed, student, year)
     }
 
     /// The verdict on an ask: `judge`, `quote` or `standing`. It changes nothing and takes no memory. `steps` counts the
-    /// looks at rows of an index, of which there is none.
+    /// looks at rows of an index: at most twelve for each binary digit of the number of filings, and four for each term of the
+    /// school and each enrolment of the student that are asked about.
     pub fn ask<L: Ledger>(&self, ask: &Ask, steps: &mut Steps<L>) -> Verdict
         ensures answer { result ≡ answer_to self.now.history ask.now }
 
@@ -227,17 +216,22 @@ impl Office {
         // Without an application in force nothing is paid.
         ensures unpaid { (student year : ℕ) → (row : Row) → ask.now ≡ StandingAsked student year → result ≡ Standing row
             → row.transaction ≡ 0 → row.paid ≡ 0 }
-        ensures counted { steps.new ≡ steps.old }
+        ensures counted { (digits : ℕ) → length self.now.history < 2 ^ digits
+            → steps.new ≤ steps.old + 12 * digits + 4 * walked_for self.now.history ask.now }
     {
+        // The front tells that the history is legal.
+        let _filings = self.indexed.front();
         match ask {
-            Ask::File(filing) => self.judge(filing),
+            Ask::File(filing) => answer(&self.indexed, filing, steps),
             Ask::Quote {
                 school,
                 student,
                 year,
                 term,
-            } => Verdict::Quoted(self.quote(*school, *student, *year, *term)),
-            Ask::Standing { student, year } => Verdict::Standing(self.standing(*student, *year)),
+            } => Verdict::Quoted(quote(&self.indexed, *school, *student, *year, *term, steps)),
+            Ask::Standing { student, year } => {
+                Verdict::Standing(standing(&self.indexed, *student, *year, steps))
+            }
         }
     }
 
@@ -245,7 +239,7 @@ impl Office {
     pub fn admits(&self, filing: &Filing) -> bool
         ensures { result ≡ is_admit (answer_of self.now.history filing.now) }
     {
-        is_admissible(self.filings.as_slice(), filing)
+        is_admitted(&self.indexed, filing)
     }
 
     /// Appends a filing that the office admits, and answers its outcome. It takes no memory, but one of the places of
@@ -257,10 +251,10 @@ impl Office {
         ensures outcome { answer_of self.old.history filing ≡ Admit result }
         ensures spare { self.new.spare + 1 ≡ self.old.spare }
     {
-        let outcome = outcome(self.filings.as_slice(), &filing);
-        self.filings.push_reserved(filing);
-        self.outcomes.push_reserved(outcome);
-        self.spare -= 1;
+        // The front tells that the history is legal.
+        let _filings = self.indexed.front();
+        let outcome = outcome_on(&self.indexed, &filing);
+        self.indexed.admit(filing, outcome);
         outcome
     }
 }

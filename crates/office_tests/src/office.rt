@@ -109,8 +109,8 @@ fn assert_steps<L: Ledger>(
     Ok(())
 }
 
-// Judges a filing, and admits it where the office would.
-fn file(office: &mut Office, filing: Filing) -> Result<Verdict, AllocError> {
+/// Judges a filing, and admits it where the office would.
+pub(crate) fn file(office: &mut Office, filing: Filing) -> Result<Verdict, AllocError> {
     office.reserve(1)?;
     let verdict = office.judge(&filing);
     if let Verdict::Admit(_) = verdict {

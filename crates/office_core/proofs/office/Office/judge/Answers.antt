@@ -1,4 +1,4 @@
-use Rattle.std.proofs.Common.{◌≡◌, None, Some, List, reverse, subst, ap, sym, ◌∙◌}
+use Rattle.std.proofs.Common.{◌≡◌, None, Some, List, ap, subst, sym, ◌∙◌}
 use Rattle.aid_filings.specs.declared.filing.Filing.{Filing}
 use Rattle.office_history.specs.Answer.{IsLegal, answer_of}
 use Rattle.office_core.specs.Register.{Register}
@@ -10,10 +10,9 @@ pub returns : goal.returns
 returns c =
     let past = c.args.self.now.history in
     let filing = c.args.filing.now in
-    let view : reverse c.self.inside.filings.items ≡ past = ap (λ (r : Register). r.history) c.self.view_is in
-    let legal : IsLegal past = subst IsLegal view c.self.invariant.0 in
-    let told : c.answer_on_record.result ≡ answer_of past filing =
-    c.answer_on_record.ensures ∙ ap (λ (h : List Filing). answer_of h filing) (ap (λ (h : List Filing). reverse h) c.as_slice.ensures.value ∙ view) in
+    let view : c.self.inside.indexed.history ≡ past = ap (λ (r : Register). r.history) c.self.view_is in
+    let legal : IsLegal past = subst IsLegal view c.front-filings.ensures.legal in
+    let told : c.verdict_on.result ≡ answer_of past filing = c.verdict_on.ensures ∙ ap (λ (h : List Filing). answer_of h filing) view in
     record {
       answer = told;
       again = λ position at. told ∙ standing past position filing legal at;

@@ -1,4 +1,4 @@
-use Rattle.std.proofs.Common.{◌≡◌, ℕ, ◌*◌, ◌<◌, ◌≤◌, None, List, reverse, subst, ap, ◌∙◌}
+use Rattle.std.proofs.Common.{◌≡◌, ℕ, ◌*◌, ◌<◌, ◌≤◌, None, List, subst, ap, ◌∙◌}
 use Rattle.aid_filings.specs.declared.filing.Filing.{Filing}
 use Rattle.filing_rules.specs.Rules.{first_broken, payment_lines}
 use Rattle.office_history.specs.Answer.{quote_of}
@@ -11,17 +11,16 @@ pub returns : goal.returns
 returns c =
     let past = c.args.self.now.history in
     let a = c.args in
-    let view : reverse c.self.inside.filings.items ≡ past = ap (λ (r : Register). r.history) c.self.view_is in
-    let read : reverse c.as_slice.result.now ≡ past = ap (λ (h : List Filing). reverse h) c.as_slice.ensures.value ∙ view in
-    let value : c.quote.result ≡ quote_of past a.school a.student a.year a.term =
-    c.quote.ensures.value ∙ ap (λ (h : List Filing). quote_of h a.school a.student a.year a.term) read in
-    let below = subst (λ (h : List Filing). (dollars : ℕ) → 0 < dollars → 100 * dollars ≤ c.quote.result →
-    first_broken (payment_lines (payment_facts h a.school a.student a.year a.term 3) a.school a.student a.year a.term 3 (100 * dollars)) ≡ None) read
-    c.quote.ensures.below in
+    let view : c.self.inside.indexed.history ≡ past = ap (λ (r : Register). r.history) c.self.view_is in
+    let value : c.quote_on.result ≡ quote_of past a.school a.student a.year a.term =
+    c.quote_on.ensures.value ∙ ap (λ (h : List Filing). quote_of h a.school a.student a.year a.term) view in
+    let below = subst (λ (h : List Filing). (dollars : ℕ) → 0 < dollars → 100 * dollars ≤ c.quote_on.result →
+    first_broken (payment_lines (payment_facts h a.school a.student a.year a.term 3) a.school a.student a.year a.term 3 (100 * dollars)) ≡ None) view
+    c.quote_on.ensures.below in
     record {
       value = value;
       payable = λ filing dollars is some most. payable past filing a.school a.student a.year a.term dollars is (below dollars some most);
       greatest = λ filing dollars is above.
           unpayable past filing a.school a.student a.year a.term dollars is (subst (λ (n : ℕ). n < 100 * dollars) value above);
-      at_most = c.quote.ensures.at_most;
+      at_most = c.quote_on.ensures.at_most;
     }

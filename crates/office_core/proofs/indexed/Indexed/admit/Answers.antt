@@ -1,0 +1,96 @@
+use Rattle.std.proofs.Common.{◌≡◌, ℕ, ◌+◌, ◌≤◌, ◌∷◌, [], List, ap, length, reverse, subst, sym, ◌∙◌}
+use Rattle.std.proofs.lemmas.List.{reverse-append}
+use Rattle.aid_filings.specs.declared.filing.Filing.{Filing}
+use Rattle.office_core.specs.Index.{IndexRows, IsIndexed}
+use Rattle.office_core.specs.Links.{AreLinked}
+use Rattle.office_core.specs.Register.{Register}
+use Rattle.office_core.specs.declared.links.Link.{Link}
+use Rattle.office_core.proofs.IndexGrown.{AreRows, HaveOneMore, few_left, index_grown, linkable, places_left, room_left}
+use Rattle.office_core.proofs.RowsWritten.{places_after, school_years_after, years_after}
+use Rattle.office_core.proofs.indexed.Indexed.admit.Goals as goal
+
+pub write_place-slot-requires-clause-few : goal.write_place-slot-requires-clause-few
+write_place-slot-requires-clause-few c = few_left c.self.inside.filings.items _ c.self.invariant.0.legal c.self.invariant.0.few_places
+
+pub write_school-requires-clause-few : goal.write_school-requires-clause-few
+write_school-requires-clause-few c = few_left c.self.inside.filings.items _ c.self.invariant.0.legal c.self.invariant.0.few_schools
+
+pub write_student-requires-clause-few : goal.write_student-requires-clause-few
+write_student-requires-clause-few c = few_left c.self.inside.filings.items _ c.self.invariant.0.legal c.self.invariant.0.few_students
+
+pub write-requires-clause-few : goal.write-requires-clause-few
+write-requires-clause-few c = few_left c.self.inside.filings.items _ c.self.invariant.0.legal c.self.invariant.0.few_years
+
+pub write-requires-2-clause-few : goal.write-requires-2-clause-few
+write-requires-2-clause-few c = few_left c.self.inside.filings.items _ c.self.invariant.0.legal c.self.invariant.0.few_school_years
+
+pub invariant_of-self : goal.invariant_of-self
+invariant_of-self c =
+    let past = c.args.self.now.history in
+    let f = c.args.filing in
+    let w = c.rows_after-written.result in
+    let written = c.rows_after-written.ensures in
+    let filings = c.self.inside.filings.items in
+    let old : IndexRows = record {
+      keys = c.self.inside.keys.rows;
+      books = c.self.inside.books.rows;
+      schools = c.self.inside.schools.rows;
+      students = c.self.inside.students.rows;
+      places = c.self.inside.places.rows;
+      years = c.self.inside.years.rows;
+      school_years = c.self.inside.school_years.rows;
+      links = c.self.inside.links.items;
+    } in
+    let new : IndexRows = record {
+      keys = c.write_key.new.keys.rows;
+      books = c.write_book.new.books.rows;
+      schools = c.write_school.new.schools.rows;
+      students = c.write_student.new.students.rows;
+      places = c.write_place-slot.new.rows.rows;
+      years = c.write.new.rows.rows;
+      school_years = c.write-2.new.rows.rows;
+      links = c.push_reserved.new.self.items;
+    } in
+    let view : reverse filings ≡ past = ap (λ (r : Register). r.history) c.self.view_is in
+    let before : IsIndexed past c.self.inside.outcomes.items old =
+    subst (λ (l : List Filing). IsIndexed l c.self.inside.outcomes.items old) view c.self.invariant.0 in
+    let here : c.front-position.result + 1 ≡ length past + 1 = ap (λ (n : ℕ). n + 1) c.front-position.ensures.value in
+    let rows : AreRows (f ∷ past) new = record {
+      keys = c.write_key.ensures.rows past here c.requires.legal.1 before.keys;
+      books = c.write_book.ensures.rows past here before.books;
+      schools = c.write_school.ensures.rows past here written.school before.schools;
+      students = c.write_student.ensures.rows past here written.student before.students;
+      places = places_after past f w.place old.places new.places c.write_place-slot.ensures.values before.places written.place;
+      years = years_after past f w.year old.years new.years c.write.ensures.values before.years written.year;
+      school_years = school_years_after past f w.school_year old.school_years new.school_years c.write-2.ensures.values before.school_years written.school_year;
+      links = subst (λ (l : List Link). AreLinked (f ∷ past) new.places l) (sym c.push_reserved.ensures.items)
+          (c.link_of.ensures past old.places new.places old.links
+          (linkable past f w old.places new.places c.newest_before-before.result c.write_place-slot.result c.term_of-school_at.result.0 c.term_of-school_at.result.1
+          c.requires.legal written c.write_place-slot.ensures.stays c.write_place-slot.ensures.slot c.newest_before-before.ensures c.term_of-school_at.ensures)
+          before.links);
+    } in
+    let more : HaveOneMore old new = record {
+      keys = c.write_key.ensures.count;
+      books = c.write_book.ensures.count;
+      schools = c.write_school.ensures.count;
+      students = c.write_student.ensures.count;
+      places = c.write_place-slot.ensures.count;
+      years = c.write.ensures.count;
+      school_years = c.write-2.ensures.count;
+    } in
+    let grown : reverse c.push_reserved-2.new.self.items ≡ f ∷ past =
+    ap (λ (l : List Filing). reverse l) c.push_reserved-2.ensures.items ∙ reverse-append filings (f ∷ []) ∙ ap (λ (l : List Filing). f ∷ l) view in
+    let some : 1 ≤ c.self.inside.spare = subst (λ (n : ℕ). 1 ≤ n) (sym (ap (λ (r : Register). r.spare) c.self.view_is)) c.requires.room in (
+      index_grown past (reverse c.push_reserved-2.new.self.items) f c.self.inside.outcomes.items c.push_reserved-3.new.self.items c.args.outcome old new grown
+          c.push_reserved-3.ensures.items c.requires.legal c.requires.outcome before rows more,
+      places_left c.self.inside.spare _ _ _ _ some c.self.invariant.1 c.push_reserved-2.ensures.len c.push_reserved-2.ensures.capacity,
+      places_left c.self.inside.spare _ _ _ _ some c.self.invariant.2 c.push_reserved-3.ensures.len c.push_reserved-3.ensures.capacity,
+      places_left c.self.inside.spare _ _ _ _ some c.self.invariant.3 c.push_reserved.ensures.len c.push_reserved.ensures.capacity,
+      room_left c.self.inside.spare _ _ c.self.invariant.4 c.write_key.ensures.room,
+      room_left c.self.inside.spare _ _ c.self.invariant.5 c.write_book.ensures.room,
+      room_left c.self.inside.spare _ _ c.self.invariant.6 c.write_school.ensures.room,
+      room_left c.self.inside.spare _ _ c.self.invariant.7 c.write_student.ensures.room,
+      room_left c.self.inside.spare _ _ c.self.invariant.8 c.write_place-slot.ensures.room,
+      room_left c.self.inside.spare _ _ c.self.invariant.9 c.write.ensures.room,
+      room_left c.self.inside.spare _ _ c.self.invariant.10 c.write-2.ensures.room,
+    )

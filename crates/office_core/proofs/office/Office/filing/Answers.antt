@@ -1,0 +1,10 @@
+use Rattle.std.proofs.Common.{ap, ◌∙◌}
+use Rattle.on_file.specs.Rows.{filing_in}
+use Rattle.office_core.specs.Register.{Register}
+use Rattle.office_core.proofs.AtPosition.{stands_within}
+use Rattle.office_core.proofs.office.Office.filing.Goals as goal
+
+pub returns-clause-stands : goal.returns-clause-stands
+returns-clause-stands c =
+    stands_within c.args.self.now.history c.args.position c.filing.result
+    (c.filing.ensures ∙ ap (λ (r : Register). filing_in r.history c.args.position) c.self.view_is)

@@ -1,0 +1,148 @@
+-- What the rows of an index tell of a history.
+use Rattle.std.specs.Prelude.{◌≡◌, ℕ, ◌≤◌, List, cond, length, Option, Some, None}
+use Rattle.std.specs.Ordering.{is_eq, nat_cmp, ordering_then}
+use Rattle.std.specs.declared.cmp.Ordering.{Ordering}
+use Rattle.sorted_rows.specs.Places.{value_at}
+use Rattle.aid_books.specs.declared.book.Book.{Book}
+use Rattle.aid_filings.specs.declared.filing.EnrolFacts.{EnrolFacts}
+use Rattle.aid_filings.specs.declared.filing.Filing.{Filing}
+use Rattle.aid_filings.specs.declared.filing.What.{What}
+use Rattle.aid_filings.specs.declared.filing.What.TheVariants.{Book as BookFiled, Enrol}
+use Rattle.aid_replies.specs.declared.reply.Outcome.{Outcome}
+use Rattle.aid_types.specs.Programs.{six}
+use Rattle.aid_types.specs.declared.number.Key.{Key}
+use Rattle.office_history.specs.Answer.{IsLegal}
+use Rattle.office_history.specs.FactsOf.{book_at}
+use Rattle.office_history.specs.Past.{key_at}
+use Rattle.on_file.specs.Accounts.{nothing}
+use Rattle.on_file.specs.Rows.{place_row, school_row, school_year_row, student_row, year_row}
+use Rattle.on_file.specs.declared.rows.PlaceRow.{PlaceRow}
+use Rattle.on_file.specs.declared.rows.SchoolYearRow.{SchoolYearRow}
+use Rattle.on_file.specs.declared.rows.YearRow.{YearRow}
+use Rattle.office_core.specs.After.{IsPlaceAfter, IsSchoolAfter, IsSchoolYearAfter, IsStudentAfter, IsYearAfter, place_cmp, school_year_cmp, year_cmp}
+use Rattle.office_core.specs.Links.{AreLinked, is_enrolled, is_term_of, last_at, place_name}
+use Rattle.office_core.specs.Register.{outcomes_of}
+use Rattle.office_core.specs.declared.entries.SchoolEntry.{SchoolEntry}
+use Rattle.office_core.specs.declared.entries.StudentEntry.{StudentEntry}
+use Rattle.office_core.specs.declared.links.Link.{Link}
+use Rattle.office_core.specs.declared.names.FilingName.{FilingName}
+use Rattle.office_core.specs.declared.names.StudentPlace.{StudentPlace}
+use Rattle.office_core.specs.declared.names.StudentSchoolYear.{StudentSchoolYear}
+use Rattle.office_core.specs.declared.names.StudentYear.{StudentYear}
+use Rattle.office_core.specs.declared.written.Written.{Written}
+
+-- the order of filings' names, and the name of a key
+abbrev pub filing_cmp : FilingName → FilingName → Ordering
+filing_cmp a b = ordering_then (nat_cmp a.school b.school) (nat_cmp a.number b.number)
+
+abbrev pub filing_name : Key → FilingName
+filing_name key = record { school = key.school; number = key.number }
+
+-- the book that is filed
+abbrev pub book_filed : What → Option Book
+book_filed (BookFiled b) = Some b
+book_filed _ = None
+
+-- what a row tells, and what is told where there is none
+abbrev pub position_or : Option ℕ → ℕ
+position_or None = 0
+position_or (Some position) = position
+
+abbrev pub school_or : Option SchoolEntry → SchoolEntry
+school_or None = record { row = record { at = 0; terms = 0; full = 0 }; newest = 0 }
+school_or (Some entry) = entry
+
+abbrev pub student_or : Option StudentEntry → StudentEntry
+student_or None = record { row = record { prior_at = 0; pell_at = 0; used = 0 }; newest = 0 }
+student_or (Some entry) = entry
+
+abbrev pub place_or : Option PlaceRow → PlaceRow
+place_or None = record { credits = 0; withdrawn_at = 0; could = six (λ p. 0); account = nothing }
+place_or (Some row) = row
+
+abbrev pub year_or : Option YearRow → YearRow
+year_or None = record { application = None; scheduled = 0; nets = six (λ p. 0); main = 0 }
+year_or (Some row) = row
+
+abbrev pub school_year_or : Option SchoolYearRow → SchoolYearRow
+school_year_or None = record { cost_at = 0; cost = 0; net = 0 }
+school_year_or (Some row) = row
+
+-- the value of a name once a row is written: the row's, where it has this name
+abbrev pub written_or : {K V : Type 0} → (K → K → Ordering) → Option (K × V) → K → Option V → Option V
+written_or cmp None name before = before
+written_or cmp (Some row) name before = cond (is_eq (cmp row.0 name)) (Some row.1) before
+
+-- a school with its newest term, and a student with the newest enrolment
+abbrev pub school_entry : List Filing → ℕ → SchoolEntry
+school_entry past code = record { row = school_row past code; newest = last_at (is_term_of code) past }
+
+abbrev pub student_entry : List Filing → ℕ → StudentEntry
+student_entry past student = record { row = student_row past student; newest = last_at (is_enrolled student) past }
+
+-- the rows of each table tell what is on file
+abbrev pub AreKeys : List Filing → List (FilingName × ℕ) → Type 0
+AreKeys past rows = (key : Key) → position_or (value_at filing_cmp (filing_name key) rows) ≡ key_at key past
+
+abbrev pub AreBooks : List Filing → List (ℕ × ℕ) → Type 0
+AreBooks past rows = (year : ℕ) → position_or (value_at nat_cmp year rows) ≡ book_at past year
+
+abbrev pub AreSchools : List Filing → List (ℕ × SchoolEntry) → Type 0
+AreSchools past rows = (code : ℕ) → school_or (value_at nat_cmp code rows) ≡ school_entry past code
+
+abbrev pub AreStudents : List Filing → List (ℕ × StudentEntry) → Type 0
+AreStudents past rows = (student : ℕ) → student_or (value_at nat_cmp student rows) ≡ student_entry past student
+
+abbrev pub ArePlaces : List Filing → List (StudentPlace × PlaceRow) → Type 0
+ArePlaces past rows = (school student year term : ℕ) →
+    place_or (value_at place_cmp (record { student = student; school = school; year = year; term = term }) rows)
+    ≡ place_row past school student year term
+
+abbrev pub AreYears : List Filing → List (StudentYear × YearRow) → Type 0
+AreYears past rows = (student year : ℕ) →
+    year_or (value_at year_cmp (record { student = student; year = year }) rows) ≡ year_row past student year
+
+abbrev pub AreSchoolYears : List Filing → List (StudentSchoolYear × SchoolYearRow) → Type 0
+AreSchoolYears past rows = (school student year : ℕ) →
+    school_year_or (value_at school_year_cmp (record { student = student; school = school; year = year }) rows)
+    ≡ school_year_row past school student year
+
+-- the rows that a filing writes are those that it changes
+pub record IsWrittenBy (past : List Filing) (f : Filing) (w : Written) : Type 0 where
+  pub school : IsSchoolAfter past f w.school
+  pub student : IsStudentAfter past f w.student
+  pub place : IsPlaceAfter past f w.place
+  pub year : IsYearAfter past f w.year
+  pub school_year : IsSchoolYearAfter past f w.school_year
+  pub enrolled : (e : EnrolFacts) → f.what ≡ Enrol e → (row : PlaceRow) × (w.place ≡ Some (place_name f.key.school e, row))
+
+-- the rows of an index
+pub record IndexRows : Type 0 where
+  pub keys : List (FilingName × ℕ)
+  pub books : List (ℕ × ℕ)
+  pub schools : List (ℕ × SchoolEntry)
+  pub students : List (ℕ × StudentEntry)
+  pub places : List (StudentPlace × PlaceRow)
+  pub years : List (StudentYear × YearRow)
+  pub school_years : List (StudentSchoolYear × SchoolYearRow)
+  pub links : List Link
+
+-- they tell what is on file, and no table has more rows than there are filings
+pub record IsIndexed (past : List Filing) (outcomes : List Outcome) (rows : IndexRows) : Type 0 where
+  pub legal : IsLegal past
+  pub outcomes_kept : outcomes ≡ outcomes_of past
+  pub keys : AreKeys past rows.keys
+  pub books : AreBooks past rows.books
+  pub schools : AreSchools past rows.schools
+  pub students : AreStudents past rows.students
+  pub places : ArePlaces past rows.places
+  pub years : AreYears past rows.years
+  pub school_years : AreSchoolYears past rows.school_years
+  pub links : AreLinked past rows.places rows.links
+  pub few_keys : length rows.keys ≤ length past
+  pub few_books : length rows.books ≤ length past
+  pub few_schools : length rows.schools ≤ length past
+  pub few_students : length rows.students ≤ length past
+  pub few_places : length rows.places ≤ length past
+  pub few_years : length rows.years ≤ length past
+  pub few_school_years : length rows.school_years ≤ length past

@@ -1,0 +1,90 @@
+//! What rows of the index tell.
+ghost use Rattle.std.specs.Prelude.{◌≡◌};
+ghost use Rattle.office_core.specs.Index.{place_or, position_or, school_or, school_year_or, student_or, year_or};
+
+use aid_types::ByProgram;
+use on_file::{Account, PlaceRow, SchoolRow, SchoolYearRow, StudentRow, YearRow};
+
+/// A school with the position of its newest term, 0 where it has none.
+#[derive(Clone, Copy, PartialEq, Eq, Debug)]
+pub struct SchoolEntry {
+    pub row: SchoolRow,
+    pub newest: u32,
+}
+
+/// A student with the position of the newest enrolment, 0 where there is none.
+#[derive(Clone, Copy, PartialEq, Eq, Debug)]
+pub struct StudentEntry {
+    pub row: StudentRow,
+    pub newest: u32,
+}
+
+/// The position that a row tells, 0 where there is no row.
+pub(crate) fn position_told(row: Option<u32>) -> u32
+    ensures { result ≡ position_or row }
+{
+    row.unwrap_or(0)
+}
+
+/// The school that a row tells, nothing where there is no row.
+pub(crate) fn school_told(row: Option<SchoolEntry>) -> SchoolEntry
+    ensures { result ≡ school_or row }
+{
+    row.unwrap_or(SchoolEntry {
+        row: SchoolRow {
+            at: 0,
+            terms: 0,
+            full: 0,
+        },
+        newest: 0,
+    })
+}
+
+/// The student that a row tells, nothing where there is no row.
+pub(crate) fn student_told(row: Option<StudentEntry>) -> StudentEntry
+    ensures { result ≡ student_or row }
+{
+    row.unwrap_or(StudentEntry {
+        row: StudentRow {
+            prior_at: 0,
+            pell_at: 0,
+            used: 0,
+        },
+        newest: 0,
+    })
+}
+
+/// The place that a row tells, nothing where there is no row.
+pub(crate) fn place_told(row: Option<PlaceRow>) -> PlaceRow
+    ensures { result ≡ place_or row }
+{
+    row.unwrap_or(PlaceRow {
+        credits: 0,
+        withdrawn_at: 0,
+        could: ByProgram::EMPTY,
+        account: Account::EMPTY,
+    })
+}
+
+/// The year that a row tells, nothing where there is no row.
+pub(crate) fn year_told(row: Option<YearRow>) -> YearRow
+    ensures { result ≡ year_or row }
+{
+    row.unwrap_or(YearRow {
+        application: None,
+        scheduled: 0,
+        nets: ByProgram::EMPTY,
+        main: 0,
+    })
+}
+
+/// The school's year that a row tells, nothing where there is no row.
+pub(crate) fn school_year_told(row: Option<SchoolYearRow>) -> SchoolYearRow
+    ensures { result ≡ school_year_or row }
+{
+    row.unwrap_or(SchoolYearRow {
+        cost_at: 0,
+        cost: 0,
+        net: 0,
+    })
+}

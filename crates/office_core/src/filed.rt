@@ -1,0 +1,182 @@
+//! Rows of the index after one filing more.
+ghost use Rattle.std.specs.Prelude.{◌≡◌, ◌+◌, ◌<◌, ◌≤◌, ◌∷◌, ℕ, List, Some, cond, length};
+ghost use Rattle.std.specs.List.{slice_get};
+ghost use Rattle.std.specs.Ordering.{is_eq, nat_cmp};
+ghost use Rattle.sorted_rows.specs.Places.{AreStaying, value_at};
+ghost use Rattle.aid_filings.specs.declared.filing.Filing.{Filing as Filed};
+ghost use Rattle.office_history.specs.Past.{first_of_two, key_at};
+ghost use Rattle.on_file.specs.declared.rows.PlaceRow.{PlaceRow as Place};
+ghost use Rattle.office_core.specs.After.{IsSchoolAfter, IsStudentAfter, place_cmp};
+ghost use Rattle.office_core.specs.Index.{AreBooks, AreKeys, AreSchools, AreStudents, position_or, school_or, student_or, written_or};
+ghost use Rattle.office_core.specs.declared.names.StudentPlace.{StudentPlace as Name};
+
+use crate::entries::{SchoolEntry, StudentEntry, position_told, school_told, student_told};
+use crate::names::{FilingName, StudentPlace};
+use aid_filings::{Filing, What};
+use on_file::{PlaceRow, SchoolRow, StudentRow};
+use sorted_rows::{Slots, Table};
+
+/// Writes a row, where one is to be written.
+pub(crate) fn write<K: Ord + Copy, V: Copy>(rows: &mut Slots<K, V>, written: Option<(K, V)>)
+    requires room { 1 ≤ rows.old.room }
+    requires few { length rows.old.rows < 4294967295 }
+    ensures values { (name : K) → value_at K.cmp name rows.new.rows ≡ written_or K.cmp written name (value_at K.cmp name rows.old.rows) }
+    ensures room { rows.old.room ≤ rows.new.room + 1 }
+    ensures count { length rows.new.rows ≤ length rows.old.rows + 1 }
+{
+    if let Some((name, row)) = written {
+        rows.put(name, row);
+    }
+}
+
+/// Writes the row of a place, where one is to be written, and tells its slot; 0 where none is.
+pub(crate) fn write_place(
+    rows: &mut Slots<StudentPlace, PlaceRow>,
+    written: Option<(StudentPlace, PlaceRow)>,
+) -> u32
+    requires room { 1 ≤ rows.old.room }
+    requires few { length rows.old.rows < 4294967295 }
+    ensures values { (name : Name) → value_at place_cmp name rows.new.rows ≡ written_or place_cmp written name (value_at place_cmp name rows.old.rows) }
+    ensures stays { AreStaying rows.old.rows rows.new.rows }
+    ensures slot { (name : Name) (row : Place) → written ≡ Some (name, row) → (there : Place) × (slice_get rows.new.rows result ≡ Some (name, there)) }
+    ensures room { rows.old.room ≤ rows.new.room + 1 }
+    ensures count { length rows.new.rows ≤ length rows.old.rows + 1 }
+{
+    match written {
+        Some((name, row)) => rows.put(name, row),
+        None => 0,
+    }
+}
+
+/// Writes the position of a filing under its key, which is new.
+pub(crate) fn write_key(keys: &mut Table<FilingName, u32>, filing: &Filing, position: u32)
+    requires room { 1 ≤ keys.old.room }
+    ensures rows { (past : List Filed) → position ≡ length past + 1 → key_at filing.now.key past ≡ 0 → AreKeys past keys.old.rows → AreKeys (filing.now ∷ past) keys.new.rows }
+    ensures room { keys.old.room ≤ keys.new.room + 1 }
+    ensures count { length keys.new.rows ≤ length keys.old.rows + 1 }
+{
+    let name = FilingName {
+        school: filing.key.school.0,
+        number: filing.key.number,
+    };
+    keys.set(name, position);
+}
+
+/// Writes the position of a book under its year, where the year has none yet.
+pub(crate) fn write_book(books: &mut Table<u16, u32>, filing: &Filing, position: u32)
+    requires room { 1 ≤ books.old.room }
+    ensures rows { (past : List Filed) → position ≡ length past + 1 → AreBooks past books.old.rows → AreBooks (filing.now ∷ past) books.new.rows }
+    ensures room { books.old.room ≤ books.new.room + 1 }
+    ensures count { length books.new.rows ≤ length books.old.rows + 1 }
+{
+    if let What::Book(book) = &filing.what {
+        write_first(books, book.as_book().year.0, position);
+    }
+}
+
+// Writes the position of a year, where it has none yet.
+fn write_first(books: &mut Table<u16, u32>, year: u16, position: u32)
+    requires room { 1 ≤ books.old.room }
+    ensures values { (other : ℕ) → position_or (value_at nat_cmp other books.new.rows)
+        ≡ first_of_two (is_eq (nat_cmp year other)) (position_or (value_at nat_cmp other books.old.rows)) position }
+    ensures room { books.old.room ≤ books.new.room + 1 }
+    ensures count { length books.new.rows ≤ length books.old.rows + 1 }
+{
+    if position_told(books.at(&year)) == 0 {
+        books.set(year, position);
+    }
+}
+
+/// Writes a school's row where one is to be written, or the position of a term as its school's newest.
+pub(crate) fn write_school(
+    schools: &mut Slots<u32, SchoolEntry>,
+    filing: &Filing,
+    written: Option<(u32, SchoolRow)>,
+    position: u32,
+)
+    requires room { 1 ≤ schools.old.room }
+    requires few { length schools.old.rows < 4294967295 }
+    ensures rows { (past : List Filed) → position ≡ length past + 1 → IsSchoolAfter past filing.now written → AreSchools past schools.old.rows → AreSchools (filing.now ∷ past) schools.new.rows }
+    ensures room { schools.old.room ≤ schools.new.room + 1 }
+    ensures count { length schools.new.rows ≤ length schools.old.rows + 1 }
+{
+    match (&filing.what, written) {
+        (What::Calendar(_), _) => write_newest_term(schools, filing.key.school.0, position),
+        (_, Some((code, row))) => write_school_row(schools, code, row),
+        (_, None) => {}
+    }
+}
+
+// Writes a school's row.
+fn write_school_row(schools: &mut Slots<u32, SchoolEntry>, code: u32, row: SchoolRow)
+    requires room { 1 ≤ schools.old.room }
+    requires few { length schools.old.rows < 4294967295 }
+    ensures values { (other : ℕ) → school_or (value_at nat_cmp other schools.new.rows)
+        ≡ record { row = cond (is_eq (nat_cmp code other)) row (school_or (value_at nat_cmp other schools.old.rows)).row; newest = (school_or (value_at nat_cmp other schools.old.rows)).newest } }
+    ensures room { schools.old.room ≤ schools.new.room + 1 }
+    ensures count { length schools.new.rows ≤ length schools.old.rows + 1 }
+{
+    let newest = school_told(schools.at(&code)).newest;
+    schools.put(code, SchoolEntry { row, newest });
+}
+
+// Writes the position of a school's newest term.
+fn write_newest_term(schools: &mut Slots<u32, SchoolEntry>, code: u32, newest: u32)
+    requires room { 1 ≤ schools.old.room }
+    requires few { length schools.old.rows < 4294967295 }
+    ensures values { (other : ℕ) → school_or (value_at nat_cmp other schools.new.rows)
+        ≡ record { row = (school_or (value_at nat_cmp other schools.old.rows)).row; newest = cond (is_eq (nat_cmp code other)) newest (school_or (value_at nat_cmp other schools.old.rows)).newest } }
+    ensures room { schools.old.room ≤ schools.new.room + 1 }
+    ensures count { length schools.new.rows ≤ length schools.old.rows + 1 }
+{
+    let row = school_told(schools.at(&code)).row;
+    schools.put(code, SchoolEntry { row, newest });
+}
+
+/// Writes a student's row where one is to be written, or the position of an enrolment as the student's newest.
+pub(crate) fn write_student(
+    students: &mut Slots<u64, StudentEntry>,
+    filing: &Filing,
+    written: Option<(u64, StudentRow)>,
+    position: u32,
+)
+    requires room { 1 ≤ students.old.room }
+    requires few { length students.old.rows < 4294967295 }
+    ensures rows { (past : List Filed) → position ≡ length past + 1 → IsStudentAfter past filing.now written → AreStudents past students.old.rows → AreStudents (filing.now ∷ past) students.new.rows }
+    ensures room { students.old.room ≤ students.new.room + 1 }
+    ensures count { length students.new.rows ≤ length students.old.rows + 1 }
+{
+    match (&filing.what, written) {
+        (What::Enrol(enrolment), _) => {
+            write_newest_enrolment(students, enrolment.student.0, position)
+        }
+        (_, Some((student, row))) => write_student_row(students, student, row),
+        (_, None) => {}
+    }
+}
+
+// Writes a student's row.
+fn write_student_row(students: &mut Slots<u64, StudentEntry>, student: u64, row: StudentRow)
+    requires room { 1 ≤ students.old.room }
+    requires few { length students.old.rows < 4294967295 }
+    ensures values { (other : ℕ) → student_or (value_at nat_cmp other students.new.rows)
+        ≡ record { row = cond (is_eq (nat_cmp student other)) row (student_or (value_at nat_cmp other students.old.rows)).row; newest = (student_or (value_at nat_cmp other students.old.rows)).newest } }
+    ensures room { students.old.room ≤ students.new.room + 1 }
+    ensures count { length students.new.rows ≤ length students.old.rows + 1 }
+{
+    let newest = student_told(students.at(&student)).newest;
+    students.put(student, StudentEntry { row, newest });
+}
+
+// Writes the position of a student's newest enrolment.
+fn write_newest_enrolment(students: &mut Slots<u64, StudentEntry>, student: u64, newest: u32)
+    requires room { 1 ≤ students.old.room }
+    requires few { length students.old.rows < 4294967295 }
+    ensures values { (other : ℕ) → student_or (value_at nat_cmp other students.new.rows)
+        ≡ record { row = (student_or (value_at nat_cmp other students.old.rows)).row; newest = cond (is_eq (nat_cmp student other)) newest (student_or (value_at nat_cmp other students.old.rows)).newest } }
+    ensures room { students.old.room ≤ students.new.room + 1 }
+    ensures count { length students.new.rows ≤ length students.old.rows + 1 }
+{
+    let row = student_told(students.at(&student)).row;
+    students.put(student, StudentEntry { row, newest });
+}

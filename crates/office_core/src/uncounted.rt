@@ -1,0 +1,164 @@
+//! What is on file, asked where no looks are counted.
+ghost use Rattle.std.specs.Prelude.{◌≡◌, ◌<◌};
+ghost use Rattle.std.specs.Option.{option_copied};
+ghost use Rattle.office_history.specs.Past.{the_book};
+ghost use Rattle.on_file.specs.Rows.{place_row, school_row, school_year_row, student_row, term_row, year_row};
+
+use aid_books::Book;
+use aid_types::{School, Student, Year};
+use on_file::{OnFile, PlaceRow, SchoolRow, SchoolYearRow, StudentRow, TermRow, YearRow};
+use std::marker::Brand;
+use std::sync::ledger::{Blank, Ledger};
+use steps::Steps;
+
+// A count of looks that nobody reads.
+fn blank_steps<L: Ledger>(blank: Blank) -> Steps<L>
+    requires name { blank.name ≡ L.name }
+    requires parts { blank.parts ≡ L.parts }
+    requires some { 0 < blank.parts }
+{
+    Steps::<L>::new(blank)
+}
+
+fn book_on<'a, P: OnFile, L: Ledger>(past: &'a P, year: Year, blank: Blank) -> Option<&'a Book>
+    requires name { blank.name ≡ L.name }
+    requires parts { blank.parts ≡ L.parts }
+    requires some { 0 < blank.parts }
+    ensures { option_copied result ≡ the_book (P.history past.now) year }
+{
+    past.book(year, &mut blank_steps::<L>(blank))
+}
+
+/// A year's book.
+pub(crate) fn book_of<P: OnFile>(past: &P, year: Year) -> Option<&Book>
+    ensures { option_copied result ≡ the_book (P.history past.now) year }
+{
+    book_on::<P, Brand>(past, year, Blank::new(1))
+}
+
+fn school_on<P: OnFile, L: Ledger>(past: &P, code: u32, blank: Blank) -> SchoolRow
+    requires name { blank.name ≡ L.name }
+    requires parts { blank.parts ≡ L.parts }
+    requires some { 0 < blank.parts }
+    ensures { result ≡ school_row (P.history past.now) code }
+{
+    past.school(code, &mut blank_steps::<L>(blank))
+}
+
+/// The school with a code.
+pub(crate) fn school_of<P: OnFile>(past: &P, code: u32) -> SchoolRow
+    ensures { result ≡ school_row (P.history past.now) code }
+{
+    school_on::<P, Brand>(past, code, Blank::new(1))
+}
+
+fn term_on<P: OnFile, L: Ledger>(
+    past: &P,
+    school: School,
+    year: Year,
+    number: u8,
+    blank: Blank,
+) -> TermRow
+    requires name { blank.name ≡ L.name }
+    requires parts { blank.parts ≡ L.parts }
+    requires some { 0 < blank.parts }
+    ensures { result ≡ term_row (P.history past.now) school year number }
+{
+    past.term(school, year, number, &mut blank_steps::<L>(blank))
+        .1
+}
+
+/// A school's term of a year and a number.
+pub(crate) fn term_of<P: OnFile>(past: &P, school: School, year: Year, number: u8) -> TermRow
+    ensures { result ≡ term_row (P.history past.now) school year number }
+{
+    term_on::<P, Brand>(past, school, year, number, Blank::new(1))
+}
+
+fn place_on<P: OnFile, L: Ledger>(
+    past: &P,
+    school: School,
+    student: Student,
+    year: Year,
+    number: u8,
+    blank: Blank,
+) -> PlaceRow
+    requires name { blank.name ≡ L.name }
+    requires parts { blank.parts ≡ L.parts }
+    requires some { 0 < blank.parts }
+    ensures { result ≡ place_row (P.history past.now) school student year number }
+{
+    past.place(school, student, year, number, &mut blank_steps::<L>(blank))
+}
+
+/// A student's term at a school.
+pub(crate) fn place_of<P: OnFile>(
+    past: &P,
+    school: School,
+    student: Student,
+    year: Year,
+    number: u8,
+) -> PlaceRow
+    ensures { result ≡ place_row (P.history past.now) school student year number }
+{
+    place_on::<P, Brand>(past, school, student, year, number, Blank::new(1))
+}
+
+fn year_on<P: OnFile, L: Ledger>(past: &P, student: Student, year: Year, blank: Blank) -> YearRow
+    requires name { blank.name ≡ L.name }
+    requires parts { blank.parts ≡ L.parts }
+    requires some { 0 < blank.parts }
+    ensures { result ≡ year_row (P.history past.now) student year }
+{
+    past.year(student, year, &mut blank_steps::<L>(blank))
+}
+
+/// A student's year at all schools.
+pub(crate) fn year_of<P: OnFile>(past: &P, student: Student, year: Year) -> YearRow
+    ensures { result ≡ year_row (P.history past.now) student year }
+{
+    year_on::<P, Brand>(past, student, year, Blank::new(1))
+}
+
+fn school_year_on<P: OnFile, L: Ledger>(
+    past: &P,
+    school: School,
+    student: Student,
+    year: Year,
+    blank: Blank,
+) -> SchoolYearRow
+    requires name { blank.name ≡ L.name }
+    requires parts { blank.parts ≡ L.parts }
+    requires some { 0 < blank.parts }
+    ensures { result ≡ school_year_row (P.history past.now) school student year }
+{
+    past.school_year(school, student, year, &mut blank_steps::<L>(blank))
+}
+
+/// A student's year at a school.
+pub(crate) fn school_year_of<P: OnFile>(
+    past: &P,
+    school: School,
+    student: Student,
+    year: Year,
+) -> SchoolYearRow
+    ensures { result ≡ school_year_row (P.history past.now) school student year }
+{
+    school_year_on::<P, Brand>(past, school, student, year, Blank::new(1))
+}
+
+fn student_on<P: OnFile, L: Ledger>(past: &P, student: Student, blank: Blank) -> StudentRow
+    requires name { blank.name ≡ L.name }
+    requires parts { blank.parts ≡ L.parts }
+    requires some { 0 < blank.parts }
+    ensures { result ≡ student_row (P.history past.now) student }
+{
+    past.student(student, &mut blank_steps::<L>(blank))
+}
+
+/// A student.
+pub(crate) fn student_of<P: OnFile>(past: &P, student: Student) -> StudentRow
+    ensures { result ≡ student_row (P.history past.now) student }
+{
+    student_on::<P, Brand>(past, student, Blank::new(1))
+}

@@ -1,0 +1,51 @@
+//! A full office: it holds 200,000 filings, and refuses the next by rule 90.
+ghost use Rattle.std.specs.Prelude.{◌≤◌};
+
+use crate::office::file;
+use aid_filings::{Filing, PriorFacts, What};
+use aid_replies::{Outcome, Verdict};
+use aid_types::{Key, Refusal, School, Student};
+use office_core::Office;
+use std::test::Fail;
+
+/// How many filings an office holds.
+const FILINGS: u32 = 200_000;
+
+#[test]
+fn a_full_office(rt: HostRuntime) -> Result<(), Fail> {
+    let mut office = Office::new(rt.alloc());
+    office.reserve(FILINGS)?;
+    for number in 0..FILINGS {
+        let verdict = file(&mut office, prior(number))?;
+        assert_eq!(rt; verdict, Verdict::Admit(Outcome::Noted), "{number}");
+    }
+    assert_eq!(rt; office.front(), FILINGS);
+    let full = Refusal {
+        rule: 90,
+        kept: 200_000,
+        bound: 200_000,
+    };
+    assert_eq!(rt; office.judge(&prior(FILINGS)), Verdict::Refused(full));
+    let first = Verdict::Again {
+        position: 1,
+        outcome: Outcome::Noted,
+    };
+    assert_eq!(rt; office.judge(&prior(0)), first);
+    Ok(())
+}
+
+// The use of a student of their own before this office, of 1 unit, under the next number of the desk.
+fn prior(number: u32) -> Filing
+    requires { number ≤ 200000 }
+{
+    Filing {
+        key: Key {
+            school: School(0),
+            number: u64::from(number) + 1,
+        },
+        what: What::Prior(PriorFacts {
+            student: Student(u64::from(number) + 1),
+            units: 1,
+        }),
+    }
+}
