@@ -1,32 +1,77 @@
-//! Files the year of a number of students, the program's first word, for `bench/office`: the specimen book, four schools with
-//! two terms each, and for each student an application, an enrolment and an origination, a payment of what the office
-//! quotes, and for some a withdrawal. Prints how many filings were accepted and refused, the Pell paid and the schools' returns.
+//! Files a number of filings into an office, for `bench/office`. The first word is their order: `students`, the generated
+//! year student by student; `kinds`, the same year kind by kind; `one`, students with 2,000 filings each; or `priors`, as
+//! many students' prior use. The second word is about how many filings there are. Prints how many were accepted and
+//! refused, the Pell paid and the schools' returns.
 #![tactic(auto)]
 
 mod desk;
+mod filings;
 mod generator;
+mod long;
 mod tally;
+mod year;
 
 use crate::desk::Desk;
-use crate::generator::Sequence;
+use crate::filings::prior;
+use crate::long::file_long;
+use crate::year::{file_kinds, file_students};
+use aid_types::Student;
+use std::alloc::{AllocError, Global};
 use std::{env, io};
 
+// A student of the generated year files four times at most, and one in sixteen a fifth time: fewer than four on average.
+const FILINGS_OF_STUDENT: u32 = 4;
+
+/// In which order is filed.
+#[derive(Clone, Copy)]
+enum Order {
+    Students,
+    Kinds,
+    One,
+    Priors,
+}
+
 fn main(rt: HostRuntime) -> io::Result<()> {
+    let words: Vec<String> = env::args(&rt)?.skip(1).collect(rt.alloc())?;
+    let (Some(order), Some(filings)) = (order_of(words.first()), number_of(words.get(1))) else {
+        return println!(rt; "usage: office_bench students|kinds|one|priors FILINGS");
+    };
     let mut desk = Desk::new(rt.alloc());
-    desk.file_schools(rt.alloc())?;
-    let mut sequence = Sequence::new();
-    for student in 1..=students(&rt)? {
-        desk.file_student(student, sequence.draws())?;
-    }
+    desk.reserve(filings)?;
+    file(&mut desk, rt.alloc(), order, filings)?;
     println!(rt; "{}", desk.tally)
 }
 
-// The number of students: 20, where no word says so.
-fn students(rt: &HostRuntime) -> io::Result<u16> {
-    let words: Vec<String> = env::args(rt)?.skip(1).collect(rt.alloc())?;
-    let students = match words.first() {
-        Some(word) => word.parse().unwrap_or(20),
-        None => 20,
-    };
-    Ok(students)
+// The order that a word names.
+fn order_of(word: Option<&String>) -> Option<Order> {
+    match word?.as_str() {
+        "students" => Some(Order::Students),
+        "kinds" => Some(Order::Kinds),
+        "one" => Some(Order::One),
+        "priors" => Some(Order::Priors),
+        _ => None,
+    }
+}
+
+// The number that a word spells.
+fn number_of(word: Option<&String>) -> Option<u32> {
+    word?.parse().ok()
+}
+
+fn file(desk: &mut Desk, alloc: Global, order: Order, filings: u32) -> Result<(), AllocError> {
+    match order {
+        Order::Students => file_students(desk, alloc, filings / FILINGS_OF_STUDENT),
+        Order::Kinds => file_kinds(desk, alloc, filings / FILINGS_OF_STUDENT),
+        Order::One => file_long(desk, alloc, filings),
+        Order::Priors => file_priors(desk, filings),
+    }
+}
+
+// Files a prior use of each of so many students.
+fn file_priors(desk: &mut Desk, students: u32) -> Result<(), AllocError> {
+    for student in 1..=students {
+        let number = u64::from(student);
+        desk.file(0, number, prior(Student(number)))?;
+    }
+    Ok(())
 }

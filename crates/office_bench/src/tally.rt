@@ -1,4 +1,6 @@
 //! What came of the filings.
+ghost use Rattle.std.specs.Prelude.{◌≤◌};
+
 use aid_replies::{Outcome, Verdict};
 use std::fmt;
 
@@ -6,8 +8,8 @@ use std::fmt;
 /// accepted ones.
 #[derive(Clone, Copy, Default)]
 pub struct Tally {
-    accepted: u64,
-    refused: u64,
+    accepted: u32,
+    refused: u32,
     pell: u64,
     returned: u64,
 }
@@ -26,6 +28,11 @@ impl Tally {
             Verdict::Again { .. } => self.accepted = self.accepted.wrapping_add(1),
             _ => self.refused = self.refused.wrapping_add(1),
         }
+    }
+
+    /// The filings that were counted.
+    pub fn filings(&self) -> u32 {
+        self.accepted.wrapping_add(self.refused)
     }
 }
 
