@@ -1,0 +1,4 @@
+pub mod Turning
+pub mod Passes
+pub mod Views
+pub mod Rule

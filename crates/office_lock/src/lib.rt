@@ -1,0 +1,11 @@
+//! A ticket lock over a state that takes turns. Threads share a `Turns` and have a `Pass` each, which knows what its turns
+//! admitted, settled and left undecided. Joined into one, the passes tell what the state's list has.
+#![tactic(auto)]
+
+mod seats;
+mod turned;
+mod turns;
+mod view;
+
+pub use turned::{Stand, Turned};
+pub use turns::{Pass, Turns};

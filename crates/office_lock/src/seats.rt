@@ -1,0 +1,165 @@
+// The steps of the seats of a lock's table, one after the other as its calls need them.
+ghost use Rattle.std.specs.Prelude.{◌≡◌, ◌<◌, ◌≤◌, ◌%◌, ◌^◌, [], ◌∷◌, ℕ, Some, None, MatchBool};
+ghost use Rattle.office_lock.specs.Turning.{faults_in};
+ghost use Rattle.office_lock.specs.Passes.{IsOlder, TakesTurn};
+ghost use Rattle.office_lock.specs.Views.{newcomer, bringer, begun, known, with_less, with_part, with_other, with_longer};
+ghost use Rattle.office_lock.specs.Rule.{IsIdle, IsDone, IsServedAfter, IsWaiting, HasEnded, HasGone};
+
+use crate::view::{Bring, Cut, Draw, End, Ending, Glue, Learn, Look, SeatOf, Sharing, TakeEmpty};
+use crate::{Turned, Turns};
+use std::marker::Brand;
+use std::sync::Wait;
+
+impl<T: Turned> Turns<T> {
+    // Brings the state into the slot.
+    pub(crate) fn bring(&self, seat: &mut SeatOf<T>, state: T)
+        requires lock { seat.old.table_id ≡ self.now.id }
+        requires first { seat.old.me ≡ (newcomer self.now.passes, []) }
+        requires decided { (T.stand state).pending ≡ None }
+        ensures lock { seat.new.table_id ≡ seat.old.table_id }
+        ensures begun { seat.new.me ≡ (begun self.now.passes (T.stand state), []) }
+    {
+        self.table.shared.load::<TakeEmpty>(seat, 0);
+        let before = self.table.shared.exchange(seat, 0, Some(state));
+        let None = before else { unreachable!() };
+        self.begin(seat);
+    }
+
+    // Gives the slot back with the state, and the lock is open.
+    fn begin(&self, seat: &mut SeatOf<T>)
+        requires lock { seat.old.table_id ≡ self.now.id }
+        requires first { (x : T) × (seat.old.me ≡ (bringer self.now.passes, (0, Some x) ∷ [])) × ((T.stand x).pending ≡ None) }
+        ensures lock { seat.new.table_id ≡ seat.old.table_id }
+        ensures begun { (x : T) → seat.old.me.1 ≡ (0, Some x) ∷ [] → seat.new.me ≡ (begun self.now.passes (T.stand x), []) }
+    {
+        self.table.shared.load::<Bring<T>>(seat, 0);
+    }
+
+    // Draws a number.
+    fn draw(&self, seat: &mut SeatOf<T>) -> u64
+        requires lock { seat.old.table_id ≡ self.now.id }
+        requires idle { IsIdle seat.old.me }
+        requires share { 1 ≤ seat.old.me.0.allowance }
+        ensures lock { seat.new.table_id ≡ seat.old.table_id }
+        ensures number { (k : ℕ) × (result ≡ k % 2 ^ 64) × (seat.new.me ≡ (record seat.old.me.0 { number = Some k }, [])) }
+    {
+        self.table.shared.fetch_add::<Draw>(seat, 0, 1)
+    }
+
+    // Looks at the number that is served, and takes the state into the seat where it is this seat's.
+    fn look(&self, seat: &mut SeatOf<T>, number: u64) -> bool
+        requires lock { seat.old.table_id ≡ self.now.id }
+        requires waiting { IsWaiting number seat.old.me }
+        ensures lock { seat.new.table_id ≡ seat.old.table_id }
+        ensures served { MatchBool result (IsServedAfter T.stand seat.old.me seat.new.me) (seat.new.me ≡ seat.old.me) }
+    {
+        self.table.shared.load::<Look<T>>(seat, 1) == number
+    }
+
+    // Waits until the seat is served.
+    fn wait<R: Wait>(&self, rt: &R, seat: &mut SeatOf<T>, number: u64)
+        requires lock { seat.old.table_id ≡ self.now.id }
+        requires waiting { IsWaiting number seat.old.me }
+        ensures lock { seat.new.table_id ≡ seat.old.table_id }
+        ensures served { IsServedAfter T.stand seat.old.me seat.new.me }
+    {
+        for _ in rt.forever() {
+            if self.look(seat, number) {
+                break;
+            }
+        }
+    }
+
+    // Takes the state out of the seat's slot, has it take its turn, and puts it back.
+    fn serve(&self, seat: &mut SeatOf<T>, ask: T::Ask) -> T::Reply
+        requires lock { seat.old.table_id ≡ self.now.id }
+        requires served { (x : T) × (seat.old.me.1 ≡ (0, Some x) ∷ []) }
+        ensures lock { seat.new.table_id ≡ seat.old.table_id }
+        ensures view { seat.new.me.0 ≡ seat.old.me.0 }
+        ensures turned { (x : T) → seat.old.me.1 ≡ (0, Some x) ∷ [] → (y : T) × HasGone (T.own ask) (T.says result) (T.stand x) (T.stand y)
+            × T.meets (T.stand x) ask result (T.stand y) × (seat.new.me.1 ≡ (0, Some y) ∷ []) }
+    {
+        let taken = self.table.shared.exchange(seat, 0, None);
+        let Some(mut state) = taken else {
+            unreachable!()
+        };
+        let reply = state.turn(ask);
+        let before = self.table.shared.exchange(seat, 0, Some(state));
+        let None = before else { unreachable!() };
+        reply
+    }
+
+    // Ends the turn.
+    fn end<N: Ending>(&self, seat: &mut SeatOf<T>, reply: &T::Reply)
+        requires picked { N.faults ≡ faults_in (T.says reply.now) }
+        requires lock { seat.old.table_id ≡ self.now.id }
+        requires done { (x : T) × (base : _) × IsDone T.stand (faults_in (T.says reply.now)) x base seat.old.me }
+        ensures lock { seat.new.table_id ≡ seat.old.table_id }
+        ensures ended { HasEnded T.stand (faults_in (T.says reply.now)) seat.old.me seat.new.me }
+    {
+        self.table.shared.fetch_add::<End<T, N>>(seat, 1, 1);
+    }
+
+    // A whole turn of a seat.
+    pub(crate) fn take_turn<R: Wait>(&self, rt: &R, seat: &mut SeatOf<T>, ask: T::Ask) -> T::Reply
+        requires lock { seat.old.table_id ≡ self.now.id }
+        requires idle { IsIdle seat.old.me }
+        requires share { 1 ≤ seat.old.me.0.allowance }
+        ensures lock { seat.new.table_id ≡ seat.old.table_id }
+        ensures idle { IsIdle seat.new.me }
+        ensures share { seat.new.me.0.allowance ≡ seat.old.me.0.allowance }
+        ensures turned { TakesTurn (T.own ask) (T.says result) (λ before after. T.meets before ask result after) (known self.now.id seat.old.me.0) (known self.now.id seat.new.me.0) }
+    {
+        let number = self.draw(seat);
+        self.wait(rt, seat, number);
+        let reply = self.serve(seat, ask);
+        self.end::<Brand>(seat, &reply);
+        reply
+    }
+
+    // Cuts a part of the allowance off, for a new seat.
+    pub(crate) fn cut<N: Sharing>(&self, seat: &mut SeatOf<T>, share: u32) -> SeatOf<T>
+        requires picked { N.share ≡ share }
+        requires lock { seat.old.table_id ≡ self.now.id }
+        requires idle { IsIdle seat.old.me }
+        requires share { share < seat.old.me.0.allowance }
+        ensures lock { (seat.new.table_id ≡ seat.old.table_id) × (result.table_id ≡ seat.old.table_id) }
+        ensures rest { seat.new.me ≡ (with_less share seat.old.me.0, []) }
+        ensures part { result.me ≡ (with_part share seat.old.me.0, []) }
+    {
+        self.table.shared.split_seat::<Cut<N>>(seat)
+    }
+
+    // Takes in all that another seat has.
+    fn glue(&self, seat: &mut SeatOf<T>, other: SeatOf<T>)
+        requires lock { (seat.old.table_id ≡ self.now.id) × (other.table_id ≡ self.now.id) }
+        requires idle { IsIdle seat.old.me × IsIdle other.me }
+        ensures lock { seat.new.table_id ≡ seat.old.table_id }
+        ensures both { seat.new.me ≡ (with_other seat.old.me.0 other.me.0, []) }
+    {
+        self.table.shared.join_seat::<Glue>(seat, other);
+    }
+
+    // Looks which of the two lists that the seat has seen is the longer one.
+    fn learn(&self, seat: &mut SeatOf<T>)
+        requires lock { seat.old.table_id ≡ self.now.id }
+        requires idle { IsIdle seat.old.me }
+        ensures lock { seat.new.table_id ≡ seat.old.table_id }
+        ensures view { seat.new.me ≡ (with_longer seat.old.me.0, []) }
+        ensures older { IsOlder seat.old.me.0.seen seat.new.me.0.seen × IsOlder seat.old.me.0.also seat.new.me.0.seen }
+    {
+        self.table.shared.load::<Learn>(seat, 0);
+    }
+
+    // Takes in all that another seat has, and then has seen the longer list.
+    pub(crate) fn take_in(&self, seat: &mut SeatOf<T>, other: SeatOf<T>)
+        requires lock { (seat.old.table_id ≡ self.now.id) × (other.table_id ≡ self.now.id) }
+        requires idle { IsIdle seat.old.me × IsIdle other.me }
+        ensures lock { seat.new.table_id ≡ seat.old.table_id }
+        ensures both { seat.new.me ≡ (with_longer (with_other seat.old.me.0 other.me.0), []) }
+        ensures older { IsOlder seat.old.me.0.seen seat.new.me.0.seen × IsOlder other.me.0.seen seat.new.me.0.seen }
+    {
+        self.glue(seat, other);
+        self.learn(seat);
+    }
+}
