@@ -1,0 +1,77 @@
+-- What the bytes held tell is what all the bytes tell.
+use Rattle.std.proofs.Common.{rules, arith, ◌≡◌, ◌∙◌, sym, ap, subst, ℕ, Bool, true, false, ◌+◌, ◌≤◌, ◌<◌, if◌then◌else◌, nat_le, List, [], ◌++◌, length, take, None, Some, Result, Ok, Err, length-append, inl, inr}
+use Rattle.std.proofs.lemmas.List.{take-append-le}
+use Rattle.httparse.proofs.GrammarLemmas.{request_unique}
+use Rattle.web_desk.specs.Ends.{head_end}
+use Rattle.web_desk.specs.Heads.{Judges, IsJudge, head_said}
+use Rattle.web_desk.specs.Exchange.{Judge, Told, more, bad, whole, told, told_head, told_body, request_at}
+use Rattle.std.specs.Prelude.{IfOk}
+use Rattle.web_desk.specs.Looks.{told_of}
+use Rattle.web_desk.specs.declared.look.Look.{Look}
+use Rattle.web_desk.specs.declared.stop.Stop.{Stop}
+use Rattle.web_desk.specs.declared.head.Head.{Head}
+use Rattle.web_desk.specs.declared.status.Status.{Status}
+use Rattle.web_desk.specs.declared.status.Status.TheVariants.{HeadTooLarge}
+use Rattle.web_desk.proofs.EndWalk.{append_nil, end_room}
+
+-- a head block says one thing
+pub judges_unique : (block : List ℕ) (a b : Result Head Status) → Judges block a → Judges block b → a ≡ b
+judges_unique block a b (inl x) (inl y) = x.1 ∙ sym y.1
+judges_unique block a b (inl x) (inr y) = absurd (omega (arith, x.0, y.0))
+judges_unique block a b (inr x) (inl y) = absurd (omega (arith, x.0, y.0))
+judges_unique block a b (inr (few, inl (h, is, said))) (inr (few', inl (k, is', said'))) = said ∙ ap head_said (request_unique block h k [] [] is is').0 ∙ sym said'
+judges_unique block a b (inr (few, inl (h, is, said))) (inr (few', inr (none, said'))) = absurd (none h is)
+judges_unique block a b (inr (few, inr (none, said))) (inr (few', inl (h, is, said'))) = absurd (none h is)
+judges_unique block a b (inr (few, inr (none, said))) (inr (few', inr (none', said'))) = said ∙ sym said'
+
+-- what was read of the head block among the bytes held
+pub judged : (judge : Judge) → IsJudge judge → (held left : List ℕ) (end : ℕ) (said : Result Head Status) → end ≤ length held → Judges (take end held) said → judge (take end (held ++ left)) ≡ said
+judged judge is held left end said within judges =
+    ap judge (take-append-le end held left within) ∙ judges_unique (take end held) _ said (is (take end held)) judges
+
+le_true : (a b : ℕ) → a ≤ b → nat_le a b ≡ true
+le_true a b le = search rules
+
+le_false : (a b : ℕ) → b < a → nat_le a b ≡ false
+le_false a b lt = search rules
+
+pub tell_bad : (bytes : List ℕ) (end : ℕ) (status : Status) (said : Result Head Status) → said ≡ Err status → bad status ≡ told_body bytes end said
+tell_bad bytes end status said is = sym (ap (told_body bytes end) is)
+
+pub tell_whole : (bytes held left : List ℕ) (end : ℕ) (head : Head) (said : Result Head Status) → said ≡ Ok head → held ++ left ≡ bytes → end + head.length ≤ length held → whole (request_at bytes end head) ≡ told_body bytes end said
+tell_whole bytes held left end head said is all le =
+    let enough : end + head.length ≤ length bytes = omega (arith, le, length-append held left, ap (λ (l : List ℕ). length l) all) in
+    sym (ap (told_body bytes end) is ∙ ap (λ (e : Bool). if e then whole (request_at bytes end head) else more) (le_true (end + head.length) (length bytes) enough))
+
+pub tell_short : (bytes held left : List ℕ) (end : ℕ) (head : Head) (said : Result Head Status) → said ≡ Ok head → held ++ left ≡ bytes → left ≡ [] → length held < end + head.length → more ≡ told_body bytes end said
+tell_short bytes held left end head said is all ended lt =
+    let whole_is : held ≡ bytes = sym (append_nil held) ∙ ap (λ (l : List ℕ). held ++ l) (sym ended) ∙ all in
+    let few : length bytes < end + head.length = omega (arith, lt, ap (λ (l : List ℕ). length l) whole_is) in
+    sym (ap (told_body bytes end) is ∙ ap (λ (e : Bool). if e then whole (request_at bytes end head) else more) (le_false (end + head.length) (length bytes) few))
+
+-- the head block is too large
+pub tell_large : (judge : Judge) (held left all : List ℕ) → held ++ left ≡ all → head_end (take 16384 held) ≡ None → 16384 ≤ length held → bad HeadTooLarge ≡ told judge all
+tell_large judge held left all is none le =
+    let same : head_end (take 16384 all) ≡ None = ap (λ (l : List ℕ). head_end (take 16384 l)) (sym is) ∙ ap head_end (take-append-le 16384 held left le) ∙ none in
+    let long : 16384 ≤ length all = omega (arith, le, length-append held left, ap (λ (l : List ℕ). length l) is) in
+    sym (ap (told_head judge all) same ∙ ap (λ (e : Bool). if e then bad HeadTooLarge else more) (le_true 16384 (length all) long))
+
+-- the input ended within a head block, or before it
+pub tell_ended : (judge : Judge) (held left all : List ℕ) → held ++ left ≡ all → left ≡ [] → head_end (take 16384 held) ≡ None → length held < 16384 → more ≡ told judge all
+tell_ended judge held left all is ended none lt =
+    let whole_is : held ≡ all = sym (append_nil held) ∙ ap (λ (l : List ℕ). held ++ l) (sym ended) ∙ is in
+    let same : head_end (take 16384 all) ≡ None = ap (λ (l : List ℕ). head_end (take 16384 l)) (sym whole_is) ∙ none in
+    let short : length all < 16384 = omega (arith, lt, ap (λ (l : List ℕ). length l) whole_is) in
+    sym (ap (told_head judge all) same ∙ ap (λ (e : Bool). if e then bad HeadTooLarge else more) (le_false 16384 (length all) short))
+
+-- the head block was found
+pub tell_found : (judge : Judge) (held left all : List ℕ) (end : ℕ) (t : Told) → held ++ left ≡ all → head_end (take 16384 held) ≡ Some end → t ≡ told_body all end (judge (take end all)) → t ≡ told judge all
+tell_found judge held left all end t is found body =
+    body ∙ sym (ap (told_head judge all) (ap (λ (l : List ℕ). head_end (take 16384 l)) (sym is) ∙ end_room 16384 held left end found))
+
+pub tell_behind : (judge : Judge) (held left all : List ℕ) (end : ℕ) (r : Result Look Stop) → held ++ left ≡ all → head_end (take 16384 held) ≡ Some end
+    → IfOk r (λ l. told_of (held ++ left) l ≡ told_body (held ++ left) end (judge (take end (held ++ left))))
+    → IfOk r (λ l. told_of all l ≡ told judge all)
+tell_behind judge held left all end (Ok l) is found body =
+    tell_found judge held left all end (told_of all l) is found (subst (λ (x : List ℕ). told_of x l ≡ told_body x end (judge (take end x))) is body)
+tell_behind judge held left all end (Err e) is found body = tt

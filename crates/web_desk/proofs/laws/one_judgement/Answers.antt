@@ -1,0 +1,5 @@
+use Rattle.web_desk.proofs.LookLemmas.{judges_unique}
+use Rattle.web_desk.proofs.laws.one_judgement.Goals as goal
+
+pub returns : goal.returns
+returns c = judges_unique

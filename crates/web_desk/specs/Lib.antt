@@ -1,0 +1,11 @@
+pub mod Asks
+pub mod Calls
+pub mod Ends
+pub mod Exchange
+pub mod Found
+pub mod Heads
+pub mod Kept
+pub mod Looks
+pub mod Responses
+pub mod Statuses
+pub mod Telling

@@ -1,0 +1,32 @@
+//! A session of HTTP requests over one connection: what is written is a function of the connection's bytes and of the
+//! replies of the clerk who answers them, however the connection cuts its bytes.
+#![tactic(auto)]
+
+mod call;
+mod clerk;
+mod end;
+mod forms;
+mod head;
+mod laws;
+mod link;
+mod look;
+mod memory;
+mod pieces;
+mod place;
+mod response;
+mod scan;
+mod session;
+mod status;
+mod stop;
+
+pub use call::Call;
+pub use clerk::Clerk;
+pub use end::End;
+pub use forms::Forms;
+pub use head::Head;
+pub use laws::{first_end, one_judgement};
+pub use link::{Link, write_all};
+pub use memory::MemoryLink;
+pub use response::Answer;
+pub use session::serve;
+pub use status::Status;

@@ -1,0 +1,84 @@
+//! What the link brings of the next request.
+ghost use Rattle.std.specs.Prelude.{◌≡◌, ◌≤◌, ◌++◌, [], List, ℕ, length, take, IfOk, OnOk, IsErrOf};
+ghost use Rattle.aid_edges.specs.Faults.{Rose};
+ghost use Rattle.web_desk.specs.Telling.{IsHonest, IsPrefix};
+ghost use Rattle.web_desk.specs.Calls.{the_routes};
+ghost use Rattle.web_desk.specs.Heads.{IsJudge};
+ghost use Rattle.web_desk.specs.Exchange.{Judge, told, told_body};
+ghost use Rattle.web_desk.specs.Looks.{LookFits, IsMore, told_of};
+
+use crate::call::Route;
+use crate::head::{Head, read_head};
+use crate::pieces::{Found, await_bytes, find_head};
+use crate::stop::Stop;
+use crate::{Link, Status};
+use matchit::Router;
+
+/// What the link brought of the next request.
+#[derive(Clone, Copy, Debug, PartialEq, Eq)]
+pub enum Look {
+    /// The input ended before the request did.
+    More,
+    /// Its head is rejected with this status.
+    Bad(Status),
+    /// It has come whole; its head block has `end` bytes.
+    Whole { head: Head, end: usize },
+}
+
+// Reads the head block of `end` bytes, and awaits the body.
+fn look_behind<L: Link>(
+    router: &Router<Route>,
+    link: &mut L,
+    held: &mut Vec<u8>,
+    end: usize,
+) -> Result<Look, Stop>
+    requires routes { router.now ≡ the_routes }
+    requires within { end ≤ length held.old.items }
+    ensures honest { (L.tells link.new).honest ≡ (L.tells link.old).honest }
+    ensures text { IsHonest (L.tells link.old) → (L.tells link.new).text ≡ (L.tells link.old).text }
+    ensures bytes { IsHonest (L.tells link.old)
+        → OnOk result (held.new.items ++ (L.tells link.new).left ≡ held.old.items ++ (L.tells link.old).left) }
+    ensures look { (judge : Judge) → IsJudge judge → IsHonest (L.tells link.old)
+        → IfOk result (λ l. told_of (held.old.items ++ (L.tells link.old).left) l
+        ≡ told_body (held.old.items ++ (L.tells link.old).left) end (judge (take end (held.old.items ++ (L.tells link.old).left)))) }
+    ensures fits { IfOk result (LookFits (length held.new.items)) }
+    ensures end { IsHonest (L.tells link.old) → IfOk result (λ l. IsMore l → (L.tells link.new).left ≡ []) }
+    ensures later { L.faults link.old ≤ L.faults link.new }
+    ensures cause { IsErrOf result Stop.Fault → Rose (L.faults link.old) (L.faults link.new) }
+{
+    match read_head(router, &held[..end]) {
+        Err(status) => Ok(Look::Bad(status)),
+        Ok(head) => {
+            if await_bytes(link, held, end + head.length)? {
+                Ok(Look::Whole { head, end })
+            } else {
+                Ok(Look::More)
+            }
+        }
+    }
+}
+
+/// Reads until the bytes held tell of a request. `More` comes where the input ended before.
+pub fn next_look<L: Link>(
+    router: &Router<Route>,
+    link: &mut L,
+    held: &mut Vec<u8>,
+) -> Result<Look, Stop>
+    requires { router.now ≡ the_routes }
+    ensures honest { (L.tells link.new).honest ≡ (L.tells link.old).honest }
+    ensures text { IsHonest (L.tells link.old) → (L.tells link.new).text ≡ (L.tells link.old).text }
+    ensures bytes { IsHonest (L.tells link.old)
+        → OnOk result (held.new.items ++ (L.tells link.new).left ≡ held.old.items ++ (L.tells link.old).left) }
+    ensures look { (judge : Judge) → IsJudge judge → IsHonest (L.tells link.old)
+        → IfOk result (λ l. told_of (held.old.items ++ (L.tells link.old).left) l ≡ told judge (held.old.items ++ (L.tells link.old).left)) }
+    ensures fits { IfOk result (LookFits (length held.new.items)) }
+    ensures end { IsHonest (L.tells link.old) → IfOk result (λ l. IsMore l → (L.tells link.new).left ≡ []) }
+    ensures later { L.faults link.old ≤ L.faults link.new }
+    ensures cause { IsErrOf result Stop.Fault → Rose (L.faults link.old) (L.faults link.new) }
+{
+    match find_head(link, held)? {
+        Found::End(end) => look_behind(router, link, held, end),
+        Found::TooLarge => Ok(Look::Bad(Status::HeadTooLarge)),
+        Found::InputEnded => Ok(Look::More),
+    }
+}

@@ -1,0 +1,267 @@
+//! The session.
+ghost use Rattle.std.specs.Prelude.{◌≡◌, ◌⊎◌, ◌++◌, ◌+◌, ◌≤◌, ℕ, suc, length, drop, take, OnOk, OnErr, IfOk, MatchOption, Some, IsErrOf, List};
+ghost use Rattle.aid_edges.specs.Faults.{Rose};
+ghost use Rattle.web_desk.specs.Telling.{IsHonest, AppendsFront};
+ghost use Rattle.web_desk.specs.Ends.{has_begun};
+ghost use Rattle.web_desk.specs.Calls.{the_routes};
+ghost use Rattle.web_desk.specs.Heads.{IsJudge};
+ghost use Rattle.web_desk.specs.Responses.{response_of};
+ghost use Rattle.web_desk.specs.Asks.{IsAsked, AnswersCall, Answers, Reaches, IsStopped};
+ghost use Rattle.web_desk.specs.Exchange.{Judge, told, whole, request_at, rejection_of, Serves, IsGoing, IsAnswered, IsHalfAnswered, IsUntouched, end_of};
+
+use crate::call::{Call, Route, routes};
+use crate::head::Head;
+use crate::link::write_all;
+use crate::look::{Look, next_look};
+use crate::response::{Answer, failure};
+use crate::stop::Stop;
+use crate::{Clerk, End, Forms, Link, Status};
+use matchit::Router;
+use std::alloc::{AllocError, Global};
+
+/// A session has at most so many requests.
+const REQUEST_LIMIT: u32 = 10_000;
+
+// Whether a request has begun.
+fn has_begun(bytes: &[u8]) -> bool
+    ensures { result ≡ has_begun bytes.now }
+{
+    let mut rest = bytes;
+    while let [byte, after @ ..] = rest {
+        if *byte != 13 && *byte != 10 {
+            return true;
+        }
+        rest = after;
+    }
+    false
+}
+
+// Answers a call: the clerk is asked where the body is an ask.
+fn answer_call<F: Forms, C: Clerk<F>>(
+    alloc: Global,
+    clerk: &mut C,
+    call: Call,
+    body: &[u8],
+) -> Result<Answer, AllocError>
+    ensures ok { IfOk result (λ answer. AnswersCall F.scheme C.asked C.faults clerk.old (Ok call) body.now answer clerk.new) }
+    ensures err { OnErr result (IsStopped (λ answer. AnswersCall F.scheme C.asked C.faults clerk.old (Ok call) body.now answer clerk.new) clerk.old clerk.new) }
+    ensures reached { Reaches (IsAsked C.asked C.faults F.scheme.status) clerk.old clerk.new }
+{
+    let Some(ask) = F::read(alloc, call, body)? else {
+        return failure(alloc, Status::BadRequest);
+    };
+    let reply = clerk.ask(ask);
+    let text = F::write(alloc, &reply)?;
+    Ok(Answer::new(F::status(&reply), text))
+}
+
+// Answers a request.
+fn answer_to<F: Forms, C: Clerk<F>>(
+    alloc: Global,
+    clerk: &mut C,
+    head: Head,
+    body: &[u8],
+) -> Result<Answer, AllocError>
+    ensures ok { IfOk result (λ answer. Answers F.scheme C.asked C.faults clerk.old (record { head = head; body = body.now }) answer clerk.new) }
+    ensures err { OnErr result (IsStopped (λ answer. Answers F.scheme C.asked C.faults clerk.old (record { head = head; body = body.now }) answer clerk.new) clerk.old clerk.new) }
+    ensures reached { Reaches (IsAsked C.asked C.faults F.scheme.status) clerk.old clerk.new }
+{
+    match head.call {
+        Ok(call) => answer_call::<F, C>(alloc, clerk, call, body),
+        Err(status) => failure(alloc, status),
+    }
+}
+
+// Writes the response that gives an answer.
+fn write_answer<L: Link>(
+    alloc: Global,
+    link: &mut L,
+    answer: &Answer,
+    closes: bool,
+) -> Result<(), Stop>
+    ensures honest { (L.tells link.new).honest ≡ (L.tells link.old).honest }
+    ensures left { IsHonest (L.tells link.old) → (L.tells link.new).left ≡ (L.tells link.old).left }
+    ensures ok { IsHonest (L.tells link.old) → OnOk result ((L.tells link.new).text ≡ (L.tells link.old).text ++ response_of closes answer.now) }
+    ensures err { IsHonest (L.tells link.old) → OnErr result (AppendsFront (L.tells link.old).text (L.tells link.new).text (response_of closes answer.now)) }
+    ensures later { L.faults link.old ≤ L.faults link.new }
+    ensures cause { IsErrOf result Stop.Fault → Rose (L.faults link.old) (L.faults link.new) }
+{
+    let Ok(response) = answer.response(alloc, closes) else {
+        return Err(Stop::NoMemory);
+    };
+    match write_all(link, &response) {
+        Ok(()) => Ok(()),
+        Err(_) => Err(Stop::Fault),
+    }
+}
+
+// Answers a request, and writes the response whole.
+fn respond_to<F: Forms, C: Clerk<F>, L: Link>(
+    alloc: Global,
+    clerk: &mut C,
+    link: &mut L,
+    head: Head,
+    body: &[u8],
+) -> Result<(), Stop>
+    ensures honest { (L.tells link.new).honest ≡ (L.tells link.old).honest }
+    ensures left { IsHonest (L.tells link.old) → (L.tells link.new).left ≡ (L.tells link.old).left }
+    ensures ok { IsHonest (L.tells link.old)
+        → OnOk result (IsAnswered (Answers F.scheme C.asked C.faults) (record { head = head; body = body.now }) clerk.old clerk.new (L.tells link.old).text (L.tells link.new).text) }
+    ensures err { IsHonest (L.tells link.old)
+        → OnErr result (IsUntouched clerk.old clerk.new (L.tells link.old).text (L.tells link.new).text
+        ⊎ IsHalfAnswered (Answers F.scheme C.asked C.faults) (record { head = head; body = body.now }) clerk.old clerk.new (L.tells link.old).text (L.tells link.new).text) }
+    ensures reached { Reaches (IsAsked C.asked C.faults F.scheme.status) clerk.old clerk.new }
+    ensures later { L.faults link.old ≤ L.faults link.new }
+    ensures cause { IsErrOf result Stop.Fault → Rose (L.faults link.old) (L.faults link.new) }
+{
+    let closes = head.closes;
+    let Ok(answer) = answer_to::<F, C>(alloc, clerk, head, body) else {
+        return Err(Stop::NoMemory);
+    };
+    write_answer(alloc, link, &answer, closes)
+}
+
+// Writes the response to a head that is rejected.
+fn reject<L: Link>(alloc: Global, link: &mut L, status: Status) -> Result<(), Stop>
+    ensures ok { IsHonest (L.tells link.old) → OnOk result ((L.tells link.new).text ≡ (L.tells link.old).text ++ rejection_of status) }
+    ensures err { IsHonest (L.tells link.old) → OnErr result (AppendsFront (L.tells link.old).text (L.tells link.new).text (rejection_of status)) }
+    ensures honest { (L.tells link.new).honest ≡ (L.tells link.old).honest }
+    ensures later { L.faults link.old ≤ L.faults link.new }
+    ensures cause { IsErrOf result Stop.Fault → Rose (L.faults link.old) (L.faults link.new) }
+{
+    let Ok(answer) = failure(alloc, status) else {
+        return Err(Stop::NoMemory);
+    };
+    write_answer(alloc, link, &answer, true)
+}
+
+// How a session ends that can't go on.
+fn end_of(stop: Stop) -> End
+    ensures { result ≡ end_of stop }
+{
+    match stop {
+        Stop::Fault => End::LinkFault,
+        Stop::NoMemory => End::NoMemory,
+    }
+}
+
+// Drops the front of the bytes held.
+fn drop_front(alloc: Global, held: &mut Vec<u8>, count: usize) -> Result<(), AllocError>
+    requires { count ≤ length held.old.items }
+    ensures { OnOk result (held.new.items ≡ drop count held.old.items) }
+{
+    let mut rest = Vec::new(alloc);
+    rest.extend_from_slice(&held[count..])?;
+    *held = rest;
+    Ok(())
+}
+
+// Answers a request whose head block of `end` bytes and whose body stand in front of the bytes held. `None`: the session
+// goes on.
+fn respond<F: Forms, C: Clerk<F>, L: Link>(
+    alloc: Global,
+    clerk: &mut C,
+    link: &mut L,
+    held: &mut Vec<u8>,
+    head: Head,
+    end: usize,
+) -> Option<End>
+    requires { end + head.length ≤ length held.old.items }
+    ensures step { (judge : Judge) → IsHonest (L.tells link.old) → (n : ℕ)
+        → told judge (held.old.items ++ (L.tells link.old).left) ≡ whole (request_at (held.old.items ++ (L.tells link.old).left) end head)
+        → MatchOption result
+        (IsGoing judge (Answers F.scheme C.asked C.faults) (suc n) (held.old.items ++ (L.tells link.old).left) clerk.old clerk.new (L.tells link.old).text (L.tells link.new).text n (held.new.items ++ (L.tells link.new).left))
+        (Serves judge (Answers F.scheme C.asked C.faults) (suc n) (held.old.items ++ (L.tells link.old).left) clerk.old clerk.new (L.tells link.old).text (L.tells link.new).text) }
+    ensures honest { (L.tells link.new).honest ≡ (L.tells link.old).honest }
+    ensures reached { Reaches (IsAsked C.asked C.faults F.scheme.status) clerk.old clerk.new }
+    ensures later { L.faults link.old ≤ L.faults link.new }
+    ensures cause { result ≡ Some End.LinkFault → Rose (L.faults link.old) (L.faults link.new) }
+{
+    let size = end + head.length;
+    let closes = head.closes;
+    if let Err(stop) = respond_to::<F, C, L>(alloc, clerk, link, head, &held[end..size]) {
+        return Some(end_of(stop));
+    }
+    if closes {
+        return Some(End::Closed);
+    }
+    match drop_front(alloc, held, size) {
+        Ok(()) => None,
+        Err(_) => Some(End::NoMemory),
+    }
+}
+
+// Reads and answers one request more. `None`: the session goes on.
+fn serve_one<F: Forms, C: Clerk<F>, L: Link>(
+    alloc: Global,
+    router: &Router<Route>,
+    clerk: &mut C,
+    link: &mut L,
+    held: &mut Vec<u8>,
+) -> Option<End>
+    requires { router.now ≡ the_routes }
+    ensures step { (judge : Judge) → IsJudge judge → IsHonest (L.tells link.old) → (n : ℕ)
+        → MatchOption result
+        (IsGoing judge (Answers F.scheme C.asked C.faults) (suc n) (held.old.items ++ (L.tells link.old).left) clerk.old clerk.new (L.tells link.old).text (L.tells link.new).text n (held.new.items ++ (L.tells link.new).left))
+        (Serves judge (Answers F.scheme C.asked C.faults) (suc n) (held.old.items ++ (L.tells link.old).left) clerk.old clerk.new (L.tells link.old).text (L.tells link.new).text) }
+    ensures honest { (L.tells link.new).honest ≡ (L.tells link.old).honest }
+    ensures reached { Reaches (IsAsked C.asked C.faults F.scheme.status) clerk.old clerk.new }
+    ensures later { L.faults link.old ≤ L.faults link.new }
+    ensures cause { result ≡ Some End.LinkFault → Rose (L.faults link.old) (L.faults link.new) }
+{
+    match next_look(router, link, held) {
+        Err(stop) => Some(end_of(stop)),
+        Ok(Look::More) => Some(if has_begun(held) {
+            End::Cut
+        } else {
+            End::Closed
+        }),
+        Ok(Look::Bad(status)) => match reject(alloc, link, status) {
+            Ok(()) => Some(End::Rejected),
+            Err(stop) => Some(end_of(stop)),
+        },
+        Ok(Look::Whole { head, end }) => respond::<F, C, L>(alloc, clerk, link, held, head, end),
+    }
+}
+
+// Serves a connection up to so many requests.
+fn serve_up_to<F: Forms, C: Clerk<F>, L: Link>(
+    alloc: Global,
+    router: &Router<Route>,
+    clerk: &mut C,
+    link: &mut L,
+    limit: u32,
+) -> End
+    requires { router.now ≡ the_routes }
+    ensures exchange { (judge : Judge) → IsJudge judge → IsHonest (L.tells link.old)
+        → Serves judge (Answers F.scheme C.asked C.faults) limit (L.tells link.old).left clerk.old clerk.new (L.tells link.old).text (L.tells link.new).text result }
+    ensures reached { Reaches (IsAsked C.asked C.faults F.scheme.status) clerk.old clerk.new }
+    ensures later { L.faults link.old ≤ L.faults link.new }
+    ensures cause { result ≡ End.LinkFault → Rose (L.faults link.old) (L.faults link.new) }
+{
+    let mut held = Vec::new(alloc);
+    let mut room = limit;
+    while room > 0 {
+        room -= 1;
+        if let Some(end) = serve_one::<F, C, L>(alloc, router, clerk, link, &mut held) {
+            return end;
+        }
+    }
+    End::Limit
+}
+
+/// Serves a connection: what is written is the exchange of its bytes for a run of the clerk, however the link cuts them.
+/// At the ends `LinkFault` and `NoMemory` it is a front of that, and a link that tells nothing is promised the clerk's
+/// part alone: the clerk's asks follow one another, and nothing else changes it.
+pub fn serve<F: Forms, C: Clerk<F>, L: Link>(alloc: Global, clerk: &mut C, link: &mut L) -> End
+    ensures exchange { (judge : Judge) → IsJudge judge → IsHonest (L.tells link.old)
+        → Serves judge (Answers F.scheme C.asked C.faults) 10000 (L.tells link.old).left clerk.old clerk.new (L.tells link.old).text (L.tells link.new).text result }
+    ensures reached { Reaches (IsAsked C.asked C.faults F.scheme.status) clerk.old clerk.new }
+    ensures later { L.faults link.old ≤ L.faults link.new }
+    ensures cause { result ≡ End.LinkFault → Rose (L.faults link.old) (L.faults link.new) }
+{
+    let Ok(router) = routes(alloc) else {
+        return End::NoMemory;
+    };
+    serve_up_to::<F, C, L>(alloc, &router, clerk, link, REQUEST_LIMIT)
+}
