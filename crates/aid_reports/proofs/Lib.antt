@@ -1,0 +1,7 @@
+pub mod DayTexts
+pub mod InOrder
+pub mod Orders
+pub mod Passes
+pub mod Pieces
+pub mod Standing
+pub mod Told

@@ -1,0 +1,6 @@
+use Rattle.std.proofs.Common.{◌≡◌, reverse, take}
+use Rattle.aid_reports.specs.Rows.{lifetime_user, told_by}
+use Rattle.aid_reports.proofs.gathered.lifetime_users.Given as goal
+
+abbrev pub invariant-loop-filing : goal.invariant-loop-filing
+invariant-loop-filing l = l.students.items ≡ reverse (told_by (λ f. lifetime_user f.what) (reverse (take l.filing-index l.filings)))

@@ -1,0 +1,6 @@
+pub mod Columns
+pub mod Days
+pub mod InOrder
+pub mod Lines
+pub mod Reports
+pub mod Rows

@@ -1,0 +1,122 @@
+//! The lines of reports.
+ghost use Rattle.std.specs.Prelude.{◌≡◌, ◌∷◌, ◌++◌, [], OnOk, codes};
+ghost use Rattle.reply_lines.specs.Lines.{formula_text, way_text};
+ghost use Rattle.aid_reports.specs.Columns.{left, line as columns, right};
+ghost use Rattle.aid_reports.specs.Lines.{award_line, due_text, lifetime_line, program_text, return_line, standing_line};
+
+use crate::columns::{
+    put_amount, put_left, put_number, put_percent, put_school, put_student, put_term, put_text,
+    put_whole,
+};
+use crate::rows::{LifetimeOf, NetOf, ReturnOf, StandingOf};
+use crate::table::Line;
+use aid_types::{Day, Formula, Program, Way};
+use enrolment::put_day;
+use std::alloc::AllocError;
+
+impl Line for StandingOf {
+    ghost line = { standing_line };
+
+    fn put(&self, out: &mut Vec<u8>) -> Result<(), AllocError> {
+        put_student(self.student, out)?;
+        put_text(formula_name(self.row.formula).as_bytes(), out)?;
+        put_whole(7, self.row.sai, b' ', out)?;
+        put_left(10, way_name(self.row.way).as_bytes(), b' ', out)?;
+        put_number(6, u64::from(self.row.scheduled), b' ', out)?;
+        put_amount(self.row.paid, b' ', out)?;
+        put_number(7, u64::from(self.row.used), b'\n', out)
+    }
+}
+
+impl Line for NetOf {
+    ghost line = { award_line };
+
+    fn put(&self, out: &mut Vec<u8>) -> Result<(), AllocError> {
+        put_school(self.school, out)?;
+        put_student(self.student, out)?;
+        put_term(self.term, out)?;
+        put_left(5, program_name(self.program).as_bytes(), b' ', out)?;
+        put_amount(self.cents, b'\n', out)
+    }
+}
+
+impl Line for ReturnOf {
+    ghost line = { return_line };
+
+    fn put(&self, out: &mut Vec<u8>) -> Result<(), AllocError> {
+        put_school(self.school, out)?;
+        put_student(self.student, out)?;
+        put_term(self.term, out)?;
+        put_percent(self.percent, out)?;
+        put_amount(self.returned, b' ', out)?;
+        put_amount(self.owed, b' ', out)?;
+        put_amount(self.post, b' ', out)?;
+        put_due(self.due, out)
+    }
+}
+
+impl Line for LifetimeOf {
+    ghost line = { lifetime_line };
+
+    fn put(&self, out: &mut Vec<u8>) -> Result<(), AllocError> {
+        put_student(self.student, out)?;
+        put_number(7, u64::from(self.prior), b' ', out)?;
+        put_number(7, u64::from(self.used), b'\n', out)
+    }
+}
+
+// Appends the day on which a return is due, or none, and a line feed.
+fn put_due(due: Option<Day>, out: &mut Vec<u8>) -> Result<(), AllocError>
+    ensures { OnOk result (out.new.items ≡ out.old.items ++ due_text due ++ codes "\n") }
+{
+    put_due_text(due, out)?;
+    out.push(b'\n')?;
+    Ok(())
+}
+
+// Appends the day on which a return is due, or none.
+fn put_due_text(due: Option<Day>, out: &mut Vec<u8>) -> Result<(), AllocError>
+    ensures { OnOk result (out.new.items ≡ out.old.items ++ due_text due) }
+{
+    match due {
+        Some(day) => put_day(day, out),
+        None => out.extend_from_slice(b"none"),
+    }
+}
+
+// The letter of a formula.
+fn formula_name(formula: Formula) -> &'static str
+    ensures { result.now ≡ formula_text formula }
+{
+    match formula {
+        Formula::A => "A",
+        Formula::B => "B",
+        Formula::C => "C",
+    }
+}
+
+// The word for a way to an award.
+fn way_name(way: Way) -> &'static str
+    ensures { result.now ≡ way_text way }
+{
+    match way {
+        Way::Maximum => "maximum",
+        Way::Calculated => "calculated",
+        Way::Minimum => "minimum",
+        Way::Nothing => "nothing",
+    }
+}
+
+// The word for a program.
+fn program_name(program: Program) -> &'static str
+    ensures { result.now ≡ program_text program }
+{
+    match program {
+        Program::Unsub => "unsub",
+        Program::Sub => "sub",
+        Program::Plus => "plus",
+        Program::Pell => "pell",
+        Program::Fseog => "fseog",
+        Program::Teach => "teach",
+    }
+}

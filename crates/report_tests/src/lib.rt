@@ -1,0 +1,7 @@
+//! Tests of the reports. This library has tests alone.
+#![tactic(auto)]
+
+#[cfg(test)]
+mod office;
+#[cfg(test)]
+mod reports;
