@@ -2,20 +2,10 @@
 //
 // usage: plain_office students|kinds|one|priors FILINGS
 
-#[path = "need/arithmetic.rs"]
-mod arithmetic;
-#[path = "plain_office/desk.rs"]
-mod desk;
-#[path = "plain_office/filings.rs"]
-mod filings;
-#[path = "plain_office/office.rs"]
-mod office;
-#[path = "plain_office/orders.rs"]
-mod orders;
-#[path = "plain_office/returns.rs"]
-mod returns;
+mod plain;
 
-use desk::PlainDesk;
+use plain::desk::PlainDesk;
+use plain::orders;
 
 fn main() {
     let words: Vec<String> = std::env::args().skip(1).collect();

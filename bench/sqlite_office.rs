@@ -6,25 +6,13 @@
 //
 // usage: sqlite_office students|kinds|one|priors FILINGS
 
-#[path = "need/arithmetic.rs"]
-mod arithmetic;
-#[path = "plain_office/desk.rs"]
-mod desk;
-#[path = "plain_office/filings.rs"]
-mod filings;
-#[path = "plain_office/office.rs"]
-mod office;
-#[path = "plain_office/orders.rs"]
-mod orders;
-#[path = "plain_office/returns.rs"]
-mod returns;
-#[path = "plain_office/sqlite.rs"]
+mod plain;
 mod sqlite;
 
-use desk::PlainDesk;
-use filings::{Filing, What};
-use office::Place;
-use orders::Desk;
+use plain::desk::PlainDesk;
+use plain::filings::{self, Filing, What};
+use plain::office::Place;
+use plain::orders::{self, Desk};
 use sqlite::{Base, Statement};
 
 const ROOM: u32 = 200_000;

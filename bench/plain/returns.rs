@@ -1,6 +1,6 @@
 // The worksheet of a withdrawal, as crate withdrawal_returns has it.
 
-use crate::filings::{FSEOG, PELL, PROGRAMS};
+use super::filings::{FSEOG, PELL, PROGRAMS};
 
 const TEACH: usize = 5;
 const FORGIVEN: u64 = 5000;

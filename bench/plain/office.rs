@@ -1,9 +1,9 @@
 // The office over ordered maps: the rules that the filings of orders.rs meet, in the order of each kind, with running totals
 // in place of sums over the list.
 
-use crate::arithmetic::{Book, Formula, decide, formula_of, index};
-use crate::filings::*;
-use crate::returns::{Worksheet, half_up, worksheet};
+use super::arithmetic::{Book, Formula, decide, formula_of, index};
+use super::filings::*;
+use super::returns::{Worksheet, half_up, worksheet};
 use std::collections::BTreeMap;
 
 const ROOM: usize = 200_000;

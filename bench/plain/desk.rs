@@ -1,8 +1,8 @@
 // The office with what came of the filings.
 
-use crate::filings::{Filing, Outcome, Verdict, What};
-use crate::office::{Office, Place};
-use crate::orders::Desk;
+use super::filings::{Filing, Outcome, Verdict, What};
+use super::office::{Office, Place};
+use super::orders::Desk;
 use std::fmt;
 
 #[derive(Default)]

@@ -1,7 +1,7 @@
 // What is filed and what the office answers, as crates aid_filings and aid_replies have it. A book's year stands in it; terms
 // have no breaks; nothing is repaid.
 
-use crate::arithmetic::{Application, Book, Formula, Way};
+use super::arithmetic::{Application, Book, Formula, Way};
 
 pub const PROGRAMS: usize = 6;
 pub const PELL: usize = 3;

@@ -1,8 +1,8 @@
 // The filings of crate office_bench, in the same orders.
 
-use crate::arithmetic::{Application, Side, specimen_book};
-use crate::filings::*;
-use crate::office::Place;
+use super::arithmetic::{Application, Side, specimen_book};
+use super::filings::*;
+use super::office::Place;
 
 const FIRST_YEAR: u16 = 2025;
 const FIRST_DAY: i32 = 20_325;

@@ -1,0 +1,9 @@
+//! An office over ordered maps in plain Rust, its desk, and the filings of crate office_bench in their orders.
+
+#[path = "../need/arithmetic.rs"]
+pub mod arithmetic;
+pub mod desk;
+pub mod filings;
+pub mod office;
+pub mod orders;
+pub mod returns;
