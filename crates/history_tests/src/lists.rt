@@ -6,11 +6,12 @@ ghost use Rattle.office_history.specs.Answer.{IsLegal};
 use aid_filings::{CalendarFacts, Filing, WithdrawFacts};
 use aid_replies::{Outcome, Verdict};
 use aid_types::{Breaks, ByProgram, Day, Program, School, Student, Term, Year};
-use office_history::admitted_is_legal;
-use on_file::{
-    Account, CalendarRow, OnFile, PlaceRow, Plain, SchoolRow, SchoolYearRow, StudentRow, TermRow,
-    admits, answer, gather, payment_facts, quote, sheet, standing,
+use office_answers::{admits, answer, gather, payment_facts, quote, sheet, standing};
+use office_history::{
+    Account, CalendarRow, OnFile, PlaceRow, SchoolRow, SchoolYearRow, StudentRow, TermRow,
+    admitted_is_legal,
 };
+use plain_list::Plain;
 use std::alloc::Global;
 use std::marker::Brand;
 use std::process::Abort;

@@ -10,7 +10,7 @@ use Rattle.office_history.specs.Answer.{IsLegal, answer_at, answer_new, answer_o
 use Rattle.office_history.specs.Past.{filing_at, key_at, same_key}
 use Rattle.office_history.proofs.Cases.{answer_of-new}
 use Rattle.office_history.proofs.Legal.{filing_at-new}
-use Rattle.on_file.specs.Rows.{filing_in}
+use Rattle.office_history.specs.Rows.{filing_in}
 use Rattle.office_core.specs.Register.{IsKeyUsedAt}
 use Rattle.office_core.proofs.Found.{filing_found, found}
 use Rattle.office_core.proofs.OtherRules.{other_rule}

@@ -1,5 +1,5 @@
 -- There is a filing at each position from 1 to the number of filings, and at no other.
-use Rattle.std.proofs.Common.{◌≡◌, ℕ, zero, suc, ◌+◌, ◌<◌, ◌≤◌, refl, sym, ap, ◌∙◌, arith, Bool, true, false, List, [], ◌∷◌, length, reverse, Option, Some, None, Bor}
+use Rattle.std.proofs.Common.{◌≡◌, ℕ, zero, suc, ◌<◌, ◌≤◌, refl, sym, ap, ◌∙◌, arith, true, List, length, reverse, Option, Some, None, Bor}
 use Rattle.std.specs.Prelude.{◌↔◌, is_some, IsSome}
 use Rattle.std.specs.List.{slice_get}
 use Rattle.std.specs.Option.{option_copied}
@@ -7,7 +7,7 @@ use Rattle.std.proofs.lemmas.List.{length-reverse}
 use Rattle.std.proofs.lemmas.Option.{slice_get_within}
 use Rattle.sorted_rows.proofs.Placed.{row_of}
 use Rattle.aid_filings.specs.declared.filing.Filing.{Filing}
-use Rattle.on_file.specs.Rows.{filing_in}
+use Rattle.office_history.specs.Rows.{filing_in}
 
 same_some : (o : Option (Bor Filing)) → is_some (option_copied o) ≡ is_some o
 same_some None = refl

@@ -1,5 +1,5 @@
 -- A number is below two to the power of its digits, and of no fewer.
-use Rattle.std.proofs.Common.{◌≡◌, ℕ, zero, suc, ◌*◌, ◌/◌, ◌^◌, ◌<◌, ◌≤◌, List, length, arith, subst}
+use Rattle.std.proofs.Common.{◌≡◌, ℕ, zero, suc, ◌/◌, ◌^◌, ◌<◌, ◌≤◌, List, length, arith, subst}
 use Rattle.std.proofs.Math.Nat.{pow-suc}
 use Rattle.aid_filings.specs.declared.filing.Filing.{Filing}
 use Rattle.office_core.specs.Digits.{digits_of, digits_within}

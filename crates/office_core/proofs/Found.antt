@@ -14,7 +14,7 @@ use Rattle.office_history.specs.Answer.{IsLegal}
 use Rattle.office_history.specs.FactsOf.{book_at}
 use Rattle.office_history.specs.Past.{book_in, earlier, earliest, filing_at, first_at, first_of_two, given, key_at, same_filing, same_key, the_book}
 use Rattle.office_history.proofs.Legal.{filing_at-new}
-use Rattle.on_file.specs.Rows.{filing_in}
+use Rattle.office_history.specs.Rows.{filing_in}
 use Rattle.office_core.specs.Index.{book_filed}
 
 -- an element stays where others are appended, and the first of these comes after the list

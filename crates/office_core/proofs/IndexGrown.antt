@@ -1,21 +1,20 @@
 -- The rows of an index tell what is on file with a filing more.
 use Rattle.std.proofs.Common.{◌≡◌, ℕ, ◌+◌, ◌-◌, ◌<◌, ◌≤◌, ap, subst, sym, ◌∙◌, arith, List, [], ◌∷◌, ◌++◌, length, reverse, Some}
-use Rattle.aid_filings.specs.declared.filing.CalendarFacts.{CalendarFacts}
 use Rattle.aid_filings.specs.declared.filing.EnrolFacts.{EnrolFacts}
 use Rattle.aid_filings.specs.declared.filing.Filing.{Filing}
-use Rattle.aid_filings.specs.declared.filing.What.{What}
-use Rattle.aid_filings.specs.declared.filing.What.TheVariants.{Calendar, Enrol}
+use Rattle.aid_filings.specs.declared.filing.What.TheVariants.{Enrol}
 use Rattle.aid_replies.specs.declared.reply.Outcome.{Outcome}
 use Rattle.sorted_rows.specs.Places.{AreStaying}
 use Rattle.std.specs.List.{slice_get}
 use Rattle.office_history.specs.Answer.{IsLegal, outcome_of}
 use Rattle.office_history.specs.FactsOf.{school_at, term_at}
 use Rattle.office_history.proofs.Legal.{legal_is_short}
-use Rattle.on_file.specs.declared.rows.PlaceRow.{PlaceRow}
-use Rattle.office_core.specs.Index.{AreBooks, AreKeys, ArePlaces, AreSchools, AreSchoolYears, AreStudents, AreYears, IndexRows, IsIndexed, IsWrittenBy}
-use Rattle.office_core.specs.Links.{AreLinked, IsLinkable, before_in, is_enrolled, is_term_of, last_at, place_name}
-use Rattle.office_core.specs.Register.{outcomes_of}
-use Rattle.office_core.specs.declared.names.StudentPlace.{StudentPlace}
+use Rattle.office_history.specs.declared.rows.PlaceRow.{PlaceRow}
+use Rattle.office_core.specs.Index.{AreBooks, AreKeys, AreSchools, AreSchoolYears, AreStudents, AreYears, IndexRows, IsIndexed, IsWrittenBy}
+use Rattle.office_links.specs.Placed.{ArePlaces}
+use Rattle.office_links.specs.Links.{AreLinked, IsLinkable, before_in}
+use Rattle.office_history.specs.Names.{place_name}
+use Rattle.office_history.specs.declared.names.StudentPlace.{StudentPlace}
 use Rattle.office_core.specs.declared.written.Written.{Written}
 
 -- each table tells it

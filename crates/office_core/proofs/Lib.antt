@@ -1,28 +1,15 @@
 mod AnswerLaws
 mod AtPosition
 mod Digits
-mod EnrolmentsLeast
-mod EnrolmentsRows
-mod EnrolmentsTerms
-mod EnrolmentsWalk
 mod IndexGrown
-mod LinksChain
-mod LinksMore
-mod LinksTerms
 mod NetTold
 mod NoRows
 mod OtherRules
+mod OutcomeAwards
 mod Quoted
+mod RowsFound
 mod RowsWritten
 mod StandingLemmas
 mod Unpaid
 pub mod Found
 pub mod OnRecord
-pub mod PlacesAfter
-pub mod RowNames
-pub mod SchoolYearsAfter
-pub mod SchoolsAfter
-pub mod StudentUse
-pub mod YearFilings
-pub mod YearMoves
-pub mod YearNames

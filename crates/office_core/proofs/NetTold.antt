@@ -6,9 +6,9 @@ use Rattle.aid_types.specs.declared.number.Program.{Program}
 use Rattle.aid_filings.specs.declared.filing.Filing.{Filing}
 use Rattle.office_history.specs.FactsOf.{cell_at}
 use Rattle.office_history.specs.Net.{is_cell, net_at, paid, taken}
-use Rattle.on_file.proofs.Sixes.{six-rank}
-use Rattle.on_file.specs.Rows.{place_row}
-use Rattle.on_file.specs.declared.rows.PlaceRow.{PlaceRow}
+use Rattle.office_history.proofs.Sixes.{six-rank}
+use Rattle.office_history.specs.Rows.{place_row}
+use Rattle.office_history.specs.declared.rows.PlaceRow.{PlaceRow}
 
 abbrev net_in : PlaceRow → ℕ → ℕ
 net_in row p = slice_index row.account.paid p - slice_index row.account.taken p

@@ -6,7 +6,7 @@ use Rattle.aid_replies.specs.declared.reply.Outcome.{Outcome}
 use Rattle.lifetime_ledger.specs.Used.{use_of}
 use Rattle.office_history.specs.Net.{all_years}
 use Rattle.office_core.specs.Index.{IndexRows, IsIndexed}
-use Rattle.office_core.specs.Links.{AreLinked}
+use Rattle.office_links.specs.Links.{AreLinked}
 
 abbrev pub no_rows : IndexRows
 no_rows = record { keys = []; books = []; schools = []; students = []; places = []; years = []; school_years = []; links = [] }

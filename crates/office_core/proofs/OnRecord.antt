@@ -1,23 +1,13 @@
 -- The outcomes that an office keeps are those that its history tells, so an answer may be read from them.
-use Rattle.std.proofs.Common.{◌≡◌, ℕ, suc, ◌+◌, ◌-◌, ◌<◌, refl, sym, ap, subst, ◌∙◌, add-one, arith, true, false, List, [], ◌∷◌, ◌++◌, length, reverse, drop, get_or, length-append, Some, inl, inr}
-use Rattle.std.specs.List.{slice_get}
+use Rattle.std.proofs.Common.{◌≡◌, ℕ, suc, ◌+◌, ◌-◌, ◌<◌, refl, sym, ap, ◌∙◌, arith, List, [], ◌∷◌, ◌++◌, length, drop, get_or, length-append, inl, inr}
 use Rattle.std.proofs.lemmas.Bool.{cases_lt}
-use Rattle.std.proofs.lemmas.List.{length-reverse, reverse-reverse}
-use Rattle.std.proofs.lemmas.Option.{slice_get_read}
 use Rattle.std.proofs.Math.ListN.{get_or-append}
 use Rattle.std.proofs.Math.Seq.{get_or-append_seam}
 use Rattle.aid_filings.specs.declared.filing.Filing.{Filing}
-use Rattle.aid_filings.proofs.SameFiling.{tells_filing}
 use Rattle.aid_replies.specs.declared.reply.Outcome.{Outcome}
-use Rattle.aid_replies.specs.declared.reply.Verdict.TheVariants.{Again, Refused}
-use Rattle.office_history.specs.Answer.{IsLegal, answer_of, outcome_at, outcome_of, outcome_of_newest}
-use Rattle.office_history.specs.Past.{filing_at, key_at, same_filing}
-use Rattle.office_history.proofs.Cases.{answer_of-used}
+use Rattle.office_history.specs.Answer.{outcome_at, outcome_of, outcome_of_newest}
 use Rattle.office_history.proofs.Recorded.{outcome_at-stays}
-use Rattle.on_file.specs.Rows.{filing_in}
 use Rattle.office_core.specs.Register.{outcomes_of}
-use Rattle.office_core.proofs.Found.{other_stands}
-use Rattle.office_core.proofs.StandingLemmas.{standing_at}
 
 pub as_many : (past : List Filing) → length (outcomes_of past) ≡ length past
 as_many [] = refl

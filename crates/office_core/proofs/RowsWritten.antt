@@ -1,11 +1,9 @@
 -- What rows tell once one of them is written.
-use Rattle.std.proofs.Common.{◌≡◌, ℕ, zero, suc, ◌+◌, ◌<◌, ◌≤◌, refl, sym, ap, ◌∙◌, arith, cond, Bool, true, false, ◌&&◌, List, ◌∷◌, length, Option, Some, None, eqb-true}
-use Rattle.std.specs.Prelude.{◌==◌}
+use Rattle.std.proofs.Common.{◌≡◌, ℕ, ◌+◌, refl, sym, ap, ◌∙◌, cond, Bool, true, false, ◌&&◌, List, ◌∷◌, length, Option, Some, None}
 use Rattle.std.specs.Cmp.{both_tied, unsigned_tied}
 use Rattle.std.specs.List.{slice_get}
 use Rattle.std.specs.Ordering.{is_eq}
 use Rattle.std.specs.declared.cmp.Ordering.{Ordering}
-use Rattle.std.proofs.lemmas.Bool.{and_parts}
 use Rattle.std.proofs.lemmas.Cmp.{nat_eq_equiv}
 use Rattle.sorted_rows.specs.Places.{IsHere, IsWritten, value_at}
 use Rattle.sorted_rows.proofs.Placed.{row_of}
@@ -13,17 +11,19 @@ use Rattle.aid_types.specs.declared.number.Key.{Key}
 use Rattle.aid_types.proofs.Same.{tells_key}
 use Rattle.aid_filings.specs.declared.filing.Filing.{Filing}
 use Rattle.office_history.specs.Past.{first_of_two, key_at, same_key}
-use Rattle.on_file.specs.Rows.{place_row, school_year_row, year_row}
-use Rattle.on_file.specs.declared.rows.PlaceRow.{PlaceRow}
-use Rattle.on_file.specs.declared.rows.SchoolYearRow.{SchoolYearRow}
-use Rattle.on_file.specs.declared.rows.YearRow.{YearRow}
-use Rattle.office_core.specs.After.{IsPlaceAfter, IsSchoolYearAfter, IsYearAfter, after, place_cmp, school_year_cmp, year_cmp}
-use Rattle.office_core.specs.Index.{AreKeys, ArePlaces, AreSchoolYears, AreYears, filing_cmp, filing_name, place_or, position_or, school_year_or, written_or, year_or}
-use Rattle.office_core.proofs.RowNames.{at_place, place-same}
-use Rattle.office_core.specs.declared.names.FilingName.{FilingName}
-use Rattle.office_core.specs.declared.names.StudentPlace.{StudentPlace}
-use Rattle.office_core.specs.declared.names.StudentSchoolYear.{StudentSchoolYear}
-use Rattle.office_core.specs.declared.names.StudentYear.{StudentYear}
+use Rattle.office_history.specs.Rows.{place_row, school_year_row, year_row}
+use Rattle.office_history.specs.declared.rows.PlaceRow.{PlaceRow}
+use Rattle.office_history.specs.declared.rows.SchoolYearRow.{SchoolYearRow}
+use Rattle.office_history.specs.declared.rows.YearRow.{YearRow}
+use Rattle.office_rows.specs.After.{IsPlaceAfter, IsSchoolYearAfter, IsYearAfter, after}
+use Rattle.office_history.specs.Names.{place_cmp, school_year_cmp, year_cmp}
+use Rattle.office_core.specs.Index.{AreKeys, AreSchoolYears, AreYears, filing_cmp, filing_name, position_or, school_year_or, written_or, year_or}
+use Rattle.office_links.specs.Placed.{ArePlaces, place_or}
+use Rattle.office_rows.proofs.RowNames.{at_place, place-same}
+use Rattle.office_history.specs.declared.names.FilingName.{FilingName}
+use Rattle.office_history.specs.declared.names.StudentPlace.{StudentPlace}
+use Rattle.office_history.specs.declared.names.StudentSchoolYear.{StudentSchoolYear}
+use Rattle.office_history.specs.declared.names.StudentYear.{StudentYear}
 
 -- what is told of a name once a row is written
 told_written : {K V : Type 0} (cmp : K → K → Ordering) (tell : Option V → V) → ((v : V) → tell (Some v) ≡ v) → (w : Option (K × V)) (name : K) (o : Option V) →

@@ -8,7 +8,7 @@ use Rattle.aid_replies.specs.declared.reply.Verdict.TheVariants.{Again}
 use Rattle.office_history.specs.Answer.{IsLegal, answer_of, outcome_at}
 use Rattle.office_history.proofs.Oldest.{reverse-at}
 use Rattle.office_history.proofs.Recorded.{answer_of-repeated, outcome_at-stays}
-use Rattle.on_file.specs.Rows.{filing_in}
+use Rattle.office_history.specs.Rows.{filing_in}
 
 -- the filing at an index of the list, which is read oldest first
 pub standing_at : (h : List Filing) (i : ℕ) (f : Filing) → IsLegal (reverse h) → slice_get h i ≡ Some f → answer_of (reverse h) f ≡ Again (suc i) (outcome_at (reverse h) (suc i))

@@ -14,22 +14,25 @@ use Rattle.aid_types.specs.declared.number.Key.{Key}
 use Rattle.office_history.specs.Answer.{IsLegal}
 use Rattle.office_history.specs.FactsOf.{book_at}
 use Rattle.office_history.specs.Past.{key_at}
-use Rattle.on_file.specs.Accounts.{nothing}
-use Rattle.on_file.specs.Rows.{place_row, school_row, school_year_row, student_row, year_row}
-use Rattle.on_file.specs.declared.rows.PlaceRow.{PlaceRow}
-use Rattle.on_file.specs.declared.rows.SchoolYearRow.{SchoolYearRow}
-use Rattle.on_file.specs.declared.rows.YearRow.{YearRow}
-use Rattle.office_core.specs.After.{IsPlaceAfter, IsSchoolAfter, IsSchoolYearAfter, IsStudentAfter, IsYearAfter, place_cmp, school_year_cmp, year_cmp}
-use Rattle.office_core.specs.Links.{AreLinked, is_enrolled, is_term_of, last_at, place_name}
+use Rattle.office_history.specs.Rows.{school_row, school_year_row, student_row, year_row}
+use Rattle.office_history.specs.declared.rows.PlaceRow.{PlaceRow}
+use Rattle.office_history.specs.declared.rows.SchoolYearRow.{SchoolYearRow}
+use Rattle.office_history.specs.declared.rows.YearRow.{YearRow}
+use Rattle.office_history.specs.declared.rows.StudentRow.{StudentRow}
+use Rattle.office_rows.specs.After.{IsPlaceAfter, IsSchoolAfter, IsSchoolYearAfter, IsStudentAfter, IsYearAfter}
+use Rattle.office_rows.specs.Changed.{place_changed, school_year_changed, student_changed, year_changed}
+use Rattle.office_history.specs.Names.{school_year_cmp, year_cmp, place_name}
+use Rattle.office_links.specs.Links.{AreLinked, is_enrolled, is_term_of, last_at}
 use Rattle.office_core.specs.Register.{outcomes_of}
 use Rattle.office_core.specs.declared.entries.SchoolEntry.{SchoolEntry}
 use Rattle.office_core.specs.declared.entries.StudentEntry.{StudentEntry}
-use Rattle.office_core.specs.declared.links.Link.{Link}
-use Rattle.office_core.specs.declared.names.FilingName.{FilingName}
-use Rattle.office_core.specs.declared.names.StudentPlace.{StudentPlace}
-use Rattle.office_core.specs.declared.names.StudentSchoolYear.{StudentSchoolYear}
-use Rattle.office_core.specs.declared.names.StudentYear.{StudentYear}
+use Rattle.office_links.specs.declared.links.Link.{Link}
+use Rattle.office_history.specs.declared.names.FilingName.{FilingName}
+use Rattle.office_history.specs.declared.names.StudentPlace.{StudentPlace}
+use Rattle.office_history.specs.declared.names.StudentSchoolYear.{StudentSchoolYear}
+use Rattle.office_history.specs.declared.names.StudentYear.{StudentYear}
 use Rattle.office_core.specs.declared.written.Written.{Written}
+use Rattle.office_links.specs.Placed.{ArePlaces}
 
 -- the order of filings' names, and the name of a key
 abbrev pub filing_cmp : FilingName → FilingName → Ordering
@@ -55,10 +58,6 @@ school_or (Some entry) = entry
 abbrev pub student_or : Option StudentEntry → StudentEntry
 student_or None = record { row = record { prior_at = 0; pell_at = 0; used = 0 }; newest = 0 }
 student_or (Some entry) = entry
-
-abbrev pub place_or : Option PlaceRow → PlaceRow
-place_or None = record { credits = 0; withdrawn_at = 0; could = six (λ p. 0); account = nothing }
-place_or (Some row) = row
 
 abbrev pub year_or : Option YearRow → YearRow
 year_or None = record { application = None; scheduled = 0; nets = six (λ p. 0); main = 0 }
@@ -93,11 +92,6 @@ AreSchools past rows = (code : ℕ) → school_or (value_at nat_cmp code rows) �
 abbrev pub AreStudents : List Filing → List (ℕ × StudentEntry) → Type 0
 AreStudents past rows = (student : ℕ) → student_or (value_at nat_cmp student rows) ≡ student_entry past student
 
-abbrev pub ArePlaces : List Filing → List (StudentPlace × PlaceRow) → Type 0
-ArePlaces past rows = (school student year term : ℕ) →
-    place_or (value_at place_cmp (record { student = student; school = school; year = year; term = term }) rows)
-    ≡ place_row past school student year term
-
 abbrev pub AreYears : List Filing → List (StudentYear × YearRow) → Type 0
 AreYears past rows = (student year : ℕ) →
     year_or (value_at year_cmp (record { student = student; year = year }) rows) ≡ year_row past student year
@@ -107,13 +101,17 @@ AreSchoolYears past rows = (school student year : ℕ) →
     school_year_or (value_at school_year_cmp (record { student = student; school = school; year = year }) rows)
     ≡ school_year_row past school student year
 
--- the rows that a filing writes are those that it changes
+-- the rows that a filing writes are those that it changes, under the names of those that it may change
 pub record IsWrittenBy (past : List Filing) (f : Filing) (w : Written) : Type 0 where
   pub school : IsSchoolAfter past f w.school
   pub student : IsStudentAfter past f w.student
   pub place : IsPlaceAfter past f w.place
   pub year : IsYearAfter past f w.year
   pub school_year : IsSchoolYearAfter past f w.school_year
+  pub student_named : (student : ℕ) (row : StudentRow) → w.student ≡ Some (student, row) → student_changed f.what ≡ Some student
+  pub place_named : (name : StudentPlace) (row : PlaceRow) → w.place ≡ Some (name, row) → place_changed f.key.school f.what ≡ Some name
+  pub year_named : (name : StudentYear) (row : YearRow) → w.year ≡ Some (name, row) → year_changed f.what ≡ Some name
+  pub school_year_named : (name : StudentSchoolYear) (row : SchoolYearRow) → w.school_year ≡ Some (name, row) → school_year_changed f.key.school f.what ≡ Some name
   pub enrolled : (e : EnrolFacts) → f.what ≡ Enrol e → (row : PlaceRow) × (w.place ≡ Some (place_name f.key.school e, row))
 
 -- the rows of an index

@@ -1,11 +1,7 @@
-pub mod After
+pub mod Awarded
 pub mod Digits
-pub mod Enrolments
 pub mod Index
-pub mod Links
-pub mod Moved
 pub mod Register
 pub mod WalkedFor
-pub mod Walks
 pub use Rattle.office_history.specs.Answer
 pub use Rattle.office_history.specs.Past

@@ -6,7 +6,7 @@ use Rattle.aid_filings.specs.declared.filing.What.TheVariants.{Pay}
 use Rattle.aid_types.specs.declared.number.Program.TheVariants.{Pell}
 use Rattle.aid_replies.specs.declared.reply.Outcome.{Outcome}
 use Rattle.office_history.specs.Answer.{outcome_of}
-use Rattle.on_file.specs.Rows.{filing_in}
+use Rattle.office_history.specs.Rows.{filing_in}
 
 -- its filings, the newest first, and how many more it takes without asking for memory
 pub record Register : Type 0 where

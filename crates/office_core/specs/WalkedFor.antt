@@ -1,13 +1,13 @@
--- How many rows an ask may walk over: the terms of the school and the enrolments of the student that are asked about.
+-- How many rows an ask may walk over: the terms of the school and the enrolments of the student that are asked about. Where a
+-- student stands is told without a walk.
 use Rattle.std.specs.Prelude.{ℕ, List, Some}
 use Rattle.aid_filings.specs.Students.{student_of}
 use Rattle.aid_filings.specs.declared.filing.Filing.{Filing}
 use Rattle.aid_replies.specs.declared.reply.Ask.{Ask}
 use Rattle.aid_replies.specs.declared.reply.Ask.TheVariants.{File, Quote, Standing}
-use Rattle.on_file.specs.Rows.{enrolments_of}
-use Rattle.on_file.specs.Walked.{walked}
+use Rattle.office_answers.specs.Walked.{walked}
 
 abbrev pub walked_for : List Filing → Ask → ℕ
 walked_for past (File f) = walked past f.key.school (student_of f.what)
 walked_for past (Quote school student year term) = walked past school (Some student)
-walked_for past (Standing student year) = enrolments_of past student
+walked_for past (Standing student year) = 0

@@ -1,9 +1,10 @@
 //! What rows of the index tell.
 ghost use Rattle.std.specs.Prelude.{◌≡◌};
-ghost use Rattle.office_core.specs.Index.{place_or, position_or, school_or, school_year_or, student_or, year_or};
+ghost use Rattle.office_links.specs.Placed.{place_or};
+ghost use Rattle.office_core.specs.Index.{position_or, school_or, school_year_or, student_or, year_or};
 
 use aid_types::ByProgram;
-use on_file::{Account, PlaceRow, SchoolRow, SchoolYearRow, StudentRow, YearRow};
+use office_history::{Account, PlaceRow, SchoolRow, SchoolYearRow, StudentRow, YearRow};
 
 /// A school with the position of its newest term, 0 where it has none.
 #[derive(Clone, Copy, PartialEq, Eq, Debug)]

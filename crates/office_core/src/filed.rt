@@ -1,50 +1,63 @@
 //! Rows of the index after one filing more.
-ghost use Rattle.std.specs.Prelude.{◌≡◌, ◌+◌, ◌<◌, ◌≤◌, ◌∷◌, ℕ, List, Some, cond, length};
-ghost use Rattle.std.specs.List.{slice_get};
+ghost use Rattle.std.specs.Prelude.{◌≡◌, ◌+◌, ◌<◌, ◌≤◌, ◌∷◌, ℕ, List, Some, IfSome, cond, length};
 ghost use Rattle.std.specs.Ordering.{is_eq, nat_cmp};
-ghost use Rattle.sorted_rows.specs.Places.{AreStaying, value_at};
+ghost use Rattle.sorted_rows.specs.Places.{AreStaying, IsHere, IsWritten, value_at};
 ghost use Rattle.aid_filings.specs.declared.filing.Filing.{Filing as Filed};
 ghost use Rattle.office_history.specs.Past.{first_of_two, key_at};
-ghost use Rattle.on_file.specs.declared.rows.PlaceRow.{PlaceRow as Place};
-ghost use Rattle.office_core.specs.After.{IsSchoolAfter, IsStudentAfter, place_cmp};
+ghost use Rattle.office_history.specs.declared.rows.StudentRow.{StudentRow as OfStudent};
+ghost use Rattle.office_rows.specs.After.{IsSchoolAfter, IsStudentAfter};
+ghost use Rattle.office_rows.specs.Changed.{student_changed};
 ghost use Rattle.office_core.specs.Index.{AreBooks, AreKeys, AreSchools, AreStudents, position_or, school_or, student_or, written_or};
-ghost use Rattle.office_core.specs.declared.names.StudentPlace.{StudentPlace as Name};
 
-use crate::entries::{SchoolEntry, StudentEntry, position_told, school_told, student_told};
-use crate::names::{FilingName, StudentPlace};
+use crate::entries::{SchoolEntry, StudentEntry, position_told, school_told};
 use aid_filings::{Filing, What};
-use on_file::{PlaceRow, SchoolRow, StudentRow};
+use office_history::{FilingName, SchoolRow, StudentRow};
 use sorted_rows::{Slots, Table};
 
-/// Writes a row, where one is to be written.
-pub(crate) fn write<K: Ord + Copy, V: Copy>(rows: &mut Slots<K, V>, written: Option<(K, V)>)
-    requires room { 1 ≤ rows.old.room }
-    requires few { length rows.old.rows < 4294967295 }
-    ensures values { (name : K) → value_at K.cmp name rows.new.rows ≡ written_or K.cmp written name (value_at K.cmp name rows.old.rows) }
-    ensures room { rows.old.room ≤ rows.new.room + 1 }
-    ensures count { length rows.new.rows ≤ length rows.old.rows + 1 }
-{
-    if let Some((name, row)) = written {
-        rows.put(name, row);
-    }
-}
-
-/// Writes the row of a place, where one is to be written, and tells its slot; 0 where none is.
-pub(crate) fn write_place(
-    rows: &mut Slots<StudentPlace, PlaceRow>,
-    written: Option<(StudentPlace, PlaceRow)>,
+/// Writes a row, where one is to be written, and tells its slot; 0 where none is. `slot` is that of a row with its name, where
+/// there is one.
+pub(crate) fn write<K: Ord + Copy, V: Copy>(
+    rows: &mut Slots<K, V>,
+    slot: Option<u32>,
+    written: &Option<(K, V)>,
 ) -> u32
+    requires slot { (name : K) (row : V) → written.now ≡ Some (name, row) → IfSome slot (IsHere K.cmp name rows.old.rows) }
     requires room { 1 ≤ rows.old.room }
     requires few { length rows.old.rows < 4294967295 }
-    ensures values { (name : Name) → value_at place_cmp name rows.new.rows ≡ written_or place_cmp written name (value_at place_cmp name rows.old.rows) }
+    ensures values { (name : K) → value_at K.cmp name rows.new.rows ≡ written_or K.cmp written.now name (value_at K.cmp name rows.old.rows) }
     ensures stays { AreStaying rows.old.rows rows.new.rows }
-    ensures slot { (name : Name) (row : Place) → written ≡ Some (name, row) → (there : Place) × (slice_get rows.new.rows result ≡ Some (name, there)) }
+    ensures slot { (name : K) (row : V) → written.now ≡ Some (name, row) → IsHere K.cmp name rows.new.rows result }
     ensures room { rows.old.room ≤ rows.new.room + 1 }
     ensures count { length rows.new.rows ≤ length rows.old.rows + 1 }
 {
     match written {
-        Some((name, row)) => rows.put(name, row),
+        Some((name, row)) => put_at(rows, slot, *name, row),
         None => 0,
+    }
+}
+
+// Writes the row of a name, and tells its slot. `slot` is that of a row with this name, where there is one.
+fn put_at<K: Ord + Copy, V: Copy>(
+    rows: &mut Slots<K, V>,
+    slot: Option<u32>,
+    name: K,
+    row: &V,
+) -> u32
+    requires slot { IfSome slot (IsHere K.cmp name rows.old.rows) }
+    requires room { 1 ≤ rows.old.room }
+    requires few { length rows.old.rows < 4294967295 }
+    ensures values { IsWritten K.cmp name row.now rows.old.rows rows.new.rows }
+    ensures stays { AreStaying rows.old.rows rows.new.rows }
+    ensures slot { IsHere K.cmp name rows.new.rows result }
+    ensures room { rows.old.room ≤ rows.new.room + 1 }
+    ensures count { length rows.new.rows ≤ length rows.old.rows + 1 }
+{
+    match slot {
+        Some(slot) => {
+            rows.set(slot, *row);
+            slot
+        }
+        None => rows.put(name, *row),
     }
 }
 
@@ -133,13 +146,19 @@ fn write_newest_term(schools: &mut Slots<u32, SchoolEntry>, code: u32, newest: u
     schools.put(code, SchoolEntry { row, newest });
 }
 
-/// Writes a student's row where one is to be written, or the position of an enrolment as the student's newest.
+/// Writes a student's row where one is to be written, or the position of an enrolment as the student's newest. `slot` is that
+/// of the student's row, where there is one, and `before` what is told of the student.
 pub(crate) fn write_student(
     students: &mut Slots<u64, StudentEntry>,
+    slot: Option<u32>,
+    before: &StudentEntry,
     filing: &Filing,
     written: Option<(u64, StudentRow)>,
     position: u32,
 )
+    requires slot { (student : ℕ) → student_changed filing.now.what ≡ Some student → IfSome slot (IsHere nat_cmp student students.old.rows) }
+    requires before { (student : ℕ) → student_changed filing.now.what ≡ Some student → before.now ≡ student_or (value_at nat_cmp student students.old.rows) }
+    requires named { (student : ℕ) (row : OfStudent) → written ≡ Some (student, row) → student_changed filing.now.what ≡ Some student }
     requires room { 1 ≤ students.old.room }
     requires few { length students.old.rows < 4294967295 }
     ensures rows { (past : List Filed) → position ≡ length past + 1 → IsStudentAfter past filing.now written → AreStudents past students.old.rows → AreStudents (filing.now ∷ past) students.new.rows }
@@ -148,15 +167,23 @@ pub(crate) fn write_student(
 {
     match (&filing.what, written) {
         (What::Enrol(enrolment), _) => {
-            write_newest_enrolment(students, enrolment.student.0, position)
+            write_newest_enrolment(students, slot, before, enrolment.student.0, position)
         }
-        (_, Some((student, row))) => write_student_row(students, student, row),
+        (_, Some((student, row))) => write_student_row(students, slot, before, student, row),
         (_, None) => {}
     }
 }
 
 // Writes a student's row.
-fn write_student_row(students: &mut Slots<u64, StudentEntry>, student: u64, row: StudentRow)
+fn write_student_row(
+    students: &mut Slots<u64, StudentEntry>,
+    slot: Option<u32>,
+    before: &StudentEntry,
+    student: u64,
+    row: StudentRow,
+)
+    requires slot { IfSome slot (IsHere nat_cmp student students.old.rows) }
+    requires before { before.now ≡ student_or (value_at nat_cmp student students.old.rows) }
     requires room { 1 ≤ students.old.room }
     requires few { length students.old.rows < 4294967295 }
     ensures values { (other : ℕ) → student_or (value_at nat_cmp other students.new.rows)
@@ -164,12 +191,19 @@ fn write_student_row(students: &mut Slots<u64, StudentEntry>, student: u64, row:
     ensures room { students.old.room ≤ students.new.room + 1 }
     ensures count { length students.new.rows ≤ length students.old.rows + 1 }
 {
-    let newest = student_told(students.at(&student)).newest;
-    students.put(student, StudentEntry { row, newest });
+    put_at(students, slot, student, &StudentEntry { row, ..*before });
 }
 
 // Writes the position of a student's newest enrolment.
-fn write_newest_enrolment(students: &mut Slots<u64, StudentEntry>, student: u64, newest: u32)
+fn write_newest_enrolment(
+    students: &mut Slots<u64, StudentEntry>,
+    slot: Option<u32>,
+    before: &StudentEntry,
+    student: u64,
+    newest: u32,
+)
+    requires slot { IfSome slot (IsHere nat_cmp student students.old.rows) }
+    requires before { before.now ≡ student_or (value_at nat_cmp student students.old.rows) }
     requires room { 1 ≤ students.old.room }
     requires few { length students.old.rows < 4294967295 }
     ensures values { (other : ℕ) → student_or (value_at nat_cmp other students.new.rows)
@@ -177,6 +211,5 @@ fn write_newest_enrolment(students: &mut Slots<u64, StudentEntry>, student: u64,
     ensures room { students.old.room ≤ students.new.room + 1 }
     ensures count { length students.new.rows ≤ length students.old.rows + 1 }
 {
-    let row = student_told(students.at(&student)).row;
-    students.put(student, StudentEntry { row, newest });
+    put_at(students, slot, student, &StudentEntry { newest, ..*before });
 }

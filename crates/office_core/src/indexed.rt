@@ -7,26 +7,26 @@ ghost use Rattle.office_history.specs.Answer.{IsLegal, outcome_of};
 ghost use Rattle.office_history.specs.FactsOf.{school_at, term_at};
 ghost use Rattle.office_core.specs.Digits.{digits_of};
 ghost use Rattle.office_core.specs.Index.{book_filed, school_entry, student_entry};
-ghost use Rattle.office_core.specs.Links.{before_in};
+ghost use Rattle.office_links.specs.Links.{before_in};
 
-use crate::enrolments::{paid_beside, term_over};
+use crate::bases::outcome_after;
 use crate::entries::{
     SchoolEntry, StudentEntry, place_told, position_told, school_told, school_year_told,
     student_told, year_told,
 };
-use crate::filed::{write, write_book, write_key, write_place, write_school, write_student};
-use crate::links::{Link, link_of};
-use crate::names::{FilingName, StudentPlace, StudentSchoolYear, StudentYear};
-use crate::uncounted::{school_of, term_of};
-use crate::walks::{school_calendar, school_term};
+use crate::filed::{write, write_book, write_key, write_school, write_student};
+use crate::lookup::find;
 use crate::written::rows_after;
 use aid_books::Book;
 use aid_filings::{CalendarFacts, Filing, What};
 use aid_replies::Outcome;
 use aid_types::{Key, Refusal, School, Student, Term, Year};
-use on_file::{
-    CalendarRow, OnFile, PlaceRow, SchoolRow, SchoolYearRow, StudentRow, TermRow, YearRow,
+use office_history::{
+    CalendarRow, FilingName, OnFile, PlaceRow, SchoolRow, SchoolYearRow, StudentPlace, StudentRow,
+    StudentSchoolYear, StudentYear, TermRow, YearRow,
 };
+use office_links::{Link, link_of, paid_beside, school_calendar, school_term, term_over};
+use office_rows::{place_changed, school_year_changed, student_changed, term_of, year_changed};
 use sorted_rows::{Slots, Table};
 use std::alloc::{AllocError, Global};
 use std::marker::Model;
@@ -127,41 +127,59 @@ impl Indexed {
         self.filings.as_slice()
     }
 
-    /// Appends a filing that makes the history a legal one of one more, with the outcome of its admission. It takes no memory,
-    /// but one of the places of `reserve`.
-    pub fn admit(&mut self, filing: Filing, outcome: Outcome)
+    /// Appends a filing that makes the history a legal one of one more, and answers with what it is admitted. It takes no
+    /// memory, but one of the places of `reserve`. The rows of a student that it may change are each looked for once.
+    pub fn admit(&mut self, filing: Filing) -> Outcome
         requires legal { IsLegal (filing ∷ self.old.history) }
-        requires outcome { outcome ≡ outcome_of self.old.history filing }
         requires room { 1 ≤ self.old.spare }
         ensures history { self.new.history ≡ filing ∷ self.old.history }
+        ensures outcome { result ≡ outcome_of self.old.history filing }
         ensures spare { self.new.spare + 1 ≡ self.old.spare }
     {
         let position = self.front() + 1;
-        let before = self.newest_before(&filing);
+        let (place_slot, place) = find(&self.places, &place_changed(&filing));
+        let (year_slot, year) = find(&self.years, &year_changed(&filing));
+        let (cost_slot, cost) = find(&self.school_years, &school_year_changed(&filing));
+        let (student_slot, student) = find(&self.students, &student_changed(&filing));
+        let place = place_told(place);
+        let year = year_told(year);
+        let cost = school_year_told(cost);
+        let student = student_told(student);
+        let outcome = outcome_after(self, &filing, &place, &year, &student.row);
+        let before = self.newest_before(&filing, &student);
         let (school_at, term_at) = self.term_of(&filing);
-        let written = rows_after(self, &filing);
-        let slot = write_place(&mut self.places, written.place);
+        let written = rows_after(self, &filing, &outcome, &place, &year, &cost, &student.row);
+        let slot = write(&mut self.places, place_slot, &written.place);
         write_key(&mut self.keys, &filing, position);
         write_book(&mut self.books, &filing, position);
         write_school(&mut self.schools, &filing, written.school, position);
-        write_student(&mut self.students, &filing, written.student, position);
-        write(&mut self.years, written.year);
-        write(&mut self.school_years, written.school_year);
+        write_student(
+            &mut self.students,
+            student_slot,
+            &student,
+            &filing,
+            written.student,
+            position,
+        );
+        write(&mut self.years, year_slot, &written.year);
+        write(&mut self.school_years, cost_slot, &written.school_year);
         self.links
             .push_reserved(link_of(&filing, before, slot, school_at, term_at));
         self.filings.push_reserved(filing);
         self.outcomes.push_reserved(outcome);
         self.spare -= 1;
+        outcome
     }
 
     // The position of the term before a term that is filed, of the same school, or of the enrolment before an enrolment, of
-    // the same student; 0 where there is none.
-    fn newest_before(&self, filing: &Filing) -> u32
+    // the same student; 0 where there is none. `student` is the student of an enrolment.
+    fn newest_before(&self, filing: &Filing, student: &StudentEntry) -> u32
+        requires { (e : Enrolment) → filing.now.what ≡ Enrol e → student.now ≡ student_entry self.now.history e.student }
         ensures { result ≡ before_in self.now.history filing.now.key.school filing.now.what }
     {
         match &filing.what {
             What::Calendar(_) => school_told(self.schools.at(&filing.key.school.0)).newest,
-            What::Enrol(enrolment) => student_told(self.students.at(&enrolment.student.0)).newest,
+            What::Enrol(_) => student.newest,
             _ => 0,
         }
     }
@@ -173,10 +191,13 @@ impl Indexed {
     {
         match &filing.what {
             What::Enrol(enrolment) => {
-                let school = filing.key.school;
-                let row = school_of(self, school.0);
-                let term = term_of(self, school, enrolment.year, enrolment.term);
-                (row.at, term.at)
+                let (school, term) = term_of(
+                    self,
+                    filing.key.school,
+                    enrolment.year,
+                    enrolment.term,
+                );
+                (school.at, term.at)
             }
             _ => (0, 0),
         }

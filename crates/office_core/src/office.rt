@@ -17,18 +17,17 @@ ghost use Rattle.office_history.specs.FactsOf.{cell_at};
 ghost use Rattle.office_history.specs.Net.{net_at as net_of_cell};
 ghost use Rattle.office_history.specs.Past.{key_at};
 ghost use Rattle.office_history.specs.Within.{IsWithinEveryLimit};
-ghost use Rattle.on_file.specs.Rows.{filing_in};
+ghost use Rattle.office_history.specs.Rows.{filing_in};
 ghost use Rattle.office_core.specs.Register.{IsKeyUsedAt, IsPellPayment};
 ghost use Rattle.office_core.specs.WalkedFor.{walked_for};
 
 use crate::indexed::Indexed;
-use crate::uncounted::place_of;
 use aid_filings::Filing;
 use aid_replies::{Ask, Outcome, StandingRow, Verdict};
 use aid_types::{Program, School, Student, Year};
-use on_file::{
-    OnFile, answer, is_admitted, outcome_on, quote, quote_on, standing, standing_on, verdict_on,
-};
+use office_answers::{answer, is_admitted, quote, quote_on, standing, standing_on, verdict_on};
+use office_history::OnFile;
+use office_rows::place_of;
 use std::alloc::{AllocError, Global};
 use std::marker::Model;
 use std::sync::ledger::Ledger;
@@ -253,8 +252,6 @@ impl Office {
     {
         // The front tells that the history is legal.
         let _filings = self.indexed.front();
-        let outcome = outcome_on(&self.indexed, &filing);
-        self.indexed.admit(filing, outcome);
-        outcome
+        self.indexed.admit(filing)
     }
 }

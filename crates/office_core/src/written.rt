@@ -1,15 +1,18 @@
 //! The rows that a filing writes.
-ghost use Rattle.std.specs.Prelude.{◌∷◌};
-ghost use Rattle.office_history.specs.Answer.{IsLegal};
+ghost use Rattle.std.specs.Prelude.{◌≡◌, ◌∷◌};
+ghost use Rattle.office_history.specs.Answer.{IsLegal, outcome_of};
+ghost use Rattle.office_core.specs.Awarded.{awarded};
+ghost use Rattle.office_rows.specs.Changed.{IsPlaceBefore, IsSchoolYearBefore, IsStudentBefore, IsYearBefore};
 ghost use Rattle.office_core.specs.Index.{IsWrittenBy};
 
-use crate::after_places::place_after;
-use crate::after_schools::{school_after, school_year_after};
-use crate::after_years::{student_after, year_after};
-use crate::names::{StudentPlace, StudentSchoolYear, StudentYear};
 use crate::own_entry::own_entry;
 use aid_filings::Filing;
-use on_file::{OnFile, PlaceRow, SchoolRow, SchoolYearRow, StudentRow, YearRow};
+use aid_replies::Outcome;
+use office_history::{
+    OnFile, PlaceRow, SchoolRow, SchoolYearRow, StudentPlace, StudentRow, StudentSchoolYear,
+    StudentYear, YearRow,
+};
+use office_rows::{place_after, school_after, school_year_after, student_after, year_after};
 
 /// The one row of each table that a filing changes, where it changes one.
 #[derive(Drop)]
@@ -21,18 +24,41 @@ pub struct Written {
     pub school_year: Option<(StudentSchoolYear, SchoolYearRow)>,
 }
 
-/// The rows that a filing writes which comes legally after what is on file.
-pub(crate) fn rows_after<P: OnFile>(past: &P, filing: &Filing) -> Written
-    requires { IsLegal (filing.now ∷ P.history past.now) }
+/// The rows that a filing writes which comes legally after what is on file, from those that it may change and its outcome.
+pub(crate) fn rows_after<P: OnFile>(
+    past: &P,
+    filing: &Filing,
+    outcome: &Outcome,
+    place: &PlaceRow,
+    year: &YearRow,
+    school_year: &SchoolYearRow,
+    student: &StudentRow,
+) -> Written
+    requires legal { IsLegal (filing.now ∷ P.history past.now) }
+    requires outcome { outcome.now ≡ outcome_of (P.history past.now) filing.now }
+    requires place { IsPlaceBefore (P.history past.now) filing.now place.now }
+    requires year { IsYearBefore (P.history past.now) filing.now year.now }
+    requires school_year { IsSchoolYearBefore (P.history past.now) filing.now school_year.now }
+    requires student { IsStudentBefore (P.history past.now) filing.now student.now }
     ensures { IsWrittenBy (P.history past.now) filing.now result }
 {
-    let moved = own_entry(past, filing);
-    let year = year_after(past, filing, &moved);
+    let moved = own_entry(past, filing, place);
+    let year_written = year_after(past, filing, year, award_in(outcome), &moved);
     Written {
         school: school_after(past, filing),
-        student: student_after(past, filing, &year),
-        place: place_after(past, filing, &moved),
-        year,
-        school_year: school_year_after(past, filing, &moved),
+        student: student_after(past, filing, student, year, &year_written),
+        place: place_after(past, filing, place, &moved),
+        year: year_written,
+        school_year: school_year_after(past, filing, school_year, &moved),
+    }
+}
+
+// The Scheduled Award in dollars that an outcome tells, 0 where it tells none.
+fn award_in(outcome: &Outcome) -> u32
+    ensures { result ≡ awarded outcome.now }
+{
+    match outcome {
+        Outcome::Indexed { scheduled, .. } => *scheduled,
+        _ => 0,
     }
 }

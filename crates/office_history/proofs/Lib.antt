@@ -32,3 +32,10 @@ pub mod TermsOnFile
 pub mod FirstFilings
 pub mod CellSums
 pub mod Enrolled
+pub mod AccountSteps
+pub mod Bounds
+pub mod FiledTerms
+pub mod Greatest
+pub mod NoCredits
+pub mod Own
+pub mod Sixes

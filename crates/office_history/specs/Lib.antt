@@ -8,3 +8,8 @@ pub mod FactsOf
 pub mod Answer
 pub mod Within
 pub mod Least
+pub mod Accounts
+pub mod FiledTerms
+pub mod Names
+pub mod Own
+pub mod Rows

@@ -2,7 +2,7 @@ use Rattle.std.proofs.Common.{ap, subst}
 use Rattle.sorted_rows.specs.Places.{IsWritten}
 use Rattle.aid_filings.specs.declared.filing.Filing.{Filing}
 use Rattle.office_core.specs.Index.{filing_cmp, filing_name}
-use Rattle.office_core.specs.declared.names.FilingName.{FilingName}
+use Rattle.office_history.specs.declared.names.FilingName.{FilingName}
 use Rattle.office_core.proofs.RowsWritten.{keys_after}
 use Rattle.office_core.proofs.filed.write_key.Goals as goal
 

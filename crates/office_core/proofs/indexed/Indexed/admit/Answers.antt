@@ -2,15 +2,97 @@ use Rattle.std.proofs.Common.{◌≡◌, ℕ, ◌+◌, ◌≤◌, ◌∷◌, [],
 use Rattle.std.proofs.lemmas.List.{reverse-append}
 use Rattle.aid_filings.specs.declared.filing.Filing.{Filing}
 use Rattle.office_core.specs.Index.{IndexRows, IsIndexed}
-use Rattle.office_core.specs.Links.{AreLinked}
+use Rattle.office_links.specs.Links.{AreLinked}
 use Rattle.office_core.specs.Register.{Register}
-use Rattle.office_core.specs.declared.links.Link.{Link}
+use Rattle.office_links.specs.declared.links.Link.{Link}
 use Rattle.office_core.proofs.IndexGrown.{AreRows, HaveOneMore, few_left, index_grown, linkable, places_left, room_left}
-use Rattle.office_core.proofs.RowsWritten.{places_after, school_years_after, years_after}
+use Rattle.office_core.proofs.RowsWritten.{placed_there, places_after, school_years_after, years_after}
+use Rattle.office_core.proofs.RowsFound.{place_before, school_year_before, student_before, year_before}
+use Rattle.office_core.specs.Index.{AreSchoolYears, AreStudents, AreYears, student_or}
+use Rattle.office_core.specs.declared.entries.StudentEntry.{StudentEntry}
+use Rattle.office_links.specs.Placed.{ArePlaces}
+use Rattle.office_rows.specs.Changed.{student_changed}
 use Rattle.office_core.proofs.indexed.Indexed.admit.Goals as goal
 
-pub write_place-slot-requires-clause-few : goal.write_place-slot-requires-clause-few
-write_place-slot-requires-clause-few c = few_left c.self.inside.filings.items _ c.self.invariant.0.legal c.self.invariant.0.few_places
+pub outcome_after-outcome-requires-clause-place : goal.outcome_after-outcome-requires-clause-place
+outcome_after-outcome-requires-clause-place c =
+    let rows = c.self.inside.places.rows in
+    let are : ArePlaces c.args.self.now.history rows = subst (λ (r : Register). ArePlaces r.history rows) c.self.view_is c.self.invariant.0.places in
+    place_before c.args.self.now.history c.args.filing rows c.place_changed.result c.find-place_slot.result.1 c.place_told-place.result are
+    c.place_changed.ensures c.find-place_slot.ensures.row c.place_told-place.ensures
+
+pub outcome_after-outcome-requires-clause-year : goal.outcome_after-outcome-requires-clause-year
+outcome_after-outcome-requires-clause-year c =
+    let rows = c.self.inside.years.rows in
+    let are : AreYears c.args.self.now.history rows = subst (λ (r : Register). AreYears r.history rows) c.self.view_is c.self.invariant.0.years in
+    year_before c.args.self.now.history c.args.filing rows c.year_changed.result c.find-year_slot.result.1 c.year_told-year.result are
+    c.year_changed.ensures c.find-year_slot.ensures.row c.year_told-year.ensures
+
+pub outcome_after-outcome-requires-clause-student : goal.outcome_after-outcome-requires-clause-student
+outcome_after-outcome-requires-clause-student c = λ student changed.
+    let rows = c.self.inside.students.rows in
+    let are : AreStudents c.args.self.now.history rows = subst (λ (r : Register). AreStudents r.history rows) c.self.view_is c.self.invariant.0.students in
+    ap (λ (entry : StudentEntry). entry.row)
+    (student_before c.args.self.now.history c.args.filing rows c.student_changed.result c.find-student_slot.result.1 c.student_told-student.result are
+    c.student_changed.ensures c.find-student_slot.ensures.row c.student_told-student.ensures student changed)
+
+pub rows_after-written-requires-clause-place : goal.rows_after-written-requires-clause-place
+rows_after-written-requires-clause-place c =
+    let rows = c.self.inside.places.rows in
+    let are : ArePlaces c.args.self.now.history rows = subst (λ (r : Register). ArePlaces r.history rows) c.self.view_is c.self.invariant.0.places in
+    place_before c.args.self.now.history c.args.filing rows c.place_changed.result c.find-place_slot.result.1 c.place_told-place.result are
+    c.place_changed.ensures c.find-place_slot.ensures.row c.place_told-place.ensures
+
+pub rows_after-written-requires-clause-year : goal.rows_after-written-requires-clause-year
+rows_after-written-requires-clause-year c =
+    let rows = c.self.inside.years.rows in
+    let are : AreYears c.args.self.now.history rows = subst (λ (r : Register). AreYears r.history rows) c.self.view_is c.self.invariant.0.years in
+    year_before c.args.self.now.history c.args.filing rows c.year_changed.result c.find-year_slot.result.1 c.year_told-year.result are
+    c.year_changed.ensures c.find-year_slot.ensures.row c.year_told-year.ensures
+
+pub rows_after-written-requires-clause-school_year : goal.rows_after-written-requires-clause-school_year
+rows_after-written-requires-clause-school_year c =
+    let rows = c.self.inside.school_years.rows in
+    let are : AreSchoolYears c.args.self.now.history rows = subst (λ (r : Register). AreSchoolYears r.history rows) c.self.view_is c.self.invariant.0.school_years in
+    school_year_before c.args.self.now.history c.args.filing rows c.school_year_changed.result c.find-cost_slot.result.1 c.school_year_told-cost.result are
+    c.school_year_changed.ensures c.find-cost_slot.ensures.row c.school_year_told-cost.ensures
+
+pub rows_after-written-requires-clause-student : goal.rows_after-written-requires-clause-student
+rows_after-written-requires-clause-student c = λ student changed.
+    let rows = c.self.inside.students.rows in
+    let are : AreStudents c.args.self.now.history rows = subst (λ (r : Register). AreStudents r.history rows) c.self.view_is c.self.invariant.0.students in
+    ap (λ (entry : StudentEntry). entry.row)
+    (student_before c.args.self.now.history c.args.filing rows c.student_changed.result c.find-student_slot.result.1 c.student_told-student.result are
+    c.student_changed.ensures c.find-student_slot.ensures.row c.student_told-student.ensures student changed)
+
+pub newest_before-before-requires : goal.newest_before-before-requires
+newest_before-before-requires c = λ e is.
+    let rows = c.self.inside.students.rows in
+    let are : AreStudents c.args.self.now.history rows = subst (λ (r : Register). AreStudents r.history rows) c.self.view_is c.self.invariant.0.students in
+    student_before c.args.self.now.history c.args.filing rows c.student_changed.result c.find-student_slot.result.1 c.student_told-student.result are
+    c.student_changed.ensures c.find-student_slot.ensures.row c.student_told-student.ensures e.student (ap student_changed is)
+
+pub write-slot-requires-clause-slot : goal.write-slot-requires-clause-slot
+write-slot-requires-clause-slot c = λ name row is.
+    c.find-place_slot.ensures.slot name (c.place_changed.ensures ∙ c.rows_after-written.ensures.place_named name row is)
+
+pub write-requires-clause-slot : goal.write-requires-clause-slot
+write-requires-clause-slot c = λ name row is.
+    c.find-year_slot.ensures.slot name (c.year_changed.ensures ∙ c.rows_after-written.ensures.year_named name row is)
+
+pub write-requires-2-clause-slot : goal.write-requires-2-clause-slot
+write-requires-2-clause-slot c = λ name row is.
+    c.find-cost_slot.ensures.slot name (c.school_year_changed.ensures ∙ c.rows_after-written.ensures.school_year_named name row is)
+
+pub write_student-requires-clause-slot : goal.write_student-requires-clause-slot
+write_student-requires-clause-slot c = λ student changed. c.find-student_slot.ensures.slot student (c.student_changed.ensures ∙ changed)
+
+pub write_student-requires-clause-before : goal.write_student-requires-clause-before
+write_student-requires-clause-before c = λ student changed.
+    c.student_told-student.ensures ∙ ap student_or (c.find-student_slot.ensures.row student (c.student_changed.ensures ∙ changed))
+
+pub write-slot-requires-clause-few : goal.write-slot-requires-clause-few
+write-slot-requires-clause-few c = few_left c.self.inside.filings.items _ c.self.invariant.0.legal c.self.invariant.0.few_places
 
 pub write_school-requires-clause-few : goal.write_school-requires-clause-few
 write_school-requires-clause-few c = few_left c.self.inside.filings.items _ c.self.invariant.0.legal c.self.invariant.0.few_schools
@@ -46,7 +128,7 @@ invariant_of-self c =
       books = c.write_book.new.books.rows;
       schools = c.write_school.new.schools.rows;
       students = c.write_student.new.students.rows;
-      places = c.write_place-slot.new.rows.rows;
+      places = c.write-slot.new.rows.rows;
       years = c.write.new.rows.rows;
       school_years = c.write-2.new.rows.rows;
       links = c.push_reserved.new.self.items;
@@ -60,13 +142,14 @@ invariant_of-self c =
       books = c.write_book.ensures.rows past here before.books;
       schools = c.write_school.ensures.rows past here written.school before.schools;
       students = c.write_student.ensures.rows past here written.student before.students;
-      places = places_after past f w.place old.places new.places c.write_place-slot.ensures.values before.places written.place;
+      places = places_after past f w.place old.places new.places c.write-slot.ensures.values before.places written.place;
       years = years_after past f w.year old.years new.years c.write.ensures.values before.years written.year;
       school_years = school_years_after past f w.school_year old.school_years new.school_years c.write-2.ensures.values before.school_years written.school_year;
       links = subst (λ (l : List Link). AreLinked (f ∷ past) new.places l) (sym c.push_reserved.ensures.items)
           (c.link_of.ensures past old.places new.places old.links
-          (linkable past f w old.places new.places c.newest_before-before.result c.write_place-slot.result c.term_of-school_at.result.0 c.term_of-school_at.result.1
-          c.requires.legal written c.write_place-slot.ensures.stays c.write_place-slot.ensures.slot c.newest_before-before.ensures c.term_of-school_at.ensures)
+          (linkable past f w old.places new.places c.newest_before-before.result c.write-slot.result c.term_of-school_at.result.0 c.term_of-school_at.result.1
+          c.requires.legal written c.write-slot.ensures.stays
+          (λ name row is. placed_there name new.places c.write-slot.result (c.write-slot.ensures.slot name row is)) c.newest_before-before.ensures c.term_of-school_at.ensures)
           before.links);
     } in
     let more : HaveOneMore old new = record {
@@ -74,15 +157,15 @@ invariant_of-self c =
       books = c.write_book.ensures.count;
       schools = c.write_school.ensures.count;
       students = c.write_student.ensures.count;
-      places = c.write_place-slot.ensures.count;
+      places = c.write-slot.ensures.count;
       years = c.write.ensures.count;
       school_years = c.write-2.ensures.count;
     } in
     let grown : reverse c.push_reserved-2.new.self.items ≡ f ∷ past =
     ap (λ (l : List Filing). reverse l) c.push_reserved-2.ensures.items ∙ reverse-append filings (f ∷ []) ∙ ap (λ (l : List Filing). f ∷ l) view in
     let some : 1 ≤ c.self.inside.spare = subst (λ (n : ℕ). 1 ≤ n) (sym (ap (λ (r : Register). r.spare) c.self.view_is)) c.requires.room in (
-      index_grown past (reverse c.push_reserved-2.new.self.items) f c.self.inside.outcomes.items c.push_reserved-3.new.self.items c.args.outcome old new grown
-          c.push_reserved-3.ensures.items c.requires.legal c.requires.outcome before rows more,
+      index_grown past (reverse c.push_reserved-2.new.self.items) f c.self.inside.outcomes.items c.push_reserved-3.new.self.items c.outcome_after-outcome.result old new grown
+          c.push_reserved-3.ensures.items c.requires.legal c.outcome_after-outcome.ensures before rows more,
       places_left c.self.inside.spare _ _ _ _ some c.self.invariant.1 c.push_reserved-2.ensures.len c.push_reserved-2.ensures.capacity,
       places_left c.self.inside.spare _ _ _ _ some c.self.invariant.2 c.push_reserved-3.ensures.len c.push_reserved-3.ensures.capacity,
       places_left c.self.inside.spare _ _ _ _ some c.self.invariant.3 c.push_reserved.ensures.len c.push_reserved.ensures.capacity,
@@ -90,7 +173,7 @@ invariant_of-self c =
       room_left c.self.inside.spare _ _ c.self.invariant.5 c.write_book.ensures.room,
       room_left c.self.inside.spare _ _ c.self.invariant.6 c.write_school.ensures.room,
       room_left c.self.inside.spare _ _ c.self.invariant.7 c.write_student.ensures.room,
-      room_left c.self.inside.spare _ _ c.self.invariant.8 c.write_place-slot.ensures.room,
+      room_left c.self.inside.spare _ _ c.self.invariant.8 c.write-slot.ensures.room,
       room_left c.self.inside.spare _ _ c.self.invariant.9 c.write.ensures.room,
       room_left c.self.inside.spare _ _ c.self.invariant.10 c.write-2.ensures.room,
     )

@@ -1,5 +1,5 @@
 use Rattle.std.proofs.Common.{arith}
-use Rattle.on_file.proofs.Bounds.{short}
+use Rattle.office_history.proofs.Bounds.{short}
 use Rattle.office_core.proofs.indexed.IndexedOnFile.front.Goals as goal
 
 pub overflow_cast-result : goal.overflow_cast-result

@@ -1,4 +1,4 @@
-use Rattle.std.proofs.Common.{◌≡◌, ◌+◌, ◌-◌, ◌<◌, List, reverse, length, get_or, ap, ◌∙◌, arith}
+use Rattle.std.proofs.Common.{◌≡◌, ◌+◌, ◌-◌, ◌<◌, List, length, get_or, ap, ◌∙◌, arith}
 use Rattle.aid_replies.specs.declared.reply.Outcome.{Outcome}
 use Rattle.aid_replies.specs.declared.reply.Outcome.TheVariants.{Noted}
 use Rattle.office_history.specs.Answer.{outcome_at}

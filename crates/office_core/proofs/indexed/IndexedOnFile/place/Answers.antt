@@ -2,8 +2,8 @@ use Rattle.std.proofs.Common.{length, ap, ◌∙◌}
 use Rattle.office_core.specs.Digits.{digits_of}
 use Rattle.office_core.specs.Register.{Register}
 use Rattle.office_core.proofs.Digits.{few_looks}
-use Rattle.on_file.specs.Rows.{place_row}
-use Rattle.office_core.specs.Index.{place_or}
+use Rattle.office_history.specs.Rows.{place_row}
+use Rattle.office_links.specs.Placed.{place_or}
 use Rattle.office_core.proofs.indexed.IndexedOnFile.place.Goals as goal
 
 pub returns-clause-cost : goal.returns-clause-cost

@@ -2,7 +2,7 @@ use Rattle.std.proofs.Common.{length, ap, ◌∙◌}
 use Rattle.office_core.specs.Digits.{digits_of}
 use Rattle.office_core.specs.Register.{Register}
 use Rattle.office_core.proofs.Digits.{few_looks}
-use Rattle.on_file.specs.Rows.{year_row}
+use Rattle.office_history.specs.Rows.{year_row}
 use Rattle.office_core.specs.Index.{year_or}
 use Rattle.office_core.proofs.indexed.IndexedOnFile.year.Goals as goal
 

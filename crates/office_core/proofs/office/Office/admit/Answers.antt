@@ -6,12 +6,6 @@ use Rattle.office_history.proofs.Admitted.{admitted_is, admitted_legal}
 use Rattle.office_core.specs.Register.{Register}
 use Rattle.office_core.proofs.office.Office.admit.Goals as goal
 
-pub outcome_on-outcome-requires : goal.outcome_on-outcome-requires
-outcome_on-outcome-requires c =
-    let view : c.self.inside.indexed.history ≡ c.args.self.now.history = ap (λ (r : Register). r.history) c.self.view_is in
-    admitted_legal c.self.inside.indexed.history c.args.filing c.front-filings.ensures.legal
-    (subst (λ (h : List Filing). is_admit (answer_of h c.args.filing) ≡ true) (sym view) c.requires.admitted)
-
 pub admit-requires-clause-legal : goal.admit-requires-clause-legal
 admit-requires-clause-legal c =
     let view : c.self.inside.indexed.history ≡ c.args.self.now.history = ap (λ (r : Register). r.history) c.self.view_is in
@@ -23,4 +17,4 @@ returns-clause-outcome c =
     let past = c.args.self.now.history in
     let view : c.self.inside.indexed.history ≡ past = ap (λ (r : Register). r.history) c.self.view_is in
     admitted_is past c.args.filing c.requires.admitted
-    ∙ ap (λ o. Admit o) (sym (c.outcome_on-outcome.ensures ∙ ap (λ (h : List Filing). outcome_of h c.args.filing) view))
+    ∙ ap (λ o. Admit o) (sym (c.admit.ensures.outcome ∙ ap (λ (h : List Filing). outcome_of h c.args.filing) view))

@@ -1,5 +1,5 @@
 use Rattle.std.proofs.Common.{ap, ◌∙◌}
-use Rattle.on_file.specs.Rows.{filing_in}
+use Rattle.office_history.specs.Rows.{filing_in}
 use Rattle.office_core.specs.Register.{Register}
 use Rattle.office_core.proofs.AtPosition.{stands_within}
 use Rattle.office_core.proofs.office.Office.filing.Goals as goal

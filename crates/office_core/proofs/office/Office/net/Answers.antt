@@ -5,7 +5,7 @@ use Rattle.office_history.specs.Answer.{IsLegal}
 use Rattle.office_history.specs.FactsOf.{cell_at}
 use Rattle.office_history.specs.Net.{net_at}
 use Rattle.office_history.proofs.Ranges.{net_is_small}
-use Rattle.on_file.specs.Rows.{place_row}
+use Rattle.office_history.specs.Rows.{place_row}
 use Rattle.office_core.specs.Register.{Register}
 use Rattle.office_core.proofs.NetTold.{net_told}
 use Rattle.office_core.proofs.office.Office.net.Goals as goal

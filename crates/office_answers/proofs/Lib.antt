@@ -1,0 +1,6 @@
+pub mod Brought
+pub mod Entries
+pub mod Judged
+pub mod Owed
+pub mod Ranges
+pub mod TermDays

@@ -1,0 +1,17 @@
+//! What is answered on what is on file, whatever keeps it: the facts of a filing, its verdict and its outcome, quotes, and
+//! where a student stands.
+#![tactic(auto)]
+
+mod entry;
+mod gathered;
+mod sheets;
+mod standings;
+mod uncounted;
+mod verdicts;
+
+pub use entry::{adjusted, entry_of, paid, repaid, returned};
+pub use gathered::{Basis, Gathered, gather, payment_facts};
+pub use sheets::sheet;
+pub use standings::{quote, standing};
+pub use uncounted::{is_admitted, quote_on, standing_on, verdict_on};
+pub use verdicts::{admits, answer, outcome};

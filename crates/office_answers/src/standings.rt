@@ -1,0 +1,86 @@
+//! Quotes, and where a student stands, over whatever keeps what is on file.
+ghost use Rattle.std.specs.Prelude.{◌≡◌, ℕ, ◌+◌, ◌*◌, ◌<◌, ◌≤◌, Some, None};
+ghost use Rattle.filing_rules.specs.Rules.{first_broken, payment_lines};
+ghost use Rattle.office_history.specs.FactsOf.{payment_facts as payment_facts_of};
+ghost use Rattle.office_history.specs.Answer.{quote_of, standing_of, standing_under};
+ghost use Rattle.office_answers.specs.Walked.{walked};
+
+use crate::gathered::payment_facts;
+use aid_books::Book;
+use aid_replies::StandingRow;
+use aid_types::{Application, Formula, Program, School, Student, Way, Year};
+use office_history::{OnFile, decision};
+use sai_index::formula_of;
+use std::sync::ledger::Ledger;
+use steps::Steps;
+
+/// The greatest Pell payment in cents, of whole dollars, that the school could file for the student's term under a new
+/// key; 0 where there is none.
+pub fn quote<P: OnFile, L: Ledger>(
+    past: &P,
+    school: School,
+    student: Student,
+    year: Year,
+    term: u8,
+    steps: &mut Steps<L>,
+) -> u64
+    ensures value { result ≡ quote_of (P.history past.now) school student year term }
+    // Each smaller payment of whole dollars breaks no rule either.
+    ensures below { (dollars : ℕ) → 0 < dollars → 100 * dollars ≤ result
+        → first_broken (payment_lines (payment_facts_of (P.history past.now) school student year term 3) school student year term 3 (100 * dollars)) ≡ None }
+    ensures at_most { result ≤ 99999900 }
+    ensures cost { steps.new ≤ steps.old + 5 * P.looks past.now + 4 * walked (P.history past.now) school (Some student) }
+{
+    let facts = payment_facts(past, school, student, year, term, Program::Pell, steps);
+    pell_quote::quote(&facts, school, student, year, term)
+}
+
+/// Where a student stands in a year: the application in force with its award, the year's net Pell at all schools and the
+/// lifetime units used.
+pub fn standing<P: OnFile, L: Ledger>(
+    past: &P,
+    student: Student,
+    year: Year,
+    steps: &mut Steps<L>,
+) -> StandingRow
+    ensures value { result ≡ standing_of (P.history past.now) student year }
+    ensures cost { steps.new ≤ steps.old + 3 * P.looks past.now }
+{
+    let book = past.book(year, steps);
+    let of_year = past.year(student, year, steps);
+    let paid = of_year.nets.at(Program::Pell);
+    let used = past.student(student, steps).used;
+    match (book, &of_year.application) {
+        (Some(book), Some(application)) => with_award(book, application, paid, used),
+        _ => without_award(paid, used),
+    }
+}
+
+fn with_award(book: &Book, application: &Application, paid: u64, used: u32) -> StandingRow
+    ensures { result ≡ standing_under (Some book.now) (Some application.now) paid used }
+{
+    let decision = decision(book, application);
+    StandingRow {
+        transaction: u32::from(application.transaction),
+        formula: formula_of(book, application),
+        sai: decision.sai,
+        way: decision.way,
+        scheduled: decision.scheduled,
+        paid,
+        used,
+    }
+}
+
+fn without_award(paid: u64, used: u32) -> StandingRow
+    ensures { result ≡ standing_under None None paid used }
+{
+    StandingRow {
+        transaction: 0,
+        formula: Formula::A,
+        sai: 0,
+        way: Way::Nothing,
+        scheduled: 0,
+        paid,
+        used,
+    }
+}

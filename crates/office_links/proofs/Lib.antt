@@ -1,0 +1,8 @@
+mod EnrolmentsLeast
+mod EnrolmentsRows
+mod EnrolmentsTerms
+mod EnrolmentsWalk
+mod LinksChain
+mod LinksFound
+mod LinksMore
+mod LinksTerms

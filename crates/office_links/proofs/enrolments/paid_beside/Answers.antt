@@ -1,0 +1,60 @@
+use Rattle.std.proofs.Common.{◌∙◌, sym, ap, arith, reverse, Option}
+use Rattle.aid_types.specs.declared.term.Term.{Term}
+use Rattle.office_history.specs.FactsOf.{is_paid_beside, least_code}
+use Rattle.office_history.specs.Past.{terms_on_file}
+use Rattle.office_links.proofs.EnrolmentsTerms.{none_beside}
+use Rattle.office_links.proofs.EnrolmentsWalk.{beside_end, beside_looks, beside_step, enrolled_here, enrolment_here, step}
+use Rattle.office_links.proofs.enrolments.paid_beside.Goals as goal
+
+-- beside no term nothing is paid
+pub returns-in_default-clause-value : goal.returns-in_default-clause-value
+returns-in_default-clause-value g c =
+    let past = reverse c.args.filings.now in
+    sym (ap (λ (o : Option Term). least_code (is_paid_beside past c.args.school c.args.student o) (terms_on_file past)) c.in_default.is
+    ∙ none_beside past c.args.school c.args.student (terms_on_file past))
+
+pub bounds-filings-index : goal.bounds-filings-index
+bounds-filings-index g c =
+    (step c.args.filings.now c.args.links.now c.args.places.now.rows c.args.student c.loop-at.invariant.older c.loop-at.at c.requires.legal c.requires.linked
+    c.loop-at.invariant.along c.loop-at-test.true).inside
+
+pub bounds-links-index : goal.bounds-links-index
+bounds-links-index g c =
+    (step c.args.filings.now c.args.links.now c.args.places.now.rows c.args.student c.loop-at.invariant.older c.loop-at.at c.requires.legal c.requires.linked
+    c.loop-at.invariant.along c.loop-at-test.true).inside_links
+
+pub bounds-links-index-in-loop-at : goal.bounds-links-index-in-loop-at
+bounds-links-index-in-loop-at g c =
+    (step c.args.filings.now c.args.links.now c.args.places.now.rows c.args.student c.loop-at.invariant.older c.loop-at.at c.requires.legal c.requires.linked
+    c.loop-at.invariant.along c.loop-at-test.true).inside_links
+
+pub with_beside-least-requires-clause-enrolment : goal.with_beside-least-requires-clause-enrolment
+with_beside-least-requires-clause-enrolment g c =
+    enrolment_here c.args.filings.now c.args.links.now c.args.places.now.rows c.args.student c.loop-at.invariant.older c.loop-at.at c.requires.legal c.requires.linked
+    c.loop-at.invariant.along c.loop-at-test.true c.index-filings-index.result c.index-filings-index.is _
+
+pub loop-at-smaller : goal.loop-at-smaller
+loop-at-smaller g c =
+    (step c.args.filings.now c.args.links.now c.args.places.now.rows c.args.student c.loop-at.invariant.older c.loop-at.at c.requires.legal c.requires.linked
+    c.loop-at.invariant.along c.loop-at-test.true).lower _
+
+pub loop-at-preserved : goal.loop-at-preserved
+loop-at-preserved g c =
+    let h = c.args.filings.now in
+    let own =
+    enrolled_here h c.args.links.now c.args.places.now.rows c.args.student c.loop-at.invariant.older c.loop-at.at c.requires.legal c.requires.linked
+    c.loop-at.invariant.along c.loop-at-test.true c.index-filings-index.result c.index-filings-index.is in
+    beside_step h c.args.links.now c.args.places.now.rows c.args.school c.args.student c.in-Some.term c.loop-at.at c.loop-at.least c.loop-at.steps _
+    c.requires.legal c.requires.linked c.loop-at.invariant c.loop-at-test.true c.index-filings-index.result c.index-filings-index.is _
+    c.with_beside-least.result c.with_beside-least.new.steps (c.with_beside-least.ensures.value c.args.student own)
+    (omega (arith, c.tick.ensures, c.tick-in-loop-at.ensures, c.with_beside-least.ensures.cost)) (omega (arith, c.tick.ensures, c.tick-in-loop-at.ensures, c.with_beside-least.ensures.later))
+
+pub returns-clause-value : goal.returns-clause-value
+returns-clause-value g c =
+    let past = reverse c.args.filings.now in
+    beside_end past c.args.school c.args.student c.in-Some.term c.loop-at.at c.loop-at.least c.loop-at.steps _ c.requires.legal c.loop-at.invariant (omega (arith, c.loop-at-test.false))
+    ∙ ap (λ (o : Option Term). least_code (is_paid_beside past c.args.school c.args.student o) (terms_on_file past)) (sym c.in-Some.is)
+
+pub returns-clause-counted : goal.returns-clause-counted
+returns-clause-counted g c = λ term is.
+    beside_looks (reverse c.args.filings.now) c.args.school c.args.student c.in-Some.term c.loop-at.at c.loop-at.least c.loop-at.steps _ c.loop-at.invariant (omega (arith, c.loop-at-test.false))

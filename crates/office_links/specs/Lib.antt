@@ -1,0 +1,4 @@
+pub mod Enrolments
+pub mod Links
+pub mod Placed
+pub mod Walks

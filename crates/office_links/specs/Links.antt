@@ -1,0 +1,70 @@
+-- Links: each term of a school, and each enrolment of a student, tells where the one before it stands.
+use Rattle.std.specs.Prelude.{◌≡◌, ℕ, ◌+◌, ◌==◌, Bool, true, false, List, [], ◌∷◌, ◌++◌, length, map, reverse, Some, if◌then◌else◌}
+use Rattle.std.specs.List.{slice_get}
+use Rattle.aid_filings.specs.declared.filing.CalendarFacts.{CalendarFacts}
+use Rattle.aid_filings.specs.declared.filing.EnrolFacts.{EnrolFacts}
+use Rattle.aid_filings.specs.declared.filing.Filing.{Filing}
+use Rattle.aid_filings.specs.declared.filing.What.{What}
+use Rattle.aid_filings.specs.declared.filing.What.TheVariants.{Calendar, Enrol}
+use Rattle.office_history.specs.Answer.{IsLegal}
+use Rattle.office_history.specs.FactsOf.{school_at, term_at}
+use Rattle.office_history.specs.Rows.{is_enrolment}
+use Rattle.office_history.specs.declared.rows.PlaceRow.{PlaceRow}
+use Rattle.office_links.specs.declared.links.Link.{Link}
+use Rattle.office_history.specs.declared.names.StudentPlace.{StudentPlace}
+use Rattle.office_history.specs.Names.{place_name}
+
+-- what is filed is a term
+abbrev pub is_calendar : What → Bool
+is_calendar (Calendar c) = true
+is_calendar _ = false
+
+-- a term of a school, and an enrolment of a student
+abbrev pub is_term_of : ℕ → Filing → Bool
+is_term_of school f = if f.key.school == school then is_calendar f.what else false
+
+abbrev pub is_enrolled : ℕ → Filing → Bool
+is_enrolled student f = is_enrolment student f.what
+
+-- the position of the newest filing that passes, 0 where there is none
+abbrev pub last_at : (Filing → Bool) → List Filing → ℕ
+last_at p [] = 0
+last_at p (f ∷ past) = if p f then length past + 1 else last_at p past
+
+-- where the one before a filing stands: the term before it of the same school, the enrolment before it of the same student
+abbrev pub before_in : List Filing → ℕ → What → ℕ
+before_in past school (Calendar c) = last_at (is_term_of school) past
+before_in past school (Enrol e) = last_at (is_enrolled e.student) past
+before_in past school _ = 0
+
+-- the same of each filing, the oldest first
+abbrev pub befores_of : List Filing → List ℕ
+befores_of [] = []
+befores_of (f ∷ past) = befores_of past ++ before_in past f.key.school f.what ∷ []
+
+-- an enrolment's link tells the slot of its place, and the positions of its school and of its term
+pub record IsPlaced (past : List Filing) (rows : List (StudentPlace × PlaceRow)) (f : Filing) (e : EnrolFacts) (l : Link) : Type 0 where
+  pub row : PlaceRow
+  pub slot : slice_get rows l.slot ≡ Some (place_name f.key.school e, row)
+  pub school : l.school_at ≡ school_at past f.key.school
+  pub term : l.term_at ≡ term_at past f.key.school e.year e.term
+
+-- the links of a history's filings, the oldest first
+pub record AreLinked (past : List Filing) (rows : List (StudentPlace × PlaceRow)) (links : List Link) : Type 0 where
+  pub befores : map (λ l. l.before) links ≡ befores_of past
+  pub places : (i : ℕ) (f : Filing) (e : EnrolFacts) (l : Link) → slice_get (reverse past) i ≡ Some f → f.what ≡ Enrol e →
+      slice_get links i ≡ Some l → IsPlaced past rows f e l
+
+-- the link of a filing, where the newest before it, its place's slot, and its school's and its term's positions are these
+abbrev pub link_told : What → ℕ → ℕ → ℕ → ℕ → Link
+link_told (Calendar c) newest slot school term = record { before = newest; slot = 0; school_at = 0; term_at = 0 }
+link_told (Enrol e) newest slot school term = record { before = newest; slot = slot; school_at = school; term_at = term }
+link_told _ newest slot school term = record { before = 0; slot = 0; school_at = 0; term_at = 0 }
+
+-- what is told of a filing that comes legally after others is true of it, and each row has stayed at its slot
+pub record IsLinkable (past : List Filing) (old new : List (StudentPlace × PlaceRow)) (f : Filing) (newest slot school term : ℕ) : Type 0 where
+  pub legal : IsLegal (f ∷ past)
+  pub stays : (i : ℕ) (row : StudentPlace × PlaceRow) → slice_get old i ≡ Some row → (v : PlaceRow) × (slice_get new i ≡ Some (row.0, v))
+  pub term_before : (c : CalendarFacts) → f.what ≡ Calendar c → newest ≡ last_at (is_term_of f.key.school) past
+  pub enrolment_before : (e : EnrolFacts) → f.what ≡ Enrol e → newest ≡ last_at (is_enrolled e.student) past
+  pub placed : (e : EnrolFacts) → f.what ≡ Enrol e → IsPlaced past new f e (record { before = newest; slot = slot; school_at = school; term_at = term })

@@ -1,0 +1,286 @@
+//! Walks along the links of a student's enrolments, from the newest to the oldest. A step is a look at a link, at the filing
+//! that it belongs to, at the row of a place, or at the filing of a school or a term.
+ghost use Rattle.std.specs.Prelude.{◌≡◌, ◌+◌, ◌-◌, ◌*◌, ◌≤◌, ◌<◌, ℕ, true, Some, length, reverse, slice_index};
+ghost use Rattle.aid_types.specs.declared.term.Term.{Term as TermData};
+ghost use Rattle.enrolment.specs.Terms.{intensity_of, payment_of};
+ghost use Rattle.office_history.specs.Answer.{IsLegal};
+ghost use Rattle.office_history.specs.FactsOf.{full_of, is_paid_beside as is_paid_beside_of, least_code, lesser_code, terms_of, term_over as term_over_of};
+ghost use Rattle.office_history.specs.Past.{terms_on_file};
+ghost use Rattle.office_history.specs.Rows.{enrolments_of};
+ghost use Rattle.office_links.specs.Enrolments.{IsEnrolment, earlier_over, is_beside, over_of, refusal_of, school_told, term_told};
+ghost use Rattle.office_links.specs.Placed.{ArePlaces};
+ghost use Rattle.office_links.specs.Links.{AreLinked, is_enrolled, last_at};
+
+use crate::links::Link;
+use aid_filings::{Filing, What};
+use aid_types::{Program, Refusal, School, Student, Term, Year};
+use enrolment::{intensity, period_pay, shares_day};
+use office_history::{Account, PlaceRow, StudentPlace};
+use sorted_rows::Slots;
+use std::sync::ledger::Ledger;
+use steps::Steps;
+
+/// A term that holds more net Pell in cents than an award gives it: the code of its school, its number, its net Pell and its
+/// payment.
+#[derive(Clone, Copy, PartialEq, Eq, Debug)]
+pub struct Over {
+    pub school: u32,
+    pub term: u8,
+    pub kept: u64,
+    pub bound: u64,
+}
+
+/// The least code of another school that has a term which shares a day with this one and holds net Pell of the student; 0
+/// where there is none. `newest` is the position of the student's newest enrolment.
+pub fn paid_beside<L: Ledger>(
+    filings: &[Filing],
+    links: &[Link],
+    places: &Slots<StudentPlace, PlaceRow>,
+    newest: u32,
+    student: Student,
+    school: School,
+    this: &Option<Term>,
+    steps: &mut Steps<L>,
+) -> u32
+    requires legal { IsLegal (reverse filings.now) }
+    requires linked { AreLinked (reverse filings.now) places.now.rows links.now }
+    requires newest { newest ≡ last_at (is_enrolled student) (reverse filings.now) }
+    requires rows { ArePlaces (reverse filings.now) places.now.rows }
+    ensures value { result ≡ least_code (is_paid_beside_of (reverse filings.now) school student this.now) (terms_on_file (reverse filings.now)) }
+    ensures cost { steps.new ≤ steps.old + 4 * enrolments_of (reverse filings.now) student }
+    ensures counted { (term : TermData) → this.now ≡ Some term → steps.old + 2 * enrolments_of (reverse filings.now) student ≤ steps.new }
+{
+    let Some(term) = this else {
+        return 0;
+    };
+    let mut least = 0;
+    let mut at = newest;
+    while 0 < at {
+        let index = at as usize - 1;
+        steps.tick(); // the filing
+        steps.tick(); // the link
+        least = with_beside(
+            filings,
+            places,
+            &filings[index],
+            &links[index],
+            school,
+            term,
+            least,
+            steps,
+        );
+        at = links[index].before;
+    }
+    least
+}
+
+// The least code found so far, with an enrolment more.
+fn with_beside<L: Ledger>(
+    filings: &[Filing],
+    places: &Slots<StudentPlace, PlaceRow>,
+    filing: &Filing,
+    link: &Link,
+    school: School,
+    this: &Term,
+    least: u32,
+    steps: &mut Steps<L>,
+) -> u32
+    requires rows { ArePlaces (reverse filings.now) places.now.rows }
+    requires enrolment { IsEnrolment (reverse filings.now) places.now.rows filing.now link.now }
+    ensures value { (student : ℕ) → is_enrolled student filing.now ≡ true
+        → result ≡ lesser_code (is_beside (reverse filings.now) school student this.now filing.now) filing.now.key.school least }
+    ensures cost { steps.new ≤ steps.old + 2 }
+    ensures later { steps.old ≤ steps.new }
+{
+    if is_paid_beside(filings, places, filing, link, school, this, steps) {
+        lesser(filing.key.school.0, least)
+    } else {
+        least
+    }
+}
+
+// The lesser of two codes, of which the second may be 0 for none.
+fn lesser(code: u32, least: u32) -> u32
+    ensures { result ≡ lesser_code true code least }
+{
+    if least == 0 { code } else { code.min(least) }
+}
+
+// Whether an enrolment's term is another school's, holds net Pell and shares a day with this one.
+fn is_paid_beside<L: Ledger>(
+    filings: &[Filing],
+    places: &Slots<StudentPlace, PlaceRow>,
+    filing: &Filing,
+    link: &Link,
+    school: School,
+    this: &Term,
+    steps: &mut Steps<L>,
+) -> bool
+    requires rows { ArePlaces (reverse filings.now) places.now.rows }
+    requires enrolment { IsEnrolment (reverse filings.now) places.now.rows filing.now link.now }
+    ensures value { (student : ℕ) → is_enrolled student filing.now ≡ true → result ≡ is_beside (reverse filings.now) school student this.now filing.now }
+    ensures cost { steps.new ≤ steps.old + 2 }
+    ensures later { steps.old ≤ steps.new }
+{
+    if filing.key.school == school {
+        return false;
+    }
+    let row = places.look(link.slot, steps).1;
+    if net_pell(&row.account) == 0 {
+        return false;
+    }
+    steps.tick();
+    match term_in(&filings[link.term_at as usize - 1].what) {
+        Some(term) => shares_day(this, &term),
+        None => false,
+    }
+}
+
+// The net Pell of an account in cents.
+fn net_pell(account: &Account) -> u64
+    ensures { result ≡ slice_index account.now.paid 3 - slice_index account.now.taken 3 }
+{
+    let paid = account.paid.at(Program::Pell);
+    paid.saturating_sub(account.taken.at(Program::Pell))
+}
+
+// The term that is filed.
+fn term_in(what: &What) -> Option<Term>
+    ensures { result ≡ term_told what.now }
+{
+    match what {
+        What::Calendar(calendar) => Some(calendar.to_term()),
+        _ => None,
+    }
+}
+
+/// The first term of the year, by school and number, that holds more net Pell of the student than an award in dollars gives
+/// it, told as a refusal. `newest` is the position of the student's newest enrolment.
+pub fn term_over<L: Ledger>(
+    filings: &[Filing],
+    links: &[Link],
+    places: &Slots<StudentPlace, PlaceRow>,
+    newest: u32,
+    student: Student,
+    award: u32,
+    year: Year,
+    steps: &mut Steps<L>,
+) -> Option<Refusal>
+    requires legal { IsLegal (reverse filings.now) }
+    requires linked { AreLinked (reverse filings.now) places.now.rows links.now }
+    requires newest { newest ≡ last_at (is_enrolled student) (reverse filings.now) }
+    requires rows { ArePlaces (reverse filings.now) places.now.rows }
+    requires award { award ≤ 100000 }
+    ensures value { result ≡ term_over_of (reverse filings.now) award student year }
+    ensures cost { steps.new ≤ steps.old + 4 * enrolments_of (reverse filings.now) student }
+    ensures counted { steps.old + 2 * enrolments_of (reverse filings.now) student ≤ steps.new }
+{
+    let mut first = None;
+    let mut at = newest;
+    while 0 < at {
+        let index = at as usize - 1;
+        steps.tick(); // the filing
+        steps.tick(); // the link
+        let over = over_in(
+            filings,
+            places,
+            &filings[index],
+            &links[index],
+            award,
+            year,
+            steps,
+        );
+        first = earlier(over, first);
+        at = links[index].before;
+    }
+    refusal(first)
+}
+
+// What an enrolment's term holds over an award, where it is one of the year.
+fn over_in<L: Ledger>(
+    filings: &[Filing],
+    places: &Slots<StudentPlace, PlaceRow>,
+    filing: &Filing,
+    link: &Link,
+    award: u32,
+    year: Year,
+    steps: &mut Steps<L>,
+) -> Option<Over>
+    requires legal { IsLegal (reverse filings.now) }
+    requires rows { ArePlaces (reverse filings.now) places.now.rows }
+    requires enrolment { IsEnrolment (reverse filings.now) places.now.rows filing.now link.now }
+    requires award { award ≤ 100000 }
+    ensures value { (student : ℕ) → is_enrolled student filing.now ≡ true → result ≡ over_of (reverse filings.now) award student year filing.now }
+    ensures cost { steps.new ≤ steps.old + 2 }
+    ensures later { steps.old ≤ steps.new }
+{
+    let school = filing.key.school;
+    let What::Enrol(enrolment) = &filing.what else {
+        return None;
+    };
+    if enrolment.year != year {
+        return None;
+    }
+    let row = places.look(link.slot, steps).1;
+    let kept = net_pell(&row.account);
+    steps.tick();
+    let bound = payment(
+        &filings[link.school_at as usize - 1].what,
+        row.credits,
+        award,
+    );
+    if bound < kept {
+        Some(Over {
+            school: school.0,
+            term: enrolment.term,
+            kept,
+            bound,
+        })
+    } else {
+        None
+    }
+}
+
+// The payment of a term in cents, at credits in force and an award in dollars, by the facts of its school.
+fn payment(school: &What, credits: u8, award: u32) -> u64
+    requires credits { credits ≤ 40 }
+    requires award { award ≤ 100000 }
+    ensures { result ≡ 100 * payment_of award (intensity_of credits (full_of (school_told school.now))) (terms_of (school_told school.now)) }
+{
+    let What::School(facts) = school else {
+        return 0;
+    };
+    if credits == 0 {
+        return 0;
+    }
+    100 * u64::from(period_pay(award, intensity(credits, facts.full), facts.terms))
+}
+
+// The earlier of two terms, by school and number; of one term the one found before.
+fn earlier(over: Option<Over>, first: Option<Over>) -> Option<Over>
+    ensures { result ≡ earlier_over over first }
+{
+    match (over, first) {
+        (None, _) => first,
+        (Some(_), None) => over,
+        (Some(a), Some(b)) => {
+            if a.school < b.school || (a.school == b.school && a.term < b.term) {
+                over
+            } else {
+                first
+            }
+        }
+    }
+}
+
+// What is told of that term.
+fn refusal(first: Option<Over>) -> Option<Refusal>
+    ensures { result ≡ refusal_of first }
+{
+    let over = first?;
+    Some(Refusal {
+        rule: 93,
+        kept: over.kept,
+        bound: over.bound,
+    })
+}

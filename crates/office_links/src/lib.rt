@@ -1,0 +1,10 @@
+//! Links from each term of a school, and from each enrolment of a student, to the one before it, and walks along them.
+#![tactic(auto)]
+
+mod enrolments;
+mod links;
+mod walks;
+
+pub use enrolments::{paid_beside, term_over};
+pub use links::{Link, link_of};
+pub use walks::{school_calendar, school_term};

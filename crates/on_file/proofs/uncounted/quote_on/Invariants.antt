@@ -1,4 +1,0 @@
-use Rattle.on_file.proofs.uncounted.quote_on.Given as goal
-
-abbrev pub ghosts-quote_counted : goal.ghosts-quote_counted
-ghosts-quote_counted g a = record { name = a.blank.name; parts = a.blank.parts }

@@ -1,4 +1,0 @@
-use Rattle.on_file.proofs.uncounted.standing_on.Given as goal
-
-abbrev pub ghosts-standing_counted : goal.ghosts-standing_counted
-ghosts-standing_counted g a = record { name = a.blank.name; parts = a.blank.parts }

@@ -1,9 +1,0 @@
-pub mod Accounts
-pub mod Basis
-pub mod Brought
-pub mod CellTests
-pub mod Filed
-pub mod Own
-pub mod Rows
-pub mod Terms
-pub mod Walked

@@ -1,0 +1,9 @@
+pub mod Highest
+pub mod Indexed
+pub mod Moves
+pub mod NoPell
+pub mod Oldest
+pub mod Places
+pub mod Reduced
+pub mod Told
+pub mod YearSums

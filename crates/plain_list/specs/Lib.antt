@@ -1,0 +1,2 @@
+pub mod CellTests
+pub mod Terms
