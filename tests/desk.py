@@ -198,8 +198,7 @@ def outcome_text(outcome):
     if isinstance(outcome, model.Paid):
         return f"paid {money(outcome.net)} {outcome.used}"
     if isinstance(outcome, model.Returned):
-        percent = f"{outcome.percent // 10}.{outcome.percent % 10}"
-        return f"returned {percent} {money(outcome.school)} {money(outcome.owed)} {money(outcome.post)}"
+        return f"returned {percent_text(outcome.percent)} {money(outcome.school)} {money(outcome.owed)} {money(outcome.post)}"
     return "noted"
 
 
@@ -240,6 +239,49 @@ class Desk:
     def quote(self, school, student, year, term):
         """What `quote SCHOOL STUDENT YEAR TERM` prints."""
         return f"quote {model.quote(self.history, school, student, year, term) // 100}\n"
+
+    def report(self, which, year=None):
+        """What `report standing YEAR`, `report awards YEAR`, `report returns YEAR` and `report lifetime` print."""
+        lines = REPORTS[which](self.history, *[] if year is None else [year])
+        return "".join(f"{line}\n" for line in lines) + f"rows {len(lines)}\n"
+
+
+def percent_text(tenths):
+    """Tenths of a percent with one decimal."""
+    return f"{tenths // 10}.{tenths % 10}"
+
+
+def standing_lines(history, year):
+    """Student, formula, index, way, Scheduled Award, net Pell of the year, lifetime units used."""
+    return [
+        f"{student:>12} {row.formula} {row.index:>7} {row.way:<10} {row.award:>6} {money(row.paid):>12} {row.used:>7}"
+        for student, row in model.standing_report(history, year)
+    ]
+
+
+def award_lines(history, year):
+    """School, student, term, program, net."""
+    return [
+        f"{school:>6} {student:>12} {term} {PROGRAM_WORDS[program]:<5} {money(amount):>12}"
+        for school, student, term, program, amount in model.award_report(history, year)
+    ]
+
+
+def return_lines(history, year):
+    """School, student, term, percent earned, the school's return, what is owed, what may follow, the due day."""
+    return [
+        f"{row.school:>6} {row.student:>12} {row.term} {percent_text(row.percent):>5} {money(row.returned):>12} {money(row.owed):>12}"
+        f" {money(row.post):>12} {row.due.isoformat() if row.due else 'none'}"
+        for row in model.return_report(history, year)
+    ]
+
+
+def lifetime_lines(history):
+    """Student, units before this office, all units used."""
+    return [f"{student:>12} {prior:>7} {used:>7}" for student, prior, used in model.lifetime_report(history)]
+
+
+REPORTS = {"standing": standing_lines, "awards": award_lines, "returns": return_lines, "lifetime": lifetime_lines}
 
 
 def check_rows(text):

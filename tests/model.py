@@ -1241,3 +1241,64 @@ def standing(history, student, year):
     found = decision(book_at(history, year)[1], application)
     paid = net(history, student, year=year, program=PELL)
     return Standing(application.transaction, *astuple(found), paid, units)
+
+
+# Reports: what the office tells of a whole history, line by line (own)
+
+@dataclass(frozen=True)
+class Return:
+    """A withdrawal as a report has it: where, tenths of a percent earned, the school's part, what the student owes, the rest
+    that may be disbursed after it, and the day on which the school's part is due, none where it returns nothing."""
+    school: int
+    student: int
+    term: int
+    percent: int
+    returned: int
+    owed: int
+    post: int
+    due: date
+
+
+def standing_report(history, year):
+    """Each student with an application in the year, by number, and where the student stands in it."""
+    applied = {filing.student for _, filing in filings_of(history, Application) if filing.year == year}
+    return [(student, standing(history, student, year)) for student in sorted(applied)]
+
+
+def award_report(history, year):
+    """What each student has of each program in each term of the year, where it is above 0: school, student, term, program
+    and cents, in that order."""
+    paid = {
+        (filing.school, filing.student, filing.term, filing.program)
+        for _, filing in filings_of(history, Payment) if filing.year == year
+    }
+    nets = [(*place, net(history, place[1], place[0], year, place[2], place[3])) for place in sorted(paid)]
+    return [line for line in nets if line[-1] > 0]
+
+
+def due_day(withdrawal, returned):
+    """45 days after the school determined the withdrawal; none where it returns nothing or no such day has a date.
+    34 CFR 668.22(j)(1)."""
+    if returned == 0 or withdrawal.determined > date.max - timedelta(45):
+        return None
+    return withdrawal.determined + timedelta(45)
+
+
+def return_report(history, year):
+    """The withdrawals in the year, in the order in which they were filed."""
+    lines = []
+    for position, filing in filings_of(history, Withdrawal):
+        if filing.year == year:
+            found = sheet_at(history, position)
+            lines.append(Return(
+                filing.school, filing.student, filing.term, found.percent, found.school, sum(found.owed), found.post,
+                due_day(filing, found.school),
+            ))
+    return lines
+
+
+def lifetime_report(history):
+    """Each student with a prior use or a Pell payment, by number: the units used before this office, and all."""
+    prior = {filing.student: filing.units for _, filing in filings_of(history, PriorUse)}
+    paid = {filing.student for _, filing in filings_of(history, Payment) if filing.program == PELL}
+    return [(student, prior.get(student, 0), used(history, student)) for student in sorted(paid | prior.keys())]

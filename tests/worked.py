@@ -51,6 +51,11 @@ def quote(term, dollars, student=5001):
     return ["quote", "110", str(student), "2025", str(term)], b"", f"quote {dollars}"
 
 
+def report(text, *words):
+    """A report prints this text."""
+    return ["report", *words], b"", text
+
+
 # A school of two terms with 12 credits full time, a student with a Scheduled Award of 7,395 dollars, full time in both terms.
 SCHOOL = "school,0,2,110,2,12"
 TERMS = ["calendar,110,1,2025,1,0,2025-08-25,2025-12-02,0", "calendar,110,2,2025,2,0,2026-01-12,2026-04-21,0"]
@@ -198,7 +203,32 @@ OFFICES = {
             ("enrol,110,9,5001,2025,1,41", "refused 32 41 40"), ("originate,110,9,5001,2025,0", "refused 31 5001 2025"),
         ),
     ],
-    "a year": [book(), (["file"], example("year.csv"), example("year.txt").decode())],
+    "a year": [book(), (["file"], example("year.csv"), example("year.txt").decode())] + [
+        report(example(f"year-{which}.txt").decode(), which, *year)
+        for which, *year in [("standing", "2025"), ("awards", "2025"), ("returns", "2025"), ("lifetime",)]
+    ],
+    "reports": BASE + [
+        filed(
+            "prior,0,3,77,550000", *base(600, 200), "pay,110,9,5001,2025,1,pell,3000.00", "pay,110,10,5001,2025,1,unsub,2000.00",
+            withdraw("2025-09-23", "4000.00"), withdraw("2025-09-23", "0.00").replace("20,5001", "21,600"),
+        ),
+        report("""\
+         600 A   -1500 maximum      7395         0.00       0
+        5001 A   -1500 maximum      7395      2200.00   29750
+rows 2""", "standing", "2025"),
+        report("""\
+   110         5001 1 pell       2200.00
+rows 1""", "awards", "2025"),
+        report("""\
+   110         5001 1  30.0      2800.00         0.00         0.00 2026-01-16
+   110          600 1  30.0         0.00         0.00         0.00 none
+rows 2""", "returns", "2025"),
+        report("""\
+          77  550000  550000
+        5001       0   29750
+rows 2""", "lifetime"),
+        *[report("rows 0", which, "2026") for which in ("standing", "awards", "returns")],
+    ],
     "rows as they are written": [
         (["check", "rows"], "\n".join(row for row, _ in BAD_ROWS).encode(),
          "".join(f"{number} {line}\n" for number, (_, line) in enumerate(BAD_ROWS, 1)) + "rows 6 errors 5"),

@@ -20,6 +20,8 @@ use Rattle.desk_forms.specs.Lines.{fine_line}
 use Rattle.kept_session.specs.Checks.{Checks, LooksAt, Looks}
 use Rattle.kept_session.specs.Checks as looking
 use Rattle.kept_session.specs.Edges.{Input, Output}
+use Rattle.kept_session.specs.Reports.{Reports}
+use Rattle.kept_session.specs.Reports as telling
 use Rattle.kept_session.specs.Sessions.{FoundSession, founded, unsaid, refused, IsNotFounded, IsUnopened, IsUnread, Opens, unopened, opened, Session, unread, read, ended_filing}
 use Rattle.kept_session.specs.Texts.{Texts}
 use Rattle.kept_session.specs.declared.checking.CheckStop.{CheckStop}
@@ -32,8 +34,8 @@ use Rattle.kept_session.specs.declared.stop.ReadStop.{ReadStop}
 use Rattle.kept_session.specs.declared.stop.ReadStop.TheVariants as reading
 use Rattle.kept_session.specs.declared.stop.SessionStop.{SessionStop}
 use Rattle.office_words.specs.declared.command.Command.{Command}
-use Rattle.aid_office.specs.Asks.{book_rows, book_texts, desk_rows, desk_texts, quote_rows, quote_texts}
-use Rattle.aid_office.specs.Ran.{CanBeDone, ChecksBook, ChecksRows, Counts, HasCause, Does, founding, filing, booking, quoting, checking_rows, checking_book, Ends, well, told, untold, Tallies, tallied, unwritten, starved, stopped, from, up_to}
+use Rattle.aid_office.specs.Asks.{book_rows, book_texts, desk_rows, desk_texts, quote_rows, quote_texts, report_text}
+use Rattle.aid_office.specs.Ran.{CanBeDone, ChecksBook, ChecksRows, Counts, HasCause, Does, founding, filing, booking, quoting, reporting, checking_rows, checking_book, Ends, well, told, untold, Tallies, tallied, unwritten, starved, stopped, from, up_to}
 use Rattle.aid_office.specs.Ran as run
 use Rattle.aid_office.specs.Statuses.{check_status, ended_check, ended_file, ended_found, found_status, open_status, read_status, status_of}
 use Rattle.aid_office.specs.declared.stop.RunStop.{RunStop}
@@ -77,6 +79,12 @@ module _ {D Entry : Type 0} (disk : Ghosts D) (scheme : Scheme Entry) (old new :
   filed_by (Err filing_stop.Write) = inr (inl refl)
   filed_by (Err (filing_stop.DiskFault undecided)) = inr (inr (inl refl))
   filed_by (Err filing_stop.NoMemory) = inr (inr (inr refl))
+
+  reported_by : (text : List Entry → List ℕ) (output : Output) (ended : Result Unit SessionStop) → Reports disk scheme text old new output ended → IfErr (ended_file ended) (λ stop. IsExcused (status_of stop))
+  reported_by text output ended (telling.unopened error u same) = unopened_by error u
+  reported_by text output ended (telling.told past is wrote) = tt
+  reported_by text output ended (telling.unwritten past is cut) = inr (inl refl)
+  reported_by text output ended (telling.starved past is same) = inr (inr (inr refl))
 
   module _ {Ask Verdict Error : Type 0} (judging : Judging Entry Ask Verdict) (texts : Texts Ask Verdict Error) (output : Output) where
     opened_by : (left : List texts.Meaning) (ended : Result Unit SessionStop) → Opens disk scheme judging texts old new output left ended
@@ -129,6 +137,8 @@ done_by disk old new input output command ended (booking book inner session) can
     session_by disk office_scheme old new can.1.0 can.1.1 can.1.2 office_judging book_texts output (book_rows book.number) 16777216 input inner session can.0.0 can.0.1
 done_by disk old new input output command ended (quoting quote inner opens) can =
     opened_by disk office_scheme old new can.0 can.1 can.2 office_judging quote_texts output (quote_rows quote) inner opens
+done_by disk old new input output command ended (reporting report inner reports) can =
+    reported_by disk office_scheme old new can.0 can.1 can.2 (report_text report) output inner reports
 done_by disk old new input output command ended (checking_rows _ same checks) can = rows_by input output ended checks can.0 can.1
 done_by disk old new input output command ended (checking_book _ same checks) can = book_by input output ended checks can.0 can.1
 

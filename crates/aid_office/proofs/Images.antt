@@ -17,6 +17,9 @@ use Rattle.kept_office.specs.Recovers.{Recovers}
 use Rattle.kept_office.specs.Scheme.{office_header, office_scheme}
 use Rattle.kept_office.specs.Turns.{office_judging}
 use Rattle.kept_session.specs.Edges.{Input, Output}
+use Rattle.kept_session.specs.Links.{IsOpened}
+use Rattle.kept_session.specs.Reports.{Reports}
+use Rattle.kept_session.specs.Reports as telling
 use Rattle.kept_session.specs.Sessions.{FoundSession, founded, unsaid, refused, Opens, Session, read}
 use Rattle.kept_session.specs.Texts.{after_row, after_rows}
 use Rattle.kept_session.specs.declared.stop.FoundStop.{FoundStop}
@@ -25,9 +28,9 @@ use Rattle.kept_session.proofs.Fronts.{images_of_session, moments_of_session}
 use Rattle.office_history.specs.Answer.{answer_to, is_admit}
 use Rattle.office_words.specs.declared.command.Command.{Command}
 use Rattle.office_words.specs.declared.command.QuoteRequest.{QuoteRequest}
-use Rattle.aid_office.specs.Asks.{book_rows, book_texts, desk_rows, desk_texts, quote_ask, quote_rows, quote_texts}
+use Rattle.aid_office.specs.Asks.{book_rows, book_texts, desk_rows, desk_texts, quote_ask, quote_rows, quote_texts, report_text}
 use Rattle.aid_office.specs.Moments.{MayRecover, Stands, StoodBefore}
-use Rattle.aid_office.specs.Ran.{Does, founding, filing, booking, quoting, checking_rows, checking_book}
+use Rattle.aid_office.specs.Ran.{Does, founding, filing, booking, quoting, reporting, checking_rows, checking_book}
 use Rattle.aid_office.specs.Statuses.{ended_file, ended_found}
 use Rattle.aid_office.specs.declared.stop.RunStop.{RunStop}
 
@@ -84,6 +87,21 @@ module _ {D : Type 0} (disk : Ghosts D) (only : (d : D) (c : List ℕ) → IsHon
   as_session quote old new output ended opens =
       read (quote_rows quote) ended (record { short = λ honest. omega arith; end = λ honest. refl }) (λ honest. refl) opens
 
+  -- a list that was opened is the one before
+  moments_of_opened : (old new : D) (past list : List Filing) → IsHonest (disk.tells old) → Each old past → IsOpened disk office_scheme list old new
+      → EachMoment (disk.tells old) (disk.tells new) (λ file. Recovers file past)
+  moments_of_opened old new past list honest each is =
+      let same : list ≡ past = once (disk.tells old).reads list past (is.recovers honest) (each (disk.tells old).reads (here old honest)) in
+      subst (λ (h : List Filing). EachMoment (disk.tells old) (disk.tells new) (λ file. Recovers file h)) same
+      (is.moments honest (subst (Each old) (sym same) each))
+
+  moments_of_report : (old new : D) (text : List Filing → List ℕ) (output : Output) (ended : Result Unit SessionStop) (past : List Filing) → IsHonest (disk.tells old) → Each old past
+      → Reports disk office_scheme text old new output ended → EachMoment (disk.tells old) (disk.tells new) (λ file. Recovers file past)
+  moments_of_report old new text output ended past honest each (telling.unopened error n same) = n.moments honest past each
+  moments_of_report old new text output ended past honest each (telling.told list is wrote) = moments_of_opened old new past list honest each is
+  moments_of_report old new text output ended past honest each (telling.unwritten list is cut) = moments_of_opened old new past list honest each is
+  moments_of_report old new text output ended past honest each (telling.starved list is same) = moments_of_opened old new past list honest each is
+
   pub moments : (old new : D) (input : Input) (output : Output) (command : Command) (ended : Result Unit RunStop) (past : List Filing) → Does disk old new input output command ended
       → IsHonest (disk.tells old) → Each old past → EachMoment (disk.tells old) (disk.tells new) (MayRecover command input past)
   moments old new input output command ended past (founding inner session) honest each = moments_of_found old new _ output inner past honest each session
@@ -96,6 +114,7 @@ module _ {D : Type 0} (disk : Ghosts D) (only : (d : D) (c : List ℕ) → IsHon
       (λ file of. subst (λ (h : List Filing). Recovers file h) (quotes_add quote past of.2.0 of.2.1 (sym (of.1 refl) ∙ of.2.2)) of.2.3)
       (moments_of_session disk office_scheme office_judging only quote_texts output once (λ text. quote_rows quote) 0 (record { honest = true; before = []; after = [] }) here inner past old new honest each
       (as_session quote old new output inner opens))
+  moments old new input output command ended past (reporting report inner reports) honest each = moments_of_report old new (report_text report) output inner past honest each reports
   moments old new input output command ended past (checking_rows _ same checks) honest each = stays old new past honest each same
   moments old new input output command ended past (checking_book _ same checks) honest each = stays old new past honest each same
 
@@ -110,6 +129,14 @@ module _ {D : Type 0} (disk : Ghosts D) (only : (d : D) (c : List ℕ) → IsHon
   stands_of_found old new line output ended honest (unsaid is wrote) well = absurd (let bad : ⊥ = cc in bad)
   stands_of_found old new line output ended honest (refused fault n same) well = absurd (let bad : ⊥ = cc in bad)
 
+  stands_of_report : (old new : D) (text : List Filing → List ℕ) (output : Output) (ended : Result Unit SessionStop) (past : List Filing) → IsHonest (disk.tells old) → Recovers (disk.tells old).reads past
+      → Reports disk office_scheme text old new output ended → ended ≡ Ok tt → Each new past
+  stands_of_report old new text output ended past honest reads (telling.unopened error n same) well = absurd (let bad : ⊥ = cc in bad)
+  stands_of_report old new text output ended past honest reads (telling.told list is wrote) well =
+      subst (Each new) (once (disk.tells old).reads list past (is.recovers honest) reads) (is.images honest)
+  stands_of_report old new text output ended past honest reads (telling.unwritten list is cut) well = absurd (let bad : ⊥ = cc in bad)
+  stands_of_report old new text output ended past honest reads (telling.starved list is same) well = absurd (let bad : ⊥ = cc in bad)
+
   pub stands : (old new : D) (input : Input) (output : Output) (command : Command) (ended : Result Unit RunStop) (past : List Filing) → Does disk old new input output command ended
       → ended ≡ Ok tt → IsHonest (disk.tells old) → StoodBefore command (disk.tells old).reads past → Stands command input past (disk.tells new)
   stands old new input output command ended past (founding inner session) well honest stood = stands_of_found old new _ output inner honest session well
@@ -121,5 +148,7 @@ module _ {D : Type 0} (disk : Ghosts D) (only : (d : D) (c : List ℕ) → IsHon
       let (rows, said, images) = images_of_session disk office_scheme office_judging only quote_texts output once (λ text. quote_rows quote) 0 (record { honest = true; before = []; after = [] }) inner past old new
       (session_done inner well) honest stood (as_session quote old new output inner opens) in
       λ c image. subst (λ (h : List Filing). Recovers c h) (quotes_add quote past rows [] (sym (said refl) ∙ sym (append-nil (map (λ row. row) rows)))) (images c image)
+  stands old new input output command ended past (reporting report inner reports) well honest stood =
+      stands_of_report old new (report_text report) output inner past honest stood reports (session_done inner well)
   stands old new input output command ended past (checking_rows _ same checks) well honest stood = tt
   stands old new input output command ended past (checking_book _ same checks) well honest stood = tt

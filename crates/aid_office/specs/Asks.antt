@@ -13,7 +13,10 @@ use Rattle.desk_forms.specs.declared.error.RowError.{RowError}
 use Rattle.filing_kinds.specs.declared.kind.Kind.{Kind}
 use Rattle.filing_numbers.specs.Numbers.{kind_of, numbers_of}
 use Rattle.kept_session.specs.Texts.{Texts}
+use Rattle.aid_reports.specs.Reports.{award_report, lifetime_report, return_report, standing_report}
 use Rattle.office_words.specs.declared.command.QuoteRequest.{QuoteRequest}
+use Rattle.office_words.specs.declared.command.ReportRequest.{ReportRequest}
+use Rattle.office_words.specs.declared.command.ReportRequest.TheVariants as reports
 use Rattle.reply_lines.specs.Lines.{line_of, quote_line, reply_of}
 use Rattle.year_books.specs.declared.error.BookError.{BookError}
 
@@ -81,6 +84,14 @@ quote_ask quote = Quote quote.school quote.student quote.year quote.term
 
 abbrev pub quote_rows : QuoteRequest → List (Result Ask RowError)
 quote_rows quote = Ok (quote_ask quote) ∷ []
+
+-- ---- a report
+-- its text, on a history with the newest filing first
+abbrev pub report_text : ReportRequest → List Filing → List ℕ
+report_text (reports.Standing of) past = standing_report past of.year
+report_text (reports.Awards of) past = award_report past of.year
+report_text (reports.Returns of) past = return_report past of.year
+report_text reports.Lifetime past = lifetime_report past
 
 -- ---- what is left to be taken
 -- of a book, where it wasn't taken

@@ -11,7 +11,7 @@ use Rattle.kept_session.specs.Edges.{Input}
 use Rattle.kept_session.specs.Links.{RecoversOf}
 use Rattle.kept_session.specs.Texts.{Texts, after_rows}
 use Rattle.office_words.specs.declared.command.Command.{Command}
-use Rattle.office_words.specs.declared.command.Command.TheVariants.{Found, File, Book, Quote, CheckRows, CheckBook}
+use Rattle.office_words.specs.declared.command.Command.TheVariants.{Found, File, Book, Quote, Report, CheckRows, CheckBook}
 use Rattle.aid_office.specs.Asks.{book_rows, book_texts, desk_rows, desk_texts}
 
 -- a file at a moment of a command over an input recovers the list before it, with what some rows in front of the input's add
@@ -25,6 +25,7 @@ abbrev pub StoodBefore : Command → List ℕ → List Filing → Type 0
 StoodBefore File file past = Recovers file past
 StoodBefore (Book book) file past = Recovers file past
 StoodBefore (Quote quote) file past = Recovers file past
+StoodBefore (Report report) file past = Recovers file past
 StoodBefore _ file past = Unit {0}
 
 -- each image recovers the list with what these rows add, which are all of the input's where its source is honest
@@ -38,5 +39,6 @@ Stands Found input past told = EachImage told (λ file. Recovers file [])
 Stands File input past told = AllStand desk_texts desk_rows input past told
 Stands (Book book) input past told = AllStand book_texts (book_rows book.number) input past told
 Stands (Quote quote) input past told = EachImage told (λ file. Recovers file past)
+Stands (Report report) input past told = EachImage told (λ file. Recovers file past)
 Stands CheckRows input past told = Unit {0}
 Stands CheckBook input past told = Unit {0}

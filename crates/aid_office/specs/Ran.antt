@@ -10,6 +10,7 @@ use Rattle.kept_office.specs.Scheme.{office_header, office_scheme}
 use Rattle.kept_office.specs.Turns.{office_judging}
 use Rattle.kept_session.specs.Checks.{Checks}
 use Rattle.kept_session.specs.Edges.{Input, Output, HasWritten, HasWrittenShort}
+use Rattle.kept_session.specs.Reports.{Reports}
 use Rattle.kept_session.specs.Sessions.{FoundSession, Opens, Session}
 use Rattle.kept_session.specs.declared.checking.CheckStop.{CheckStop}
 use Rattle.kept_session.specs.declared.checking.CheckStop.TheVariants as checking
@@ -20,9 +21,10 @@ use Rattle.desk_forms.specs.Lines.{fine_line, tally_line}
 use Rattle.office_words.specs.Words.{words_of}
 use Rattle.office_words.specs.declared.command.BookNumber.{BookNumber}
 use Rattle.office_words.specs.declared.command.Command.{Command}
-use Rattle.office_words.specs.declared.command.Command.TheVariants.{Found, File, Book, Quote, CheckRows, CheckBook}
+use Rattle.office_words.specs.declared.command.Command.TheVariants.{Found, File, Book, Quote, Report, CheckRows, CheckBook}
 use Rattle.office_words.specs.declared.command.QuoteRequest.{QuoteRequest}
-use Rattle.aid_office.specs.Asks.{book_rows, book_texts, desk_rows, desk_texts, quote_rows, quote_texts}
+use Rattle.office_words.specs.declared.command.ReportRequest.{ReportRequest}
+use Rattle.aid_office.specs.Asks.{book_rows, book_texts, desk_rows, desk_texts, quote_rows, quote_texts, report_text}
 use Rattle.aid_office.specs.Statuses.{ended_check, ended_file, ended_found, fault_line, status_of, is_disk_fault, is_read_fault}
 use Rattle.aid_office.specs.declared.stop.RunStop.{RunStop}
 use Rattle.aid_office.specs.declared.stop.RunStop.TheVariants as stops
@@ -65,6 +67,9 @@ pub data Does {D : Type 0} (disk : Ghosts D) (old new : D) (input : Input) (outp
   -- `quote`: the office is asked, and the quote is written
   quoting : (quote : QuoteRequest) (ended : Result Unit SessionStop) → Opens disk office_scheme office_judging quote_texts old new output (quote_rows quote) ended
       → Does disk old new input output (Quote quote) (ended_file ended)
+  -- `report`: the office is opened, and the report on it is written
+  reporting : (report : ReportRequest) (ended : Result Unit SessionStop) → Reports disk office_scheme (report_text report) old new output ended
+      → Does disk old new input output (Report report) (ended_file ended)
   -- `check rows` and `check book`: lines are written, and no call is made on the disk
   checking_rows : (ended : Result Unit RunStop) → new ≡ old → ChecksRows input output ended → Does disk old new input output CheckRows ended
   checking_book : (ended : Result Unit RunStop) → new ≡ old → ChecksBook input output ended → Does disk old new input output CheckBook ended
@@ -117,6 +122,7 @@ pub data Ran {D : Type 0} (disk : Ghosts D) (counts : Counts) (words : List (Lis
 abbrev pub reads_input : Command → Bool
 reads_input Found = false
 reads_input (Quote quote) = false
+reads_input (Report report) = false
 reads_input _ = true
 
 -- A command can be done: its source is honest and has not too many bytes, and the file is one for it.
@@ -131,5 +137,6 @@ CanBeDone Found honest size disk = IsHonest disk × IsUnborn disk.reads
 CanBeDone File honest size disk = IsShort honest size × IsOffice disk
 CanBeDone (Book book) honest size disk = IsShort honest size × IsOffice disk
 CanBeDone (Quote quote) honest size disk = IsOffice disk
+CanBeDone (Report report) honest size disk = IsOffice disk
 CanBeDone CheckRows honest size disk = IsShort honest size
 CanBeDone CheckBook honest size disk = IsShort honest size

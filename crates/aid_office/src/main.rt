@@ -5,6 +5,7 @@ mod book;
 mod checks;
 mod desk;
 mod quote;
+mod report;
 mod run;
 mod stop;
 #[cfg(test)]
@@ -43,6 +44,10 @@ usage: aid_office JOURNAL found
        aid_office JOURNAL book NUMBER < BOOK.toml
        aid_office JOURNAL file < ROWS.csv
        aid_office JOURNAL quote SCHOOL STUDENT YEAR TERM
+       aid_office JOURNAL report standing YEAR
+       aid_office JOURNAL report awards YEAR
+       aid_office JOURNAL report returns YEAR
+       aid_office JOURNAL report lifetime
        aid_office JOURNAL check rows < ROWS.csv
        aid_office JOURNAL check book < BOOK.toml";
 

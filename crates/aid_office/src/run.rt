@@ -15,11 +15,12 @@ use crate::book::BookForms;
 use crate::checks::{check_book, check_rows};
 use crate::desk::DeskForms;
 use crate::quote::QuoteRow;
+use crate::report::OfficeReport;
 use crate::stop::{RunStop, ended_filing, ended_founding};
 use aid_edges::{Sink, Source, write_whole};
 use disk_model::Disk;
 use kept_office::FiledOffice;
-use kept_session::{answer, file, found};
+use kept_session::{answer, file, found, write_report};
 use office_words::{Command, command_of};
 use std::alloc::Global;
 
@@ -99,14 +100,22 @@ fn do_command<D: Disk, S: Source, K: Sink>(
             let (ended, disk) = answer::<D, K, FiledOffice, QuoteRow>(alloc, disk, row, out);
             (ended_filing(ended), disk)
         }
+        Command::Report(request) => {
+            let report = OfficeReport { request };
+            let (ended, disk) = write_report::<D, K, FiledOffice, OfficeReport>(
+                alloc, disk, &report, out,
+            );
+            (ended_filing(ended), disk)
+        }
         Command::CheckRows => (check_rows(alloc, input, out), disk),
         Command::CheckBook => (check_book(alloc, input, out), disk),
     }
 }
 
 /// Does what the words say, and answers the status and the disk as it is then: `found` founds an office in the disk's
-/// file; `file` files the rows of the input, and `book` its text as a book; `quote` asks for one; `check rows` and
-/// `check book` say what is wrong with the input, and make no call on the disk. The whole input is read before the
+/// file; `file` files the rows of the input, and `book` its text as a book; `quote` asks for one; `report` writes a
+/// report on the office, and files nothing; `check rows` and `check book` say what is wrong with the input, and make no
+/// call on the disk. The whole input is read before the
 /// journal is, and the line of a row is written before the next row is filed.
 ///
 /// The status is 0 where all was done, 2 where the words are no row, 3 where a read failed, 4 where a write failed, 5

@@ -19,6 +19,9 @@ const REFUSED: &[u8] =
 const REFUSALS: &[u8] =
     b"1 2 refused 13 1 110\n2 2 refused 80 2 5001\n3 2 refused 81 600001 600000\n4 2 refused 14 110 0\n5 2 again 1 noted\n";
 
+// The lifetime use of the two first filings.
+const LIFETIME: &[u8] = b"        5001  550000  550000\nrows 1\n";
+
 // A founded file without filings.
 const EMPTY: &[u8] = b"\x01AIDPELL1\x01\0\0\0\0\0\0\0";
 
@@ -57,7 +60,7 @@ fn ran(
 #[test]
 fn runs_follow_each_other(rt: HostRuntime) -> Result<(), Fail> {
     let alloc = rt.alloc();
-    let rows: [(&str, &[u8], u8, &[u8], usize); 14] = [
+    let rows: [(&str, &[u8], u8, &[u8], usize); 17] = [
         ("file", FIRST, 6, b"fault no office\n", 0),
         ("found", b"", 0, b"founded\n", 17),
         ("file", FIRST, 0, ACCEPTED, 71),
@@ -76,6 +79,9 @@ fn runs_follow_each_other(rt: HostRuntime) -> Result<(), Fail> {
         ("book 1", b"", 0, b"1 book 2 1\n", 71),
         ("quote", b"", 2, b"fault usage\n", 71),
         ("quote 110 5001 2025 1", b"", 0, b"quote 0\n", 71),
+        ("report standing 2025", b"", 0, b"rows 0\n", 71),
+        ("report lifetime", b"", 0, LIFETIME, 71),
+        ("report lifetime 2025", b"", 2, b"fault usage\n", 71),
         (
             "check rows",
             b"prior,0,2,5001,1",

@@ -21,6 +21,15 @@ pub struct FiledOffice {
     pub(crate) office: Office,
 }
 
+impl FiledOffice {
+    /// The office, with the filings that stand.
+    pub fn office(&self) -> &Office
+        ensures { result.now.history ≡ ⟦<FiledOffice as Docket>⟧.history self.now }
+    {
+        &self.office
+    }
+}
+
 // The verdict of an office, with the steps counted on a blank.
 fn verdict_on<L: Ledger>(office: &Office, ask: &Ask, blank: Blank) -> Verdict
     requires name { blank.name ≡ L.name }

@@ -25,7 +25,7 @@ front_whole [] b = (0, refl)
 front_whole (x ∷ a) b = let (j, is) = front_whole a b in (suc j, ap (λ (l : List _). x ∷ l) is)
 
 -- what is behind a front, where the list is told by what its items say
-behind_front : {A B : Type 0} (f : A → B) (k : ℕ) (a : List A) (rest : List B) → (later : List B) × (map f a ++ rest ≡ map f (take k a) ++ later)
+pub behind_front : {A B : Type 0} (f : A → B) (k : ℕ) (a : List A) (rest : List B) → (later : List B) × (map f a ++ rest ≡ map f (take k a) ++ later)
 behind_front f zero a rest = (map f a ++ rest, refl)
 behind_front f (suc k) [] rest = (rest, refl)
 behind_front f (suc k) (x ∷ a) rest = let (later, is) = behind_front f k a rest in (later, ap (λ (l : List _). f x ∷ l) is)
@@ -89,7 +89,7 @@ module _ {D Entry Ask Verdict Error : Type 0} (disk : Ghosts D) (scheme : Scheme
             (whole past (front ++ row ∷ []) [] c (subst (λ (h : List Entry). Recovers scheme c h) (sym (after_rows-push judging past front row ∙ fault.adds)) r))
 
     -- rows that were taken from those that were left
-    moments_of_takes : (left : List texts.Meaning) (ended : Result (Unit {0}) FileStop) (past now : List Entry) (old new : D) → IsHonest (disk.tells old) → EachImage (disk.tells old) (λ file. Recovers scheme file past)
+    pub moments_of_takes : (left : List texts.Meaning) (ended : Result (Unit {0}) FileStop) (past now : List Entry) (old new : D) → IsHonest (disk.tells old) → EachImage (disk.tells old) (λ file. Recovers scheme file past)
         → Takes disk scheme judging texts past now old new output left ended → EachMoment (disk.tells old) (disk.tells new) (RecoversTaken scheme judging texts past left)
     moments_of_takes left ended past now old new honest each takes =
         weaken (disk.tells old) (disk.tells new) (RecoversFront scheme judging past takes.rows) (RecoversTaken scheme judging texts past left) taken
@@ -99,7 +99,7 @@ module _ {D Entry Ask Verdict Error : Type 0} (disk : Ghosts D) (scheme : Scheme
         taken c (k, r) = let (later, is) = behind_front texts.said k takes.rows takes.rest in (take k takes.rows, later, takes.taken ∙ is, r)
 
     -- what rows leave that were all filed
-    images_of_files : (rows : List (Result Ask Error)) (ended : Result (Unit {0}) FileStop) (past : List Entry) (old new : D) → ended ≡ Ok tt → IsHonest (disk.tells old) → EachImage (disk.tells old) (λ file. Recovers scheme file past)
+    pub images_of_files : (rows : List (Result Ask Error)) (ended : Result (Unit {0}) FileStop) (past : List Entry) (old new : D) → ended ≡ Ok tt → IsHonest (disk.tells old) → EachImage (disk.tells old) (λ file. Recovers scheme file past)
         → Files disk scheme judging texts past old new output rows ended → EachImage (disk.tells new) (λ file. Recovers scheme file (after_rows judging past rows))
     images_of_files rows ended past old new well honest each (all _ runs _) = images_of_runs rows past old new honest each runs
     images_of_files rows ended past old new well honest each (unwritten front row runs _) = absurd (let bad : ⊥ = cc in bad)

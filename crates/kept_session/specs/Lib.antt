@@ -4,3 +4,4 @@ pub mod Texts
 pub mod Links
 pub mod Sessions
 pub mod Checks
+pub mod Reports

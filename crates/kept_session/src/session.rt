@@ -5,17 +5,17 @@ ghost use Rattle.disk_model.specs.Telling.{IsHonest};
 ghost use Rattle.kept_session.specs.Edges.{IsReadWhole};
 ghost use Rattle.kept_session.specs.Sessions.{IsUnread, Opens, Session, is_disk_fault};
 
-use crate::{FileStop, Forms, ReadStop, Rows, SessionStop, file_rows};
+use crate::{FileStop, Forms, ReadStop, Rows, SessionStop, file_rows, open};
 use aid_edges::{ReadError, Sink, Source, read_to_limit};
 use disk_model::Disk;
-use kept_list::{Docket, KeptList};
+use kept_list::Docket;
 use std::alloc::Global;
 
 /// The greatest length of an input, in bytes.
 pub const INPUT_LIMIT: usize = 16_777_216;
 
-// Reads the whole input, and begins to read its rows.
-pub(crate) fn read_rows<S: Source, R: Docket, F: Forms<R>>(
+/// Reads the whole input, and begins to read its rows.
+pub fn read_rows<S: Source, R: Docket, F: Forms<R>>(
     alloc: Global,
     forms: &F,
     input: &mut S,
@@ -42,13 +42,6 @@ pub(crate) fn read_rows<S: Source, R: Docket, F: Forms<R>>(
     }
 }
 
-// The entries that stand are legal. Nothing is done.
-fn legal<D: Disk, R: Docket>(kept: &KeptList<D, R>)
-    ensures { R.scheme.IsLegal kept.now.history }
-{
-    let _ = kept.docket().front();
-}
-
 /// Opens the list of the disk's file, and answers the rows that are left: each is filed, and its line is written, before
 /// the next is taken.
 pub fn answer<D: Disk, K: Sink, R: Docket, L: Rows<R>>(
@@ -71,11 +64,10 @@ pub fn answer<D: Disk, K: Sink, R: Docket, L: Rows<R>>(
     ensures disk_honest { (D.tells result.1).honest ≡ (D.tells disk).honest }
     ensures sink_honest { K.honest out.new ≡ K.honest out.old }
 {
-    let mut kept = match KeptList::<D, R>::recover(alloc, disk) {
+    let mut kept = match open::<D, R>(alloc, disk) {
         Ok(kept) => kept,
         Err((error, disk)) => return (Err(SessionStop::Opening(error)), disk),
     };
-    legal(&kept);
     match file_rows::<D, K, R, L>(alloc, &mut kept, rows, out) {
         Ok(()) => (Ok(()), kept.into_disk()),
         Err(stop) => (Err(SessionStop::Filing(stop)), kept.into_disk()),

@@ -4,11 +4,14 @@ use Rattle.std.specs.Coded.{le_prop}
 use Rattle.std.proofs.lemmas.Fmt.{decimal_injective}
 use Rattle.aid_types.proofs.Same.{same_with_fact}
 use Rattle.aid_types.specs.Ranges.{IsBetween}
-use Rattle.office_words.specs.Words.{Reads, ReadsQuote, quote_words, words_of}
+use Rattle.office_words.specs.Words.{Reads, ReadsQuote, ReadsYear, quote_words, report_words, words_of}
 use Rattle.office_words.specs.declared.command.BookNumber.{BookNumber}
 use Rattle.office_words.specs.declared.command.Command.{Command}
-use Rattle.office_words.specs.declared.command.Command.TheVariants.{Found, File, Book, Quote, CheckRows, CheckBook}
+use Rattle.office_words.specs.declared.command.Command.TheVariants.{Found, File, Book, Quote, Report, CheckRows, CheckBook}
 use Rattle.office_words.specs.declared.command.QuoteRequest.{QuoteRequest}
+use Rattle.office_words.specs.declared.command.ReportRequest.{ReportRequest}
+use Rattle.office_words.specs.declared.command.ReportRequest.TheVariants.{Standing, Awards, Returns, Lifetime}
+use Rattle.office_words.specs.declared.command.ReportYear.{ReportYear}
 
 same_book : (x y : BookNumber) → x.number ≡ y.number → x ≡ y
 same_book x y e =
@@ -38,6 +41,24 @@ same_quote x y e =
     (same_number x.year y.year (omega (arith, x.in_range)) (omega (arith, y.in_range)) year)
     (same_number x.term y.term (omega (arith, x.in_range)) (omega (arith, y.in_range)) term)
 
+-- the words of one year and one report at most
+same_year : (x y : ReportYear) → decimal x.year ≡ decimal y.year → x ≡ y
+same_year x y e =
+    let P : ℕ → Type 0 = λ n. IsBetween 2000 2099 n in
+    let make : (n : ℕ) → P n → ReportYear = λ n p. record { year = n; in_range = p } in
+    same_with_fact P make (λ n. hlevel (le_prop)) x.year y.year x.in_range y.in_range (same_number x.year y.year (omega (arith, x.in_range)) (omega (arith, y.in_range)) e)
+
+-- texts with other first letters aren't one
+first_letters : {A : Type 0} (one other : List (List ℕ)) → one ≡ other → (get_or (get_or one 0 []) 0 0 ≡ get_or (get_or other 0 []) 0 0 → ⊥) → A
+first_letters one other e differ = absurd (differ (ap (λ (words : List (List ℕ)). get_or (get_or words 0 []) 0 0) e))
+
+same_report : (x y : ReportRequest) → report_words x ≡ report_words y → x ≡ y
+same_report (Standing x) (Standing y) e = let year : decimal x.year ≡ decimal y.year = cc in ap Standing (same_year x y year)
+same_report (Awards x) (Awards y) e = let year : decimal x.year ≡ decimal y.year = cc in ap Awards (same_year x y year)
+same_report (Returns x) (Returns y) e = let year : decimal x.year ≡ decimal y.year = cc in ap Returns (same_year x y year)
+same_report Lifetime Lifetime e = refl
+same_report x y e = first_letters (report_words x) (report_words y) e (λ is. omega (arith, is))
+
 rows_book : {A : Type 0} → words_of CheckRows ≡ words_of CheckBook → A
 rows_book e = let first : ◌≡◌ {A = ℕ} 114 98 = ap (λ (words : List (List ℕ)). get_or (get_or words 1 []) 0 0) e in absurd (omega arith)
 
@@ -49,6 +70,7 @@ same_command CheckRows CheckRows e = refl
 same_command CheckBook CheckBook e = refl
 same_command (Book x) (Book y) e = let number : decimal x.number ≡ decimal y.number = cc in ap Book (same_book x y (same_number x.number y.number (omega (arith, x.in_range)) (omega (arith, y.in_range)) number))
 same_command (Quote x) (Quote y) e = ap Quote (same_quote x y cc)
+same_command (Report x) (Report y) e = ap Report (same_report x y cc)
 same_command CheckRows CheckBook e = rows_book e
 same_command CheckBook CheckRows e = rows_book (sym e)
 same_command _ _ e = absurd cc
@@ -59,6 +81,9 @@ reads_some words c is d = (λ same. let at : c ≡ d = cc in is ∙ ap words_of 
 
 pub reads_request : (words : List (List ℕ)) (q : QuoteRequest) → words ≡ quote_words q → ReadsQuote words (Some q)
 reads_request words q is r = (λ same. let at : q ≡ r = cc in is ∙ ap quote_words at, λ told. ap Some (same_quote q r (sym is ∙ told)))
+
+pub reads_year : (word : List ℕ) (of : ReportYear) → word ≡ decimal of.year → ReadsYear word (Some of)
+reads_year word of is other = (λ same. let at : of ≡ other = cc in is ∙ ap (λ (y : ReportYear). decimal y.year) at, λ told. ap Some (same_year of other (sym is ∙ told)))
 
 pub if_read : (words other : List (List ℕ)) (read : Option Command) → other ≡ words → Reads words read → IfSome read (λ c. other ≡ words_of c)
 if_read words other None same reads = search rules

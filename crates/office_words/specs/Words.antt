@@ -1,12 +1,22 @@
 -- The rows of words of the program, behind the path of its journal. Own format.
 use Rattle.std.specs.Prelude.{◌≡◌, ◌↔◌, ℕ, List, [], ◌∷◌, Option, Some, codes, decimal}
 use Rattle.office_words.specs.declared.command.Command.{Command}
-use Rattle.office_words.specs.declared.command.Command.TheVariants.{Found, File, Book, Quote, CheckRows, CheckBook}
+use Rattle.office_words.specs.declared.command.Command.TheVariants.{Found, File, Book, Quote, Report, CheckRows, CheckBook}
 use Rattle.office_words.specs.declared.command.QuoteRequest.{QuoteRequest}
+use Rattle.office_words.specs.declared.command.ReportRequest.{ReportRequest}
+use Rattle.office_words.specs.declared.command.ReportRequest.TheVariants.{Standing, Awards, Returns, Lifetime}
+use Rattle.office_words.specs.declared.command.ReportYear.{ReportYear}
 
 -- the numbers of a quote: SCHOOL STUDENT YEAR TERM
 abbrev pub quote_words : QuoteRequest → List (List ℕ)
 quote_words quote = decimal quote.school ∷ decimal quote.student ∷ decimal quote.year ∷ decimal quote.term ∷ []
+
+-- the words of a report
+abbrev pub report_words : ReportRequest → List (List ℕ)
+report_words (Standing of) = codes "standing" ∷ decimal of.year ∷ []
+report_words (Awards of) = codes "awards" ∷ decimal of.year ∷ []
+report_words (Returns of) = codes "returns" ∷ decimal of.year ∷ []
+report_words Lifetime = codes "lifetime" ∷ []
 
 -- the one row of words of a command
 abbrev pub words_of : Command → List (List ℕ)
@@ -14,6 +24,7 @@ words_of Found = codes "found" ∷ []
 words_of File = codes "file" ∷ []
 words_of (Book book) = codes "book" ∷ decimal book.number ∷ []
 words_of (Quote quote) = codes "quote" ∷ quote_words quote
+words_of (Report report) = codes "report" ∷ report_words report
 words_of CheckRows = codes "check" ∷ codes "rows" ∷ []
 words_of CheckBook = codes "check" ∷ codes "book" ∷ []
 
@@ -24,3 +35,11 @@ Reads words read = (c : Command) → (read ≡ Some c) ↔ (words ≡ words_of c
 -- the same of the numbers of a quote
 abbrev pub ReadsQuote : List (List ℕ) → Option QuoteRequest → Type 0
 ReadsQuote words read = (quote : QuoteRequest) → (read ≡ Some quote) ↔ (words ≡ quote_words quote)
+
+-- the same of the words of a report
+abbrev pub ReadsReport : List (List ℕ) → Option ReportRequest → Type 0
+ReadsReport words read = (report : ReportRequest) → (read ≡ Some report) ↔ (words ≡ report_words report)
+
+-- the same of the word of its year
+abbrev pub ReadsYear : List ℕ → Option ReportYear → Type 0
+ReadsYear word read = (of : ReportYear) → (read ≡ Some of) ↔ (word ≡ decimal of.year)

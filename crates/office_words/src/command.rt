@@ -22,6 +22,26 @@ pub struct QuoteRequest {
         × IsBetween 2000 2099 year × IsBetween 1 8 term },
 }
 
+/// The award year that a report is of.
+#[derive(Clone, Copy, PartialEq, Eq, Debug)]
+pub struct ReportYear {
+    pub year: Year,
+    pub ghost in_range: { IsBetween 2000 2099 year },
+}
+
+/// The report that is asked for.
+#[derive(Clone, Copy, PartialEq, Eq, Debug)]
+pub enum ReportRequest {
+    /// `standing YEAR`: where each student with an application in the year stands.
+    Standing(ReportYear),
+    /// `awards YEAR`: what each student has of each program in each term of the year.
+    Awards(ReportYear),
+    /// `returns YEAR`: the withdrawals in the year.
+    Returns(ReportYear),
+    /// `lifetime`: the lifetime units of each student who used some.
+    Lifetime,
+}
+
 /// A command of the program, by its row of words.
 #[derive(Clone, Copy, PartialEq, Eq, Debug)]
 pub enum Command {
@@ -33,6 +53,8 @@ pub enum Command {
     Book(BookNumber),
     /// `quote SCHOOL STUDENT YEAR TERM`: to say the greatest Pell payment that the office would take.
     Quote(QuoteRequest),
+    /// `report standing YEAR`, `report awards YEAR`, `report returns YEAR`, `report lifetime`: to write a report on the office.
+    Report(ReportRequest),
     /// `check rows`: to read the rows of the input, and file none.
     CheckRows,
     /// `check book`: to read the text of the input as a book, and not file it.

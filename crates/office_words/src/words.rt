@@ -1,9 +1,9 @@
 //! The command of a row of words.
 ghost use Rattle.std.specs.Prelude.{◌≡◌, ◌≢◌, ◌↔◌, ◌∷◌, [], IfSome, IsTrue, codes, map, string_bytes};
-ghost use Rattle.office_words.specs.Words.{Reads, ReadsQuote, words_of};
+ghost use Rattle.office_words.specs.Words.{Reads, ReadsQuote, ReadsReport, ReadsYear, words_of};
 ghost use Rattle.office_words.specs.declared.command.Command.{Command as CommandData};
 
-use crate::command::{BookNumber, Command, QuoteRequest};
+use crate::command::{BookNumber, Command, QuoteRequest, ReportRequest, ReportYear};
 use crate::number::number_in;
 use aid_types::{School, Student, Year};
 
@@ -16,6 +16,7 @@ pub fn command_of(words: &[String]) -> Option<Command>
     match words {
         [only] => command_alone(only.as_str()),
         [first, second] => command_of_two(first.as_str(), second.as_str()),
+        [first, report, year] => command_of_three(first.as_str(), report.as_str(), year.as_str()),
         [first, school, student, year, term] => command_of_five(
             first.as_str(),
             school.as_str(),
@@ -55,6 +56,8 @@ fn command_of_two(first: &str, second: &str) -> Option<Command>
         book_command(second)
     } else if is_same_word(first, "check") {
         check_command(second)
+    } else if is_same_word(first, "report") {
+        report_command(second)
     } else {
         None
     }
@@ -79,6 +82,53 @@ fn check_command(what: &str) -> Option<Command>
     } else {
         None
     }
+}
+
+// The command to write a report of no year.
+fn report_command(report: &str) -> Option<Command>
+    ensures { Reads (codes "report" ∷ report.now ∷ []) result }
+{
+    if is_same_word(report, "lifetime") {
+        Some(Command::Report(ReportRequest::Lifetime))
+    } else {
+        None
+    }
+}
+
+// The command of three words.
+fn command_of_three(first: &str, report: &str, year: &str) -> Option<Command>
+    ensures { Reads (first.now ∷ report.now ∷ year.now ∷ []) result }
+{
+    if is_same_word(first, "report") {
+        Some(Command::Report(report_request(report, year)?))
+    } else {
+        None
+    }
+}
+
+// The report of a year that is asked for.
+fn report_request(report: &str, year: &str) -> Option<ReportRequest>
+    ensures { ReadsReport (report.now ∷ year.now ∷ []) result }
+{
+    let of = report_year(year)?;
+    if is_same_word(report, "standing") {
+        Some(ReportRequest::Standing(of))
+    } else if is_same_word(report, "awards") {
+        Some(ReportRequest::Awards(of))
+    } else if is_same_word(report, "returns") {
+        Some(ReportRequest::Returns(of))
+    } else {
+        None
+    }
+}
+
+// The year that a report is of.
+fn report_year(year: &str) -> Option<ReportYear>
+    ensures { ReadsYear year.now result }
+{
+    Some(ReportYear {
+        year: Year(number_in(year, 2000, 2099)? as u16),
+    })
 }
 
 // The command of five words.

@@ -13,7 +13,7 @@ use aid_edges::{Sink, Source};
 use disk_model::Disk;
 pub use forms::ByteForms;
 use kept_session::{INPUT_LIMIT, SessionStop, file};
-pub use rising::Rising;
+pub use rising::{AllNumbers, Rising};
 use std::alloc::Global;
 
 /// Files the numbers of an input into the list of the disk's file, and answers each by a line.

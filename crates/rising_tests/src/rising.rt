@@ -1,6 +1,7 @@
 // Numbers that rise, as a docket.
 use filing_journal::Header;
 use kept_list::{Docket, Judged, TakeFault};
+use kept_session::Report;
 use payload::Room;
 use std::alloc::{AllocError, Global};
 use std::marker::Model;
@@ -116,5 +117,18 @@ impl Docket for Rising {
             [number] => Ok(*number),
             _ => Err(TakeFault::NotEntry),
         }
+    }
+}
+
+/// All numbers that stand, the oldest first, a byte each.
+pub struct AllNumbers;
+
+impl Report<Rising> for AllNumbers {
+    ghost use Rattle.std.specs.Prelude.{reverse};
+
+    ghost text = { λ report past. reverse past };
+
+    fn write(&self, alloc: Global, docket: &Rising) -> Result<Vec<u8>, AllocError> {
+        docket.numbers.to_vec(alloc)
     }
 }

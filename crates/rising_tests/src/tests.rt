@@ -1,8 +1,8 @@
 // Numbers are filed, kept and filed again, or only looked at.
-use crate::{ByteForms, Rising, file_numbers};
+use crate::{AllNumbers, ByteForms, Rising, file_numbers};
 use aid_edges::{MemorySink, SteadySource};
 use disk_model::MemoryDisk;
-use kept_session::{Tally, check, found};
+use kept_session::{Tally, check, found, write_report};
 use std::test::Fail;
 
 #[test]
@@ -29,6 +29,16 @@ fn numbers_are_kept(rt: HostRuntime) -> Result<(), Fail> {
         assert_eq!(rt; sink.text(), text);
         disk = next;
     }
+    let mut sink = MemorySink::new(alloc, Vec::new(alloc));
+    let (ended, disk) = write_report::<MemoryDisk, MemorySink, Rising, AllNumbers>(
+        alloc,
+        disk,
+        &AllNumbers,
+        &mut sink,
+    );
+    assert!(rt; ended.is_ok());
+    let numbers: &[u8] = b"\x05\x09\x0a";
+    assert_eq!(rt; sink.text(), numbers);
     assert_eq!(rt; disk.image().len(), 17 + 3 * 6);
     Ok(())
 }

@@ -1,5 +1,5 @@
 //! Which rows of words are commands.
-use office_words::{Command, command_of};
+use office_words::{Command, ReportRequest, command_of};
 use std::alloc::{AllocError, Global};
 use std::process::Abort;
 use std::test::Fail;
@@ -11,6 +11,18 @@ fn command_in(alloc: Global, row: &str) -> Result<Option<Command>, AllocError> {
         words.push(String::from_str(alloc, word)?)?;
     }
     Ok(command_of(words.as_slice()))
+}
+
+// What a report is of.
+fn report_said(alloc: Global, report: ReportRequest) -> Result<String, AllocError> {
+    let (what, of) = match report {
+        ReportRequest::Standing(of) => ("standings", of),
+        ReportRequest::Awards(of) => ("awards", of),
+        ReportRequest::Returns(of) => ("returns", of),
+        ReportRequest::Lifetime => return format!(in alloc; "lifetime units"),
+    };
+    let year = of.year.0;
+    format!(in alloc; "{what} of {year}")
 }
 
 // What the command of a row says.
@@ -28,6 +40,7 @@ fn said(alloc: Global, row: &str) -> Result<String, AllocError> {
             let (year, term) = (quote.year.0, quote.term);
             format!(in alloc; "school {school}, student {student}, year {year}, term {term}")
         }
+        Some(Command::Report(report)) => report_said(alloc, report),
         Some(Command::CheckRows) => format!(in alloc; "rows are checked"),
         Some(Command::CheckBook) => format!(in alloc; "a book is checked"),
     }
@@ -36,7 +49,7 @@ fn said(alloc: Global, row: &str) -> Result<String, AllocError> {
 // A row of words, and what its command says.
 struct Case(&'static str, &'static str);
 
-static COMMANDS: [Case; 8] = [
+static COMMANDS: [Case; 12] = [
     Case("found", "an office is founded"),
     Case("file", "rows are filed"),
     Case("book 1", "book 1 is filed"),
@@ -46,11 +59,15 @@ static COMMANDS: [Case; 8] = [
         "quote 999999 999999999999 2099 8",
         "school 999999, student 999999999999, year 2099, term 8",
     ),
+    Case("report standing 2025", "standings of 2025"),
+    Case("report awards 2000", "awards of 2000"),
+    Case("report returns 2099", "returns of 2099"),
+    Case("report lifetime", "lifetime units"),
     Case("check rows", "rows are checked"),
     Case("check book", "a book is checked"),
 ];
 
-static NONE: [&str; 28] = [
+static NONE: [&str; 36] = [
     "",
     "Found",
     "found ",
@@ -76,6 +93,14 @@ static NONE: [&str; 28] = [
     "quote 110 0 2025 1",
     "quote 1000000 5001 2025 1",
     "quote 110 1000000000000 2025 1",
+    "report",
+    "report standing",
+    "report standing 1999",
+    "report awards 2100",
+    "report returns 02025",
+    "report lifetime 2025",
+    "report lifetimes",
+    "report standing 2025 1",
     "check",
     "check row",
     "rows",
