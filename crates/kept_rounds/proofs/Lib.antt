@@ -1,0 +1,3 @@
+pub mod Behind
+pub mod Moments
+pub mod Retold

@@ -1,0 +1,4 @@
+pub mod Asks
+pub mod Planned
+pub mod Counted
+pub mod Fronts
