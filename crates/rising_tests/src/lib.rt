@@ -5,13 +5,14 @@ ghost use Rattle.kept_session.specs.Sessions.{Session};
 ghost use Rattle.rising_tests.specs.Rising.{byte_rows, rising_judging, rising_scheme, rising_texts};
 
 mod forms;
+mod own;
 mod rising;
 #[cfg(test)]
 mod tests;
 
 use aid_edges::{Sink, Source};
 use disk_model::Disk;
-pub use forms::ByteForms;
+pub use forms::{ByteForms, BytesLeft};
 use kept_session::{INPUT_LIMIT, SessionStop, file};
 pub use rising::{AllNumbers, Rising};
 use std::alloc::Global;

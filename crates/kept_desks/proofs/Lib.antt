@@ -1,0 +1,6 @@
+pub mod Going
+pub mod Turning
+pub mod Rowing
+pub mod Gathering
+pub mod Working
+pub mod Writing

@@ -1,0 +1,27 @@
+-- The text of all desks.
+use Rattle.std.specs.Prelude.{◌≡◌, ◌+◌, ℕ, List, [], ◌++◌, IsTrue, Option, Some, None}
+use Rattle.kept_session.specs.Edges.{Output}
+use Rattle.kept_desks.specs.declared.names.RowName.{RowName}
+use Rattle.kept_desks.specs.declared.stop.DeskStop.{DeskStop}
+use Rattle.kept_desks.specs.declared.stop.DeskEnd.{DeskEnd}
+use Rattle.kept_desks.specs.declared.stop.DeskEnd.TheVariants.{Open, Done, Stopped}
+use Rattle.kept_desks.specs.Desks.{DeskView}
+
+-- the row at which a desk stopped, and why, where it did
+abbrev pub stop_at : ℕ → ℕ → DeskEnd → Option (RowName × DeskStop)
+stop_at desk answered Open = None
+stop_at desk answered Done = None
+stop_at desk answered (Stopped stop) = Some (record { desk = desk; row = answered + 1 }, stop)
+
+-- the line of a stop
+abbrev pub stop_text : (RowName → DeskStop → List ℕ) → Option (RowName × DeskStop) → List ℕ
+stop_text line None = []
+stop_text line (Some (at, stop)) = line at stop
+
+-- the lines of a desk: one for each row that was answered, and one for its stop
+abbrev pub desk_text : {Entry Lines : Type 0} → (RowName → DeskStop → List ℕ) → DeskView Entry Lines → List ℕ
+desk_text line desk = desk.text ++ stop_text line (stop_at desk.number desk.answered desk.ended)
+
+-- of these bytes some in front were written
+abbrev pub HasWrittenFront : List ℕ → Output → Type 0
+HasWrittenFront text output = IsTrue output.honest → (front : List ℕ) × (rest : List ℕ) × (text ≡ front ++ rest) × (output.after ≡ output.before ++ front)

@@ -1,0 +1,161 @@
+// A desk: its rows, its lines, and its pass of the lock.
+ghost use Rattle.std.specs.Prelude.{◌≡◌, ◌+◌, ◌<◌, ◌^◌, [], None, Some, length};
+ghost use Rattle.office_lock.specs.declared.turned.Stand.{Stand};
+ghost use Rattle.kept_desks.specs.declared.names.Filed.{Filed as FiledEntry};
+ghost use Rattle.kept_desks.specs.Desks.{IsReady, Works};
+ghost use Rattle.kept_desks.specs.DeskTexts.{stop_at};
+
+use crate::filing::file_rows;
+use crate::{DeskEnd, DeskStop, Filed, Gate, OwnDocket, RowName, SharedList};
+use disk_model::Disk;
+use kept_list::Docket;
+use kept_session::Rows;
+use office_lock::{Pass, Turned, Turns};
+use std::alloc::Global;
+use std::marker::Model;
+use std::sync::Wait;
+
+/// A desk with the rows of its input. It has a pass of the lock while the lock is open, files its rows once, and keeps
+/// its lines.
+#[derive(Drop)]
+pub struct Desk<R: OwnDocket, L: Rows<R>> {
+    number: u32,
+    prefix: Vec<u8>,
+    rows: L,
+    text: Vec<u8>,
+    answered: u32,
+    ended: DeskEnd,
+    pass: Option<Pass<Filed<R::Entry>>>,
+}
+
+impl<R: OwnDocket, L: Rows<R>> Model for Desk<R, L> {
+    ghost use Rattle.std.specs.Prelude.{◌≡◌, ◌+◌, ◌<◌, ◌^◌, [], length};
+    ghost use Rattle.kept_desks.specs.Desks.{DeskView};
+    ghost use Rattle.kept_desks.specs.declared.stop.DeskEnd.TheVariants.{Open};
+
+    ghost Value = { DeskView R.Entry L };
+
+    ghost view = { λ d. record {
+      number = d.number;
+      prefix = d.prefix.items;
+      rows = d.rows;
+      text = d.text.items;
+      answered = d.answered;
+      ended = d.ended;
+      pass = d.pass;
+    } };
+
+    ghost invariant = { λ d. (d.answered + 1 < 2 ^ 32) × (d.ended ≡ Open → (length (L.left d.rows) + 1 < 2 ^ 32) × (d.text.items ≡ [])) };
+}
+
+impl<R: OwnDocket, L: Rows<R>> Desk<R, L> {
+    /// A desk with these rows, which writes the prefix before each of its lines.
+    pub fn new(alloc: Global, number: u32, prefix: Vec<u8>, rows: L) -> Desk<R, L>
+        requires { length (L.left rows) + 1 < 2 ^ 32 }
+        ensures { result ≡ record {
+          number = number;
+          prefix = prefix.items;
+          rows = rows;
+          text = [];
+          answered = 0;
+          ended = DeskEnd.Open;
+          pass = None;
+        } }
+    {
+        Desk {
+            number,
+            prefix,
+            rows,
+            text: Vec::new(alloc),
+            answered: 0,
+            ended: DeskEnd::Open,
+            pass: None,
+        }
+    }
+
+    /// At most so many rows are left.
+    pub fn at_most(&self) -> u32 {
+        self.rows.at_most()
+    }
+
+    // Takes a pass of the lock.
+    pub(crate) fn give(&mut self, pass: Pass<Filed<R::Entry>>)
+        ensures { self.new ≡ record self.old { pass = Some pass } }
+    {
+        self.pass = Some(pass);
+    }
+
+    // Gives its pass back.
+    pub(crate) fn take(&mut self) -> Option<Pass<Filed<R::Entry>>>
+        ensures pass { result ≡ self.old.pass }
+        ensures rest { self.new ≡ record self.old { pass = None } }
+    {
+        self.pass.take()
+    }
+
+    /// Its lines so far.
+    pub fn text(&self) -> &[u8]
+        ensures { result.now ≡ self.now.text }
+    {
+        self.text.as_slice()
+    }
+
+    /// What it writes before each of its lines.
+    pub fn prefix(&self) -> &[u8]
+        ensures { result.now ≡ self.now.prefix }
+    {
+        self.prefix.as_slice()
+    }
+
+    /// The row at which it stopped, and why, where it did.
+    pub fn stopped(&self) -> Option<(RowName, DeskStop)>
+        ensures { result ≡ stop_at self.now.number self.now.answered self.now.ended }
+    {
+        match self.ended {
+            DeskEnd::Stopped(stop) => {
+                let at = RowName {
+                    desk: self.number,
+                    row: self.answered + 1,
+                };
+                Some((at, stop))
+            }
+            _ => None,
+        }
+    }
+
+    /// How many rows it answered, and how it ended.
+    pub fn ended(&self) -> (u32, DeskEnd)
+        ensures answered { result.0 ≡ self.now.answered }
+        ensures ended { result.1 ≡ self.now.ended }
+    {
+        (self.answered, self.ended)
+    }
+
+    /// Files the rows, each in a turn of the lock, from the first to the last or to a stop.
+    pub fn work<D: Disk, G: Gate, H: Wait>(
+        &mut self,
+        rt: &H,
+        turns: &Turns<SharedList<D, R>>,
+        gate: &G,
+    )
+        requires { (opening : Stand (FiledEntry R.Entry)) × IsReady turns.now.id opening self.old }
+        ensures { Works R.judging R.own L.texts L.left turns.now.id self.old self.new }
+    {
+        let Some(mut pass) = self.pass.take() else {
+            return;
+        };
+        let (answered, ended) = file_rows::<D, R, L, G, H>(
+            rt,
+            turns,
+            gate,
+            &mut pass,
+            self.number,
+            &self.prefix,
+            &mut self.rows,
+            &mut self.text,
+        );
+        self.answered = answered;
+        self.ended = ended;
+        self.pass = Some(pass);
+    }
+}

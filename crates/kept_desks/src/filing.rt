@@ -1,0 +1,56 @@
+// The rows of one desk, from the first to the last or to a stop.
+ghost use Rattle.std.specs.Prelude.{◌≡◌, ◌≢◌, ◌≤◌, ◌<◌, ◌^◌, [], length};
+ghost use Rattle.office_lock.specs.Passes.{IsOlder};
+ghost use Rattle.kept_desks.specs.Names.{entries_of};
+ghost use Rattle.kept_desks.specs.Answered.{Files, IsClean};
+
+use crate::row::file_row;
+use crate::{DeskEnd, DeskStop, Filed, Gate, OwnDocket, RowName, SharedList};
+use disk_model::Disk;
+use kept_list::Docket;
+use kept_session::Rows;
+use office_lock::{Pass, Turned, Turns};
+use std::sync::Wait;
+
+/// Files the rows that are left, in order, each in a turn of the lock, and appends a line for each. It ends at the first
+/// fault of the disk and at want of memory. It answers how many rows have lines.
+pub fn file_rows<D: Disk, R: OwnDocket, L: Rows<R>, G: Gate, H: Wait>(
+    rt: &H,
+    turns: &Turns<SharedList<D, R>>,
+    gate: &G,
+    pass: &mut Pass<Filed<R::Entry>>,
+    desk: u32,
+    prefix: &[u8],
+    rows: &mut L,
+    text: &mut Vec<u8>,
+) -> (u32, DeskEnd)
+    requires lock { pass.old.lock ≡ turns.now.id }
+    requires few { length (L.left rows.old) < 2 ^ 32 }
+    requires older { IsOlder (entries_of pass.old.opening.list) (entries_of pass.old.seen) }
+    requires mine { pass.old.mine ≡ [] }
+    requires clean { IsClean pass.old }
+    requires empty { text.old.items ≡ [] }
+    ensures files { Files R.judging R.own L.texts desk prefix.now (L.left rows.old) text.new.items result.0 result.1 pass.new }
+    ensures count { result.0 ≤ length (L.left rows.old) }
+    ensures ended { result.1 ≢ DeskEnd.Open }
+    ensures lock { pass.new.lock ≡ pass.old.lock }
+    ensures share { pass.new.allowance ≡ pass.old.allowance }
+    ensures opening { pass.new.opening ≡ pass.old.opening }
+{
+    let mut count = 0;
+    loop {
+        let row = match rows.next() {
+            Ok(Some(row)) => row,
+            Ok(None) => return (count, DeskEnd::Done),
+            Err(_) => return (count, DeskEnd::Stopped(DeskStop::NoMemory)),
+        };
+        let by = RowName {
+            desk,
+            row: count + 1,
+        };
+        match file_row::<D, R, L, G, H>(rt, turns, gate, pass, by, prefix, row, text) {
+            Ok(()) => count += 1,
+            Err(stop) => return (count, DeskEnd::Stopped(stop)),
+        }
+    }
+}

@@ -1,0 +1,25 @@
+//! Desks that file rows into one kept list at once, each from a thread of its own where one can be made.
+#![tactic(auto)]
+
+mod crew;
+mod desk;
+mod filing;
+mod gate;
+mod names;
+mod own;
+mod row;
+mod shared;
+mod stop;
+mod text;
+mod words;
+
+pub use crew::{close_desks, open_desks};
+pub use desk::Desk;
+pub use filing::file_rows;
+pub use gate::{FreeGate, Gate, HoldGate};
+pub use names::{Filed, RowAsk, RowName};
+pub use own::OwnDocket;
+pub use shared::SharedList;
+pub use stop::{DeskEnd, DeskStop};
+pub use text::{TextStop, write_desks};
+pub use words::DeskWords;

@@ -1,0 +1,167 @@
+// A kept list as a state that takes turns.
+ghost use Rattle.std.specs.Prelude.{◌≡◌, ◌+◌, ◌≤◌, ◌<◌, ◌^◌, [], None, Bool, ℕ, List, OnOk, OnErr, IsOk, reverse, vec_len, vec_capacity, length};
+ghost use Rattle.disk_model.specs.Telling.{IsHonest};
+ghost use Rattle.kept_list.specs.Kept.{IsSound};
+ghost use Rattle.kept_list.specs.Turns.{with_entry};
+ghost use Rattle.kept_desks.specs.Notes.{Notes};
+
+use crate::{Filed, OwnDocket, RowAsk, RowName};
+use disk_model::Disk;
+use kept_list::{Docket, KeptList, ListReply};
+use office_lock::Turned;
+use std::alloc::{AllocError, Global};
+use std::marker::Model;
+
+/// A kept list over which desks take turns. It notes which rows filed the entries that joined it since it was made.
+#[derive(Drop)]
+pub struct SharedList<D: Disk, R: OwnDocket> {
+    kept: KeptList<D, R>,
+    // The rows that filed them, the oldest first.
+    log: Vec<RowName>,
+    // The row whose entry is undecided.
+    waiting: Option<RowName>,
+}
+
+impl<D: Disk, R: OwnDocket> Model for SharedList<D, R> {
+    ghost use Rattle.std.specs.Prelude.{reverse};
+    ghost use Rattle.kept_desks.specs.Shares.{Shared, AreBoth};
+
+    ghost Value = { Shared D R.Entry };
+
+    ghost view = { λ s. record {
+      disk = s.kept.disk;
+      history = s.kept.history;
+      pending = s.kept.pending;
+      room = s.kept.room;
+      log = reverse s.log.items;
+      waiting = s.waiting;
+    } };
+
+    ghost invariant = { λ s. AreBoth s.kept.pending s.waiting };
+}
+
+// What was undecided is settled: the row that waited for it is noted.
+fn note_settled(log: &mut Vec<RowName>, waiting: &mut Option<RowName>)
+    requires { vec_len log.old + 1 ≤ vec_capacity log.old }
+    ensures log { reverse log.new.items ≡ with_entry waiting.old (reverse log.old.items) }
+    ensures waiting { waiting.new ≡ None }
+    ensures room { (vec_len log.new ≤ vec_len log.old + 1) × (vec_capacity log.new ≡ vec_capacity log.old) }
+{
+    if let Some(by) = waiting.take() {
+        log.push_reserved(by);
+    }
+}
+
+// Notes what a row's reply says of the rows that filed entries.
+fn note<R: OwnDocket>(
+    log: &mut Vec<RowName>,
+    waiting: &mut Option<RowName>,
+    front: u32,
+    by: RowName,
+    reply: &ListReply<R::Verdict>,
+)
+    requires room { vec_len log.old + 2 ≤ vec_capacity log.old }
+    requires few { front + 1 < 2 ^ 32 }
+    ensures { Notes R.adds by front reply.now (reverse log.old.items) waiting.old (reverse log.new.items) waiting.new }
+{
+    match reply {
+        ListReply::Answered { verdict, front: _ } => {
+            note_settled(log, waiting);
+            if R::is_added(verdict) {
+                log.push_reserved(by);
+            }
+        }
+        ListReply::DiskFault { undecided: None } => note_settled(log, waiting),
+        ListReply::DiskFault {
+            undecided: Some(position),
+        } => {
+            if waiting.is_none() || *position != front + 1 {
+                note_settled(log, waiting);
+                *waiting = Some(by);
+            }
+        }
+        ListReply::NoMemory => {}
+    }
+}
+
+impl<D: Disk, R: OwnDocket> SharedList<D, R> {
+    /// Shares a list of which nothing is undecided.
+    pub fn new(alloc: Global, kept: KeptList<D, R>) -> SharedList<D, R>
+        requires { kept.pending ≡ None }
+        ensures disk { result.disk ≡ kept.disk }
+        ensures history { result.history ≡ kept.history }
+        ensures pending { result.pending ≡ None }
+        ensures room { result.room ≡ kept.room }
+        ensures log { result.log ≡ [] }
+        ensures waiting { result.waiting ≡ None }
+    {
+        SharedList {
+            kept,
+            log: Vec::new(alloc),
+            waiting: None,
+        }
+    }
+
+    /// Makes room for so many turns. An `Err` is want of memory, and leaves all as it was.
+    pub fn reserve(&mut self, n: u32) -> Result<(), AllocError>
+        ensures disk { self.new.disk ≡ self.old.disk }
+        ensures history { self.new.history ≡ self.old.history }
+        ensures pending { self.new.pending ≡ self.old.pending }
+        ensures log { self.new.log ≡ self.old.log }
+        ensures waiting { self.new.waiting ≡ self.old.waiting }
+        ensures room { OnOk result (n ≤ self.new.room) }
+        ensures no_less { self.old.room ≤ self.new.room }
+    {
+        self.log.reserve(n as usize + 2)?;
+        self.kept.reserve(n)
+    }
+
+    /// Ends the sharing. It gives the list back, and the rows that filed the newest entries, the oldest first.
+    pub fn into_parts(self) -> (KeptList<D, R>, Vec<RowName>)
+        ensures disk { result.0.disk ≡ self.disk }
+        ensures history { result.0.history ≡ self.history }
+        ensures pending { result.0.pending ≡ self.pending }
+        ensures room { result.0.room ≡ self.room }
+        ensures log { reverse result.1.items ≡ self.log }
+        ensures sound { IsHonest (D.tells self.disk) → IsSound R.scheme (D.tells self.disk) self.history self.pending }
+    {
+        let SharedList {
+            kept,
+            log,
+            waiting: _,
+        } = self;
+        kept.sound();
+        (kept, log)
+    }
+}
+
+impl<D: Disk, R: OwnDocket> Turned for SharedList<D, R> {
+    ghost use Rattle.kept_desks.specs.Names.{filed_by};
+    ghost use Rattle.kept_desks.specs.Notes.{says_of};
+    ghost use Rattle.kept_desks.specs.Shares.{stand_of, IsTurn};
+
+    type Ask = RowAsk<R::Ask>;
+
+    type Reply = ListReply<R::Verdict>;
+
+    type Entry = Filed<R::Entry>;
+
+    ghost stand = { λ s. stand_of s.history s.pending s.log s.waiting (D.faults s.disk) (D.tells s.disk).honest };
+
+    ghost own = { λ ask. filed_by (R.own ask.ask) ask.by };
+
+    ghost says = { says_of R.adds };
+
+    ghost meets = { λ old ask reply new. IsTurn R.judging old ask.ask reply new };
+
+    fn turn(&mut self, ask: RowAsk<R::Ask>) -> ListReply<R::Verdict> {
+        if self.log.reserve(2).is_err() {
+            return ListReply::NoMemory;
+        }
+        let RowAsk { ask, by } = ask;
+        let front = self.kept.docket().front();
+        let reply = self.kept.turn(ask);
+        note::<R>(&mut self.log, &mut self.waiting, front, by, &reply);
+        reply
+    }
+}
