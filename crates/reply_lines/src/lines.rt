@@ -41,6 +41,15 @@ pub fn put_quote(cents: u64, out: &mut Vec<u8>) -> Result<(), AllocError>
     out.extend_from_slice(line.as_str().as_bytes())
 }
 
+/// An outcome as a line has it.
+pub fn outcome_line(outcome: &Outcome) -> ArrayString<160>
+    ensures { result.bytes ≡ outcome_text outcome.now }
+{
+    let mut line = ArrayString::<160>::new();
+    push_outcome(&mut line, outcome);
+    line
+}
+
 // The line of a verdict.
 fn answer_text(row: u32, front: u32, verdict: &Verdict) -> ArrayString<160>
     ensures { result.bytes ≡ line_of row (reply_of front verdict.now) }
@@ -168,8 +177,8 @@ fn push_returned(line: &mut ArrayString<160>, percent: u16, school: u64, owed: u
     push_cents(line, post);
 }
 
-// The letter of a formula.
-fn formula_name(formula: Formula) -> &'static str
+/// The letter of a formula.
+pub fn formula_name(formula: Formula) -> &'static str
     ensures text { result.now ≡ formula_text formula }
     ensures short { length result.now ≤ 1 }
 {
@@ -180,8 +189,8 @@ fn formula_name(formula: Formula) -> &'static str
     }
 }
 
-// The word for a way to an award.
-fn way_name(way: Way) -> &'static str
+/// The word for a way to an award.
+pub fn way_name(way: Way) -> &'static str
     ensures text { result.now ≡ way_text way }
     ensures short { length result.now ≤ 10 }
 {

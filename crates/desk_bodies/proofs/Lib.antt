@@ -1,0 +1,5 @@
+pub mod DraftLemmas
+pub mod FilingLemmas
+pub mod MemberLemmas
+pub mod NumberLemmas
+pub mod ValueLemmas

@@ -1,0 +1,4 @@
+pub mod Drafts
+pub mod Filings
+pub mod Replies
+pub mod Values

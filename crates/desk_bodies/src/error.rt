@@ -1,0 +1,10 @@
+//! Why a body gives no filing.
+
+/// Why a body gives no filing.
+#[derive(Clone, Copy, PartialEq, Eq, Debug)]
+pub enum BodyError {
+    /// The body says no filing.
+    NotFiling,
+    /// Memory ran out.
+    NoMemory,
+}
