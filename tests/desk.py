@@ -7,6 +7,7 @@ from dataclasses import dataclass
 from datetime import date
 
 sys.path.append(os.path.join(os.path.dirname(os.path.dirname(os.path.abspath(__file__))), "scripts"))
+import generated
 import model
 import year_book
 
@@ -239,6 +240,22 @@ class Desk:
     def quote(self, school, student, year, term):
         """What `quote SCHOOL STUDENT YEAR TERM` prints."""
         return f"quote {model.quote(self.history, school, student, year, term) // 100}\n"
+
+    def generate(self, seed, students, text):
+        """What `generate SEED STUDENTS` prints."""
+        try:
+            book = book_of(year_book.read(text))
+        except year_book.NotABook as error:
+            return f"{error.line}\n"
+        accepted = refused = pell = returned = 0
+        for filing in generated.filings(book, seed, students, lambda *place: model.quote(self.history, *place)):
+            answer = model.file(self.history, filing)
+            refused += isinstance(answer, model.Refused)
+            accepted += not isinstance(answer, model.Refused)
+            if isinstance(answer, model.Admitted):
+                pell += filing.cents if isinstance(filing, model.Payment) else 0
+                returned += answer.outcome.school if isinstance(filing, model.Withdrawal) else 0
+        return f"accepted {accepted}\nrefused {refused}\npell {money(pell)}\nreturned {money(returned)}\n"
 
     def report(self, which, year=None):
         """What `report standing YEAR`, `report awards YEAR`, `report returns YEAR` and `report lifetime` print."""

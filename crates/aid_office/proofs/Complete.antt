@@ -17,6 +17,8 @@ use Rattle.kept_list.specs.declared.kept.FoundFault.TheVariants as fault_of
 use Rattle.kept_office.specs.Scheme.{office_scheme}
 use Rattle.kept_office.specs.Turns.{office_judging}
 use Rattle.desk_forms.specs.Lines.{fine_line}
+use Rattle.kept_rounds.specs.Counted.{Counted, CountedSession}
+use Rattle.kept_rounds.specs.Counted as counting
 use Rattle.kept_session.specs.Checks.{Checks, LooksAt, Looks}
 use Rattle.kept_session.specs.Checks as looking
 use Rattle.kept_session.specs.Edges.{Input, Output}
@@ -34,8 +36,11 @@ use Rattle.kept_session.specs.declared.stop.ReadStop.{ReadStop}
 use Rattle.kept_session.specs.declared.stop.ReadStop.TheVariants as reading
 use Rattle.kept_session.specs.declared.stop.SessionStop.{SessionStop}
 use Rattle.office_words.specs.declared.command.Command.{Command}
-use Rattle.aid_office.specs.Asks.{book_rows, book_texts, desk_rows, desk_texts, quote_rows, quote_texts, report_text}
-use Rattle.aid_office.specs.Ran.{CanBeDone, ChecksBook, ChecksRows, Counts, HasCause, Does, founding, filing, booking, quoting, reporting, checking_rows, checking_book, Ends, well, told, untold, Tallies, tallied, unwritten, starved, stopped, from, up_to}
+use Rattle.generated_rows.specs.Texts.{rows_of_text, year_texts}
+use Rattle.generated_year.specs.Counted.{year_counted, year_ending}
+use Rattle.generated_year.specs.Payments.{year_judging}
+use Rattle.aid_office.specs.Asks.{book_rows, book_texts, desk_rows, desk_texts, no_verdicts, quote_rows, quote_texts, report_text}
+use Rattle.aid_office.specs.Ran.{CanBeDone, ChecksBook, ChecksRows, Counts, HasCause, Does, founding, filing, booking, quoting, reporting, generating, checking_rows, checking_book, Ends, well, told, untold, Tallies, tallied, unwritten, starved, stopped, from, up_to}
 use Rattle.aid_office.specs.Ran as run
 use Rattle.aid_office.specs.Statuses.{check_status, ended_check, ended_file, ended_found, found_status, open_status, read_status, status_of}
 use Rattle.aid_office.specs.declared.stop.RunStop.{RunStop}
@@ -87,6 +92,21 @@ module _ {D Entry : Type 0} (disk : Ghosts D) (scheme : Scheme Entry) (old new :
   reported_by text output ended (telling.starved past is same) = inr (inr (inr refl))
 
   module _ {Ask Verdict Error : Type 0} (judging : Judging Entry Ask Verdict) (texts : Texts Ask Verdict Error) (output : Output) where
+    module _ {Tally : Type 0} (counts : Tally → Verdict → Tally) (ending : Tally → List ℕ) (start : Tally) where
+      counted_by : (left : List texts.Meaning) (ended : Result Unit SessionStop) → Counted disk scheme judging texts counts ending start old new output left ended
+          → IfErr (ended_file ended) (λ stop. IsExcused (status_of stop))
+      counted_by left ended (counting.unopened error u same) = unopened_by error u
+      counted_by left ended (counting.ended past at final error is counts wrote) = tt
+      counted_by left ended (counting.unwritten past at final error is counts cut) = inr (inl refl)
+      counted_by left ended (counting.untold past at final error is counts same) = inr (inr (inr refl))
+      counted_by left ended (counting.stopped past at final stop is counts same) = filed_by (Err stop)
+
+      counted_session_by : (rows_of : List ℕ → List texts.Meaning) (limit : ℕ) (input : Input) (ended : Result Unit SessionStop)
+          → CountedSession disk scheme judging texts counts ending start rows_of limit old new input output ended
+          → IsTrue input.honest → length input.before ≤ limit → IfErr (ended_file ended) (λ stop. IsExcused (status_of stop))
+      counted_session_by rows_of limit input ended (counting.unread stop is same silent) source short = unread_by stop limit input is source short
+      counted_session_by rows_of limit input ended (counting.read left inner is are counts) source short = counted_by left inner counts
+
     opened_by : (left : List texts.Meaning) (ended : Result Unit SessionStop) → Opens disk scheme judging texts old new output left ended
         → IfErr (ended_file ended) (λ stop. IsExcused (status_of stop))
     opened_by left ended (unopened error u same) = unopened_by error u
@@ -139,6 +159,9 @@ done_by disk old new input output command ended (quoting quote inner opens) can 
     opened_by disk office_scheme old new can.0 can.1 can.2 office_judging quote_texts output (quote_rows quote) inner opens
 done_by disk old new input output command ended (reporting report inner reports) can =
     reported_by disk office_scheme old new can.0 can.1 can.2 (report_text report) output inner reports
+done_by disk old new input output command ended (generating generate inner session) can =
+    counted_session_by disk office_scheme old new can.1.0 can.1.1 can.1.2 (year_judging office_judging) year_texts output year_counted year_ending no_verdicts
+    (rows_of_text generate.students generate.seed) 16777216 input inner session can.0.0 can.0.1
 done_by disk old new input output command ended (checking_rows _ same checks) can = rows_by input output ended checks can.0 can.1
 done_by disk old new input output command ended (checking_book _ same checks) can = book_by input output ended checks can.0 can.1
 

@@ -16,6 +16,10 @@ use Rattle.kept_office.specs.OfficeLaws.{alone}
 use Rattle.kept_office.specs.Recovers.{Recovers}
 use Rattle.kept_office.specs.Scheme.{office_header, office_scheme}
 use Rattle.kept_office.specs.Turns.{office_judging}
+use Rattle.generated_rows.specs.Texts.{rows_of_text, year_texts}
+use Rattle.generated_year.specs.Counted.{year_counted, year_ending}
+use Rattle.generated_year.specs.Payments.{year_judging}
+use Rattle.kept_rounds.proofs.Moments.{images_of_counted_session, moments_of_counted_session}
 use Rattle.kept_session.specs.Edges.{Input, Output}
 use Rattle.kept_session.specs.Links.{IsOpened}
 use Rattle.kept_session.specs.Reports.{Reports}
@@ -28,9 +32,9 @@ use Rattle.kept_session.proofs.Fronts.{images_of_session, moments_of_session}
 use Rattle.office_history.specs.Answer.{answer_to, is_admit}
 use Rattle.office_words.specs.declared.command.Command.{Command}
 use Rattle.office_words.specs.declared.command.QuoteRequest.{QuoteRequest}
-use Rattle.aid_office.specs.Asks.{book_rows, book_texts, desk_rows, desk_texts, quote_ask, quote_rows, quote_texts, report_text}
+use Rattle.aid_office.specs.Asks.{book_rows, book_texts, desk_rows, desk_texts, no_verdicts, quote_ask, quote_rows, quote_texts, report_text}
 use Rattle.aid_office.specs.Moments.{MayRecover, Stands, StoodBefore}
-use Rattle.aid_office.specs.Ran.{Does, founding, filing, booking, quoting, reporting, checking_rows, checking_book}
+use Rattle.aid_office.specs.Ran.{Does, founding, filing, booking, quoting, reporting, generating, checking_rows, checking_book}
 use Rattle.aid_office.specs.Statuses.{ended_file, ended_found}
 use Rattle.aid_office.specs.declared.stop.RunStop.{RunStop}
 
@@ -115,6 +119,9 @@ module _ {D : Type 0} (disk : Ghosts D) (only : (d : D) (c : List ℕ) → IsHon
       (moments_of_session disk office_scheme office_judging only quote_texts output once (λ text. quote_rows quote) 0 (record { honest = true; before = []; after = [] }) here inner past old new honest each
       (as_session quote old new output inner opens))
   moments old new input output command ended past (reporting report inner reports) honest each = moments_of_report old new (report_text report) output inner past honest each reports
+  moments old new input output command ended past (generating generate inner session) honest each =
+      moments_of_counted_session disk office_scheme (year_judging office_judging) only year_texts once here year_counted year_ending no_verdicts
+      (rows_of_text generate.students generate.seed) 16777216 input output inner past old new honest each session
   moments old new input output command ended past (checking_rows _ same checks) honest each = stays old new past honest each same
   moments old new input output command ended past (checking_book _ same checks) honest each = stays old new past honest each same
 
@@ -150,5 +157,8 @@ module _ {D : Type 0} (disk : Ghosts D) (only : (d : D) (c : List ℕ) → IsHon
       λ c image. subst (λ (h : List Filing). Recovers c h) (quotes_add quote past rows [] (sym (said refl) ∙ sym (append-nil (map (λ row. row) rows)))) (images c image)
   stands old new input output command ended past (reporting report inner reports) well honest stood =
       stands_of_report old new (report_text report) output inner past honest stood reports (session_done inner well)
+  stands old new input output command ended past (generating generate inner session) well honest stood =
+      images_of_counted_session disk office_scheme (year_judging office_judging) only year_texts once here year_counted year_ending no_verdicts
+      (rows_of_text generate.students generate.seed) 16777216 input output inner past old new (session_done inner well) honest stood session
   stands old new input output command ended past (checking_rows _ same checks) well honest stood = tt
   stands old new input output command ended past (checking_book _ same checks) well honest stood = tt

@@ -19,6 +19,7 @@ use Rattle.office_words.specs.declared.command.ReportRequest.{ReportRequest}
 use Rattle.office_words.specs.declared.command.ReportRequest.TheVariants as reports
 use Rattle.reply_lines.specs.Lines.{line_of, quote_line, reply_of}
 use Rattle.year_books.specs.declared.error.BookError.{BookError}
+use Rattle.generated_year.specs.declared.tally.YearTally.{YearTally}
 
 -- what an ask files, by its kind and its numbers, if it files anything
 abbrev pub filed_by : Ask → Option (Kind × List ℤ)
@@ -92,6 +93,11 @@ report_text (reports.Standing of) past = standing_report past of.year
 report_text (reports.Awards of) past = award_report past of.year
 report_text (reports.Returns of) past = return_report past of.year
 report_text reports.Lifetime past = lifetime_report past
+
+-- ---- a generated year
+-- the tally of no verdicts
+abbrev pub no_verdicts : YearTally
+no_verdicts = record { accepted = 0; refused = 0; paid = 0; returned = 0 }
 
 -- ---- what is left to be taken
 -- of a book, where it wasn't taken

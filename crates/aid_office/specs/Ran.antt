@@ -8,6 +8,10 @@ use Rattle.filing_journal.specs.Stands.{IsUnborn}
 use Rattle.kept_office.specs.Faulty.{IsFaultyAt}
 use Rattle.kept_office.specs.Scheme.{office_header, office_scheme}
 use Rattle.kept_office.specs.Turns.{office_judging}
+use Rattle.generated_rows.specs.Texts.{rows_of_text, year_texts}
+use Rattle.generated_year.specs.Counted.{year_counted, year_ending}
+use Rattle.generated_year.specs.Payments.{year_judging}
+use Rattle.kept_rounds.specs.Counted.{CountedSession}
 use Rattle.kept_session.specs.Checks.{Checks}
 use Rattle.kept_session.specs.Edges.{Input, Output, HasWritten, HasWrittenShort}
 use Rattle.kept_session.specs.Reports.{Reports}
@@ -21,10 +25,11 @@ use Rattle.desk_forms.specs.Lines.{fine_line, tally_line}
 use Rattle.office_words.specs.Words.{words_of}
 use Rattle.office_words.specs.declared.command.BookNumber.{BookNumber}
 use Rattle.office_words.specs.declared.command.Command.{Command}
-use Rattle.office_words.specs.declared.command.Command.TheVariants.{Found, File, Book, Quote, Report, CheckRows, CheckBook}
+use Rattle.office_words.specs.declared.command.Command.TheVariants.{Found, File, Book, Quote, Report, Generate, CheckRows, CheckBook}
+use Rattle.office_words.specs.declared.command.GenerateRequest.{GenerateRequest}
 use Rattle.office_words.specs.declared.command.QuoteRequest.{QuoteRequest}
 use Rattle.office_words.specs.declared.command.ReportRequest.{ReportRequest}
-use Rattle.aid_office.specs.Asks.{book_rows, book_texts, desk_rows, desk_texts, quote_rows, quote_texts, report_text}
+use Rattle.aid_office.specs.Asks.{book_rows, book_texts, desk_rows, desk_texts, no_verdicts, quote_rows, quote_texts, report_text}
 use Rattle.aid_office.specs.Statuses.{ended_check, ended_file, ended_found, fault_line, status_of, is_disk_fault, is_read_fault}
 use Rattle.aid_office.specs.declared.stop.RunStop.{RunStop}
 use Rattle.aid_office.specs.declared.stop.RunStop.TheVariants as stops
@@ -70,6 +75,12 @@ pub data Does {D : Type 0} (disk : Ghosts D) (old new : D) (input : Input) (outp
   -- `report`: the office is opened, and the report on it is written
   reporting : (report : ReportRequest) (ended : Result Unit SessionStop) → Reports disk office_scheme (report_text report) old new output ended
       → Does disk old new input output (Report report) (ended_file ended)
+  -- `generate`: the rows of a generated year are filed, whose book is the text of the input, and what they come to is written; where
+  -- the text is no book, its line alone is
+  generating : (generate : GenerateRequest) (ended : Result Unit SessionStop)
+      → CountedSession disk office_scheme (year_judging office_judging) year_texts year_counted year_ending no_verdicts
+      (rows_of_text generate.students generate.seed) 16777216 old new input output ended
+      → Does disk old new input output (Generate generate) (ended_file ended)
   -- `check rows` and `check book`: lines are written, and no call is made on the disk
   checking_rows : (ended : Result Unit RunStop) → new ≡ old → ChecksRows input output ended → Does disk old new input output CheckRows ended
   checking_book : (ended : Result Unit RunStop) → new ≡ old → ChecksBook input output ended → Does disk old new input output CheckBook ended
@@ -138,5 +149,6 @@ CanBeDone File honest size disk = IsShort honest size × IsOffice disk
 CanBeDone (Book book) honest size disk = IsShort honest size × IsOffice disk
 CanBeDone (Quote quote) honest size disk = IsOffice disk
 CanBeDone (Report report) honest size disk = IsOffice disk
+CanBeDone (Generate generate) honest size disk = IsShort honest size × IsOffice disk
 CanBeDone CheckRows honest size disk = IsShort honest size
 CanBeDone CheckBook honest size disk = IsShort honest size

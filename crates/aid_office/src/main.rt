@@ -48,6 +48,7 @@ usage: aid_office JOURNAL found
        aid_office JOURNAL report awards YEAR
        aid_office JOURNAL report returns YEAR
        aid_office JOURNAL report lifetime
+       aid_office JOURNAL generate SEED STUDENTS < BOOK.toml
        aid_office JOURNAL check rows < ROWS.csv
        aid_office JOURNAL check book < BOOK.toml";
 

@@ -19,7 +19,10 @@ use crate::report::OfficeReport;
 use crate::stop::{RunStop, ended_filing, ended_founding};
 use aid_edges::{Sink, Source, write_whole};
 use disk_model::Disk;
+use generated_rows::YearForms;
+use generated_year::{GeneratedOffice, YearTally};
 use kept_office::FiledOffice;
+use kept_rounds::file_counted;
 use kept_session::{answer, file, found, write_report};
 use office_words::{Command, command_of};
 use std::alloc::Global;
@@ -107,6 +110,21 @@ fn do_command<D: Disk, S: Source, K: Sink>(
             );
             (ended_filing(ended), disk)
         }
+        Command::Generate(generate) => {
+            let forms = YearForms {
+                students: generate.students,
+                seed: generate.seed,
+            };
+            let (ended, disk) = file_counted::<
+                D,
+                S,
+                K,
+                GeneratedOffice<FiledOffice>,
+                YearForms,
+                YearTally,
+            >(alloc, disk, &forms, YearTally::EMPTY, input, out);
+            (ended_filing(ended), disk)
+        }
         Command::CheckRows => (check_rows(alloc, input, out), disk),
         Command::CheckBook => (check_book(alloc, input, out), disk),
     }
@@ -114,7 +132,8 @@ fn do_command<D: Disk, S: Source, K: Sink>(
 
 /// Does what the words say, and answers the status and the disk as it is then: `found` founds an office in the disk's
 /// file; `file` files the rows of the input, and `book` its text as a book; `quote` asks for one; `report` writes a
-/// report on the office, and files nothing; `check rows` and `check book` say what is wrong with the input, and make no
+/// report on the office, and files nothing; `generate` files a generated year, whose book is the input's text, and writes
+/// what it comes to; `check rows` and `check book` say what is wrong with the input, and make no
 /// call on the disk. The whole input is read before the
 /// journal is, and the line of a row is written before the next row is filed.
 ///

@@ -60,7 +60,7 @@ fn ran(
 #[test]
 fn runs_follow_each_other(rt: HostRuntime) -> Result<(), Fail> {
     let alloc = rt.alloc();
-    let rows: [(&str, &[u8], u8, &[u8], usize); 17] = [
+    let rows: [(&str, &[u8], u8, &[u8], usize); 19] = [
         ("file", FIRST, 6, b"fault no office\n", 0),
         ("found", b"", 0, b"founded\n", 17),
         ("file", FIRST, 0, ACCEPTED, 71),
@@ -77,6 +77,8 @@ fn runs_follow_each_other(rt: HostRuntime) -> Result<(), Fail> {
         ("file", b"prior,0,x,5001,1", 0, b"1 error 3 3\n", 71),
         ("file", b"loan,0,9", 0, b"1 error 1 1\n", 71),
         ("book 1", b"", 0, b"1 book 2 1\n", 71),
+        ("generate 7 1", b"", 0, b"1 book 2 1\n", 71),
+        ("generate 7 0", b"", 2, b"fault usage\n", 71),
         ("quote", b"", 2, b"fault usage\n", 71),
         ("quote 110 5001 2025 1", b"", 0, b"quote 0\n", 71),
         ("report standing 2025", b"", 0, b"rows 0\n", 71),
@@ -205,9 +207,10 @@ fn a_stop_loses_nothing(rt: HostRuntime) -> Result<(), Fail> {
 #[test]
 fn write_faults_end_a_run(rt: HostRuntime) -> Result<(), Fail> {
     let alloc = rt.alloc();
-    let rows: [(&str, &[u8], u64, &[u8], usize); 6] = [
+    let rows: [(&str, &[u8], u64, &[u8], usize); 7] = [
         ("check rows", EMPTY, 3, b"1 fine\n2 fine\n", 17),
         ("check book", EMPTY, 1, b"", 17),
+        ("generate 7 1", EMPTY, 1, b"", 17),
         ("file", EMPTY, 1, b"", 41),
         ("file", EMPTY, 2, b"1 0 accepted 1 noted\n", 71),
         ("found", b"", 1, b"", 17),

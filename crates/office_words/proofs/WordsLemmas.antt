@@ -4,10 +4,11 @@ use Rattle.std.specs.Coded.{le_prop}
 use Rattle.std.proofs.lemmas.Fmt.{decimal_injective}
 use Rattle.aid_types.proofs.Same.{same_with_fact}
 use Rattle.aid_types.specs.Ranges.{IsBetween}
-use Rattle.office_words.specs.Words.{Reads, ReadsQuote, ReadsYear, quote_words, report_words, words_of}
+use Rattle.office_words.specs.Words.{Reads, ReadsGenerate, ReadsQuote, ReadsYear, generate_words, quote_words, report_words, words_of}
 use Rattle.office_words.specs.declared.command.BookNumber.{BookNumber}
 use Rattle.office_words.specs.declared.command.Command.{Command}
-use Rattle.office_words.specs.declared.command.Command.TheVariants.{Found, File, Book, Quote, Report, CheckRows, CheckBook}
+use Rattle.office_words.specs.declared.command.Command.TheVariants.{Found, File, Book, Quote, Report, Generate, CheckRows, CheckBook}
+use Rattle.office_words.specs.declared.command.GenerateRequest.{GenerateRequest}
 use Rattle.office_words.specs.declared.command.QuoteRequest.{QuoteRequest}
 use Rattle.office_words.specs.declared.command.ReportRequest.{ReportRequest}
 use Rattle.office_words.specs.declared.command.ReportRequest.TheVariants.{Standing, Awards, Returns, Lifetime}
@@ -41,6 +42,21 @@ same_quote x y e =
     (same_number x.year y.year (omega (arith, x.in_range)) (omega (arith, y.in_range)) year)
     (same_number x.term y.term (omega (arith, x.in_range)) (omega (arith, y.in_range)) term)
 
+-- the same of a generated year
+same_generated : (x y : GenerateRequest) → x.seed ≡ y.seed → x.students ≡ y.students → x ≡ y
+same_generated x y seed students =
+    let P : ℕ × ℕ → Type 0 = λ b. (b.0 ≤ 999999999999) × IsBetween 1 20000 b.1 in
+    let make : (b : ℕ × ℕ) → P b → GenerateRequest = λ b p. record { seed = b.0; students = b.1; in_range = p } in
+    same_with_fact P make (λ b. hlevel (le_prop)) (x.seed, x.students) (y.seed, y.students) x.in_range y.in_range (λ i. (seed i, students i))
+
+pub same_generate : (x y : GenerateRequest) → generate_words x ≡ generate_words y → x ≡ y
+same_generate x y e =
+    let seed : decimal x.seed ≡ decimal y.seed = cc in
+    let students : decimal x.students ≡ decimal y.students = cc in
+    same_generated x y
+    (same_number x.seed y.seed (omega (arith, x.in_range)) (omega (arith, y.in_range)) seed)
+    (same_number x.students y.students (omega (arith, x.in_range)) (omega (arith, y.in_range)) students)
+
 -- the words of one year and one report at most
 same_year : (x y : ReportYear) → decimal x.year ≡ decimal y.year → x ≡ y
 same_year x y e =
@@ -71,6 +87,7 @@ same_command CheckBook CheckBook e = refl
 same_command (Book x) (Book y) e = let number : decimal x.number ≡ decimal y.number = cc in ap Book (same_book x y (same_number x.number y.number (omega (arith, x.in_range)) (omega (arith, y.in_range)) number))
 same_command (Quote x) (Quote y) e = ap Quote (same_quote x y cc)
 same_command (Report x) (Report y) e = ap Report (same_report x y cc)
+same_command (Generate x) (Generate y) e = ap Generate (same_generate x y cc)
 same_command CheckRows CheckBook e = rows_book e
 same_command CheckBook CheckRows e = rows_book (sym e)
 same_command _ _ e = absurd cc
@@ -81,6 +98,9 @@ reads_some words c is d = (λ same. let at : c ≡ d = cc in is ∙ ap words_of 
 
 pub reads_request : (words : List (List ℕ)) (q : QuoteRequest) → words ≡ quote_words q → ReadsQuote words (Some q)
 reads_request words q is r = (λ same. let at : q ≡ r = cc in is ∙ ap quote_words at, λ told. ap Some (same_quote q r (sym is ∙ told)))
+
+pub reads_generate : (words : List (List ℕ)) (g : GenerateRequest) → words ≡ generate_words g → ReadsGenerate words (Some g)
+reads_generate words g is r = (λ same. let at : g ≡ r = cc in is ∙ ap generate_words at, λ told. ap Some (same_generate g r (sym is ∙ told)))
 
 pub reads_year : (word : List ℕ) (of : ReportYear) → word ≡ decimal of.year → ReadsYear word (Some of)
 reads_year word of is other = (λ same. let at : of ≡ other = cc in is ∙ ap (λ (y : ReportYear). decimal y.year) at, λ told. ap Some (same_year of other (sym is ∙ told)))

@@ -1,7 +1,8 @@
 -- The rows of words of the program, behind the path of its journal. Own format.
 use Rattle.std.specs.Prelude.{◌≡◌, ◌↔◌, ℕ, List, [], ◌∷◌, Option, Some, codes, decimal}
 use Rattle.office_words.specs.declared.command.Command.{Command}
-use Rattle.office_words.specs.declared.command.Command.TheVariants.{Found, File, Book, Quote, Report, CheckRows, CheckBook}
+use Rattle.office_words.specs.declared.command.Command.TheVariants.{Found, File, Book, Quote, Report, Generate, CheckRows, CheckBook}
+use Rattle.office_words.specs.declared.command.GenerateRequest.{GenerateRequest}
 use Rattle.office_words.specs.declared.command.QuoteRequest.{QuoteRequest}
 use Rattle.office_words.specs.declared.command.ReportRequest.{ReportRequest}
 use Rattle.office_words.specs.declared.command.ReportRequest.TheVariants.{Standing, Awards, Returns, Lifetime}
@@ -18,6 +19,10 @@ report_words (Awards of) = codes "awards" ∷ decimal of.year ∷ []
 report_words (Returns of) = codes "returns" ∷ decimal of.year ∷ []
 report_words Lifetime = codes "lifetime" ∷ []
 
+-- the numbers of a generated year: SEED STUDENTS
+abbrev pub generate_words : GenerateRequest → List (List ℕ)
+generate_words generate = decimal generate.seed ∷ decimal generate.students ∷ []
+
 -- the one row of words of a command
 abbrev pub words_of : Command → List (List ℕ)
 words_of Found = codes "found" ∷ []
@@ -25,6 +30,7 @@ words_of File = codes "file" ∷ []
 words_of (Book book) = codes "book" ∷ decimal book.number ∷ []
 words_of (Quote quote) = codes "quote" ∷ quote_words quote
 words_of (Report report) = codes "report" ∷ report_words report
+words_of (Generate generate) = codes "generate" ∷ generate_words generate
 words_of CheckRows = codes "check" ∷ codes "rows" ∷ []
 words_of CheckBook = codes "check" ∷ codes "book" ∷ []
 
@@ -43,3 +49,7 @@ ReadsReport words read = (report : ReportRequest) → (read ≡ Some report) ↔
 -- the same of the word of its year
 abbrev pub ReadsYear : List ℕ → Option ReportYear → Type 0
 ReadsYear word read = (of : ReportYear) → (read ≡ Some of) ↔ (word ≡ decimal of.year)
+
+-- the same of the numbers of a generated year
+abbrev pub ReadsGenerate : List (List ℕ) → Option GenerateRequest → Type 0
+ReadsGenerate words read = (generate : GenerateRequest) → (read ≡ Some generate) ↔ (words ≡ generate_words generate)

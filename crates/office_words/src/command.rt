@@ -42,6 +42,14 @@ pub enum ReportRequest {
     Lifetime,
 }
 
+/// The generated year that is asked for: so many students, 1 to 20,000, drawn from a seed.
+#[derive(Clone, Copy, PartialEq, Eq, Debug)]
+pub struct GenerateRequest {
+    pub seed: u64,
+    pub students: u16,
+    pub ghost in_range: { (seed ≤ 999999999999) × IsBetween 1 20000 students },
+}
+
 /// A command of the program, by its row of words.
 #[derive(Clone, Copy, PartialEq, Eq, Debug)]
 pub enum Command {
@@ -55,6 +63,8 @@ pub enum Command {
     Quote(QuoteRequest),
     /// `report standing YEAR`, `report awards YEAR`, `report returns YEAR`, `report lifetime`: to write a report on the office.
     Report(ReportRequest),
+    /// `generate SEED STUDENTS`: to file a generated year, whose book is the text of the input.
+    Generate(GenerateRequest),
     /// `check rows`: to read the rows of the input, and file none.
     CheckRows,
     /// `check book`: to read the text of the input as a book, and not file it.

@@ -5,5 +5,5 @@ mod command;
 mod number;
 mod words;
 
-pub use command::{BookNumber, Command, QuoteRequest, ReportRequest, ReportYear};
+pub use command::{BookNumber, Command, GenerateRequest, QuoteRequest, ReportRequest, ReportYear};
 pub use words::command_of;

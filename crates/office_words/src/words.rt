@@ -1,9 +1,11 @@
 //! The command of a row of words.
 ghost use Rattle.std.specs.Prelude.{◌≡◌, ◌≢◌, ◌↔◌, ◌∷◌, [], IfSome, IsTrue, codes, map, string_bytes};
-ghost use Rattle.office_words.specs.Words.{Reads, ReadsQuote, ReadsReport, ReadsYear, words_of};
+ghost use Rattle.office_words.specs.Words.{Reads, ReadsGenerate, ReadsQuote, ReadsReport, ReadsYear, words_of};
 ghost use Rattle.office_words.specs.declared.command.Command.{Command as CommandData};
 
-use crate::command::{BookNumber, Command, QuoteRequest, ReportRequest, ReportYear};
+use crate::command::{
+    BookNumber, Command, GenerateRequest, QuoteRequest, ReportRequest, ReportYear,
+};
 use crate::number::number_in;
 use aid_types::{School, Student, Year};
 
@@ -16,7 +18,9 @@ pub fn command_of(words: &[String]) -> Option<Command>
     match words {
         [only] => command_alone(only.as_str()),
         [first, second] => command_of_two(first.as_str(), second.as_str()),
-        [first, report, year] => command_of_three(first.as_str(), report.as_str(), year.as_str()),
+        [first, second, third] => {
+            command_of_three(first.as_str(), second.as_str(), third.as_str())
+        }
         [first, school, student, year, term] => command_of_five(
             first.as_str(),
             school.as_str(),
@@ -96,14 +100,26 @@ fn report_command(report: &str) -> Option<Command>
 }
 
 // The command of three words.
-fn command_of_three(first: &str, report: &str, year: &str) -> Option<Command>
-    ensures { Reads (first.now ∷ report.now ∷ year.now ∷ []) result }
+fn command_of_three(first: &str, second: &str, third: &str) -> Option<Command>
+    ensures { Reads (first.now ∷ second.now ∷ third.now ∷ []) result }
 {
     if is_same_word(first, "report") {
-        Some(Command::Report(report_request(report, year)?))
+        Some(Command::Report(report_request(second, third)?))
+    } else if is_same_word(first, "generate") {
+        Some(Command::Generate(generate_request(second, third)?))
     } else {
         None
     }
+}
+
+// The generated year that is asked for.
+fn generate_request(seed: &str, students: &str) -> Option<GenerateRequest>
+    ensures { ReadsGenerate (seed.now ∷ students.now ∷ []) result }
+{
+    Some(GenerateRequest {
+        seed: number_in(seed, 0, 999_999_999_999)?,
+        students: number_in(students, 1, 20_000)? as u16,
+    })
 }
 
 // The report of a year that is asked for.

@@ -41,6 +41,10 @@ fn said(alloc: Global, row: &str) -> Result<String, AllocError> {
             format!(in alloc; "school {school}, student {student}, year {year}, term {term}")
         }
         Some(Command::Report(report)) => report_said(alloc, report),
+        Some(Command::Generate(generate)) => {
+            let (students, seed) = (generate.students, generate.seed);
+            format!(in alloc; "{students} students drawn from {seed}")
+        }
         Some(Command::CheckRows) => format!(in alloc; "rows are checked"),
         Some(Command::CheckBook) => format!(in alloc; "a book is checked"),
     }
@@ -49,7 +53,7 @@ fn said(alloc: Global, row: &str) -> Result<String, AllocError> {
 // A row of words, and what its command says.
 struct Case(&'static str, &'static str);
 
-static COMMANDS: [Case; 12] = [
+static COMMANDS: [Case; 14] = [
     Case("found", "an office is founded"),
     Case("file", "rows are filed"),
     Case("book 1", "book 1 is filed"),
@@ -63,11 +67,16 @@ static COMMANDS: [Case; 12] = [
     Case("report awards 2000", "awards of 2000"),
     Case("report returns 2099", "returns of 2099"),
     Case("report lifetime", "lifetime units"),
+    Case("generate 0 1", "1 students drawn from 0"),
+    Case(
+        "generate 999999999999 20000",
+        "20000 students drawn from 999999999999",
+    ),
     Case("check rows", "rows are checked"),
     Case("check book", "a book is checked"),
 ];
 
-static NONE: [&str; 36] = [
+static NONE: [&str; 43] = [
     "",
     "Found",
     "found ",
@@ -101,6 +110,13 @@ static NONE: [&str; 36] = [
     "report lifetime 2025",
     "report lifetimes",
     "report standing 2025 1",
+    "generate",
+    "generate 7",
+    "generate 7 0",
+    "generate 7 20001",
+    "generate 1000000000000 1",
+    "generate -7 1",
+    "generate 7 1 1",
     "check",
     "check row",
     "rows",

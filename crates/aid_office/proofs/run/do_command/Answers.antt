@@ -1,5 +1,5 @@
 use Rattle.std.proofs.Common.{refl}
-use Rattle.aid_office.specs.Ran.{founding, filing, booking, quoting, reporting, checking_rows, checking_book}
+use Rattle.aid_office.specs.Ran.{founding, filing, booking, quoting, reporting, generating, checking_rows, checking_book}
 use Rattle.aid_office.proofs.Ending.{rows_disk, stood}
 use Rattle.aid_office.proofs.run.do_command.Goals as goal
 
@@ -20,6 +20,10 @@ returns-in-Quote-clause-does g c =
 pub returns-in-Report-clause-does : goal.returns-in-Report-clause-does
 returns-in-Report-clause-does g c =
     rw (c.in-Report.is, c.ended_filing-in-Report.ensures) (reporting c.in-Report.request c.write_report-ended.result.0 c.write_report-ended.ensures.reports)
+
+pub returns-in-Generate-clause-does : goal.returns-in-Generate-clause-does
+returns-in-Generate-clause-does g c =
+    rw (c.in-Generate.is, c.ended_filing-in-Generate.ensures) (generating c.in-Generate.generate c.file_counted-ended.result.0 c.file_counted-ended.ensures.session)
 
 pub returns-in-CheckRows-clause-does : goal.returns-in-CheckRows-clause-does
 returns-in-CheckRows-clause-does g c = rw c.in-CheckRows.is (checking_rows c.check_rows.result refl c.check_rows.ensures.checks)

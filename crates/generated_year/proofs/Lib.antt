@@ -1,0 +1,3 @@
+pub mod Founding
+pub mod Counts
+pub mod Paid

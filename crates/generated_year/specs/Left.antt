@@ -1,0 +1,19 @@
+-- The rows of a generated year that weren't taken yet.
+use Rattle.std.specs.Prelude.{ℕ, ◌+◌, List, [], ◌++◌, drop, Option, Some, None}
+use Rattle.generated_year.specs.Rows.{YearRow, founding_rows, student_rows, students_rows}
+use Rattle.generated_year.specs.declared.asks.YearAsks.{YearAsks}
+use Rattle.generated_year.specs.declared.draws.Students.{Students}
+use Rattle.generated_year.specs.declared.student.Student.{Student}
+
+-- of the rows of a student
+abbrev pub student_left : ℕ → Option Student → List YearRow
+student_left y None = []
+student_left y (Some student) = drop student.taken (student_rows y student.number student.draws)
+
+-- of the students
+abbrev pub students_left : ℕ → Students → List YearRow
+students_left y students = students_rows y students.left (students.last + 1) students.seed
+
+-- of the year behind the book
+abbrev pub asks_left : YearAsks → List YearRow
+asks_left asks = drop asks.founded (founding_rows asks.year) ++ (student_left asks.year asks.student ++ students_left asks.year asks.students)

@@ -1,0 +1,17 @@
+//! A generated year: a year book, four schools with their terms, and students whose rows are drawn from a seed.
+#![tactic(auto)]
+
+mod ask;
+mod asks;
+mod docket;
+mod draws;
+mod student;
+mod tally;
+mod terms;
+
+pub use ask::{QuotePayment, YearAsk, YearVerdict};
+pub use asks::YearAsks;
+pub use docket::GeneratedOffice;
+pub use draws::{Draws, Students};
+pub use student::Student;
+pub use tally::YearTally;

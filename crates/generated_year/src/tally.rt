@@ -1,0 +1,157 @@
+// What the verdicts of a generated year come to.
+ghost use Rattle.std.specs.Prelude.{◌≡◌, ◌≤◌, ◌++◌, OnOk};
+ghost use Rattle.aid_num.specs.Cents.{fraction_text};
+ghost use Rattle.aid_num.specs.Whole.{natural_text};
+ghost use Rattle.generated_year.specs.Counted.{accepted_by as accepted_by_of, accepts as accepts_of, count_line, paid_by as paid_by_of, refused_by as refused_by_of, refuses as refuses_of, returned_by as returned_by_of, sum_line};
+
+use crate::YearVerdict;
+use crate::docket::GeneratedOffice;
+use aid_filings::Filing;
+use aid_replies::{Ask, Outcome, Verdict};
+use itoa::Buffer;
+use kept_list::Docket;
+use kept_rounds::Tally;
+use std::alloc::AllocError;
+
+/// How many rows of a year were accepted and refused, and the cents of the Pell payments and of the schools' returns that
+/// were accepted in this run.
+#[derive(Clone, Copy)]
+pub struct YearTally {
+    pub accepted: u32,
+    pub refused: u32,
+    pub paid: u128,
+    pub returned: u128,
+}
+
+impl YearTally {
+    /// A tally of no verdicts.
+    pub const EMPTY: YearTally = YearTally {
+        accepted: 0,
+        refused: 0,
+        paid: 0,
+        returned: 0,
+    };
+}
+
+fn accepts(verdict: &Verdict) -> u32
+    ensures value { result ≡ accepts_of verdict.now }
+    ensures one { result ≤ 1 }
+{
+    match verdict {
+        Verdict::Admit(_) | Verdict::Again { .. } => 1,
+        _ => 0,
+    }
+}
+
+fn refuses(verdict: &Verdict) -> u32
+    ensures value { result ≡ refuses_of verdict.now }
+    ensures one { result ≤ 1 }
+{
+    match verdict {
+        Verdict::Refused(_) => 1,
+        _ => 0,
+    }
+}
+
+fn accepted_by(verdict: &YearVerdict) -> u32
+    ensures value { result ≡ accepted_by_of verdict.now }
+    ensures one { result ≤ 1 }
+{
+    match verdict {
+        YearVerdict::Filed(verdict) | YearVerdict::Paid { verdict, .. } => accepts(verdict),
+        YearVerdict::NothingToPay => 0,
+    }
+}
+
+fn refused_by(verdict: &YearVerdict) -> u32
+    ensures value { result ≡ refused_by_of verdict.now }
+    ensures one { result ≤ 1 }
+{
+    match verdict {
+        YearVerdict::Filed(verdict) | YearVerdict::Paid { verdict, .. } => refuses(verdict),
+        YearVerdict::NothingToPay => 0,
+    }
+}
+
+fn paid_by(verdict: &YearVerdict) -> u64
+    ensures { result ≡ paid_by_of verdict.now }
+{
+    match verdict {
+        YearVerdict::Paid {
+            cents,
+            verdict: Verdict::Admit(_),
+        } => *cents,
+        _ => 0,
+    }
+}
+
+fn returned_by(verdict: &YearVerdict) -> u64
+    ensures { result ≡ returned_by_of verdict.now }
+{
+    match verdict {
+        YearVerdict::Filed(Verdict::Admit(Outcome::Returned { school, .. })) => *school,
+        _ => 0,
+    }
+}
+
+// Appends the line of a count.
+fn put_count(name: &[u8], count: u32, out: &mut Vec<u8>) -> Result<(), AllocError>
+    ensures { OnOk result (out.new.items ≡ out.old.items ++ count_line name.now count) }
+{
+    let mut digits = Buffer::new();
+    out.extend_from_slice(name)?;
+    out.extend_from_slice(digits.format(count).as_bytes())?;
+    out.extend_from_slice(b"\n")
+}
+
+// Appends whole dollars.
+fn put_dollars(dollars: u128, out: &mut Vec<u8>) -> Result<(), AllocError>
+    ensures { OnOk result (out.new.items ≡ out.old.items ++ natural_text dollars) }
+{
+    let mut digits = Buffer::new();
+    out.extend_from_slice(digits.format(dollars).as_bytes())
+}
+
+// Appends a point and the two digits of a part of a dollar.
+fn put_fraction(cents: u128, out: &mut Vec<u8>) -> Result<(), AllocError>
+    ensures { OnOk result (out.new.items ≡ out.old.items ++ fraction_text cents) }
+{
+    let tens = b'0' + (cents / 10 % 10) as u8;
+    let ones = b'0' + (cents % 10) as u8;
+    out.extend_from_slice(&[b'.', tens, ones])
+}
+
+// Appends the line of a sum in cents.
+fn put_sum(name: &[u8], cents: u128, out: &mut Vec<u8>) -> Result<(), AllocError>
+    ensures { OnOk result (out.new.items ≡ out.old.items ++ sum_line name.now cents) }
+{
+    out.extend_from_slice(name)?;
+    put_dollars(cents / 100, out)?;
+    put_fraction(cents, out)?;
+    out.extend_from_slice(b"\n")
+}
+
+impl<R: Docket<Entry = Filing, Ask = Ask, Verdict = Verdict>> Tally<GeneratedOffice<R>>
+    for YearTally {
+    ghost use Rattle.generated_year.specs.Counted.{year_counted, year_ending, year_room};
+
+    ghost counted = { year_counted };
+
+    ghost ending = { year_ending };
+
+    ghost room = { year_room };
+
+    fn count(&mut self, verdict: &YearVerdict) {
+        self.accepted += accepted_by(verdict);
+        self.refused += refused_by(verdict);
+        self.paid += u128::from(paid_by(verdict));
+        self.returned += u128::from(returned_by(verdict));
+    }
+
+    fn put_ending(&self, out: &mut Vec<u8>) -> Result<(), AllocError> {
+        put_count(b"accepted ", self.accepted, out)?;
+        put_count(b"refused ", self.refused, out)?;
+        put_sum(b"pell ", self.paid, out)?;
+        put_sum(b"returned ", self.returned, out)
+    }
+}
