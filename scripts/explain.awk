@@ -10,6 +10,12 @@ BEGIN {
 
 { print }
 
+# A line of one desk of several: the same words stand behind the desk's number.
+/^desk [0-9]+ / {
+    sub(/^desk [0-9]+ /, "")
+    if ($0 ~ /^[0-9]+ fault /) sub(/^[0-9]+ /, "")
+}
+
 /^[0-9]+ [0-9]+ refused [0-9]+ [0-9]+ [0-9]+$/ { explain_refusal($1, $4, $5, $6) }
 
 /^[0-9]+ error [0-9]+ [0-9]+$/ { explain_error($1, $3, $4) }

@@ -2,3 +2,8 @@ pub mod Complete
 pub mod Ending
 pub mod Images
 pub mod Shown
+pub mod Putting
+pub mod Reading
+pub mod Crew
+pub mod Closing
+pub mod Filers

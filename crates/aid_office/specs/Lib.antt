@@ -2,3 +2,6 @@ pub mod Asks
 pub mod Statuses
 pub mod Ran
 pub mod Moments
+pub mod DeskTexts
+pub mod Puts
+pub mod RanDesks

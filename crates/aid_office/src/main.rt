@@ -4,6 +4,8 @@
 mod book;
 mod checks;
 mod desk;
+mod desk_lines;
+mod desks;
 mod quote;
 mod report;
 mod run;
@@ -12,9 +14,12 @@ mod stop;
 mod tests;
 
 use aid_edges::{ReadEdge, WriteEdge};
+use desks::{DeskInput, run_desks};
 use disk_model::HostDisk;
+use kept_desks::FreeGate;
 use kept_office::OpenError;
 use kept_session::ReadStop;
+use office_words::{MainRow, row_of};
 use run::{end, run};
 use std::fs::{File, OpenOptions, TryLockError};
 use std::io::ErrorKind;
@@ -43,6 +48,7 @@ const USAGE: &str = "\
 usage: aid_office JOURNAL found
        aid_office JOURNAL book NUMBER < BOOK.toml
        aid_office JOURNAL file < ROWS.csv
+       aid_office JOURNAL desks ROWS.csv..
        aid_office JOURNAL quote SCHOOL STUDENT YEAR TERM
        aid_office JOURNAL report standing YEAR
        aid_office JOURNAL report awards YEAR
@@ -107,6 +113,28 @@ fn fill_streams(rt: &HostRuntime) -> io::Result<[File; 3]> {
     ])
 }
 
+// Opens the files of the desks, which stand behind the first word.
+fn open_inputs(
+    rt: &HostRuntime,
+    words: &[String],
+) -> Result<Vec<DeskInput<ReadEdge<File>>>, ReadStop> {
+    let mut desks = Vec::new(rt.alloc());
+    for path in words.iter().skip(1) {
+        let file = match File::open(rt, path.as_str()) {
+            Ok(file) => file,
+            Err(error) => {
+                let _ = eprintln!(rt; "{path} can't be opened: {error}");
+                return Err(ReadStop::Read);
+            }
+        };
+        let input = ReadEdge::new(file);
+        if desks.push(DeskInput { input }).is_err() {
+            return Err(ReadStop::NoMemory);
+        }
+    }
+    Ok(desks)
+}
+
 fn main(rt: HostRuntime) -> ExitCode {
     let Ok(_streams) = fill_streams(&rt) else {
         return ExitCode::from(RunStop::File(OpenError::DiskFault.into()).status());
@@ -144,9 +172,17 @@ fn main(rt: HostRuntime) -> ExitCode {
         say(&rt, "the journal's folder can't be written for good");
         return disk_fault;
     }
-    let mut input = ReadEdge::new(rt.stdin());
     let disk = HostDisk::new(file);
-    let (status, _) = run(rt.alloc(), &words, disk, &mut input, &mut out);
+    let status = match row_of(&words) {
+        MainRow::Run => {
+            let mut input = ReadEdge::new(rt.stdin());
+            run(rt.alloc(), &words, disk, &mut input, &mut out).0
+        }
+        MainRow::Desks { .. } => match open_inputs(&rt, &words) {
+            Ok(mut desks) => run_desks(&rt, rt.alloc(), &mut desks, disk, &FreeGate, &mut out).0,
+            Err(stop) => end(Err(RunStop::File(stop.into())), &mut out),
+        },
+    };
     if status == RunStop::Usage.status() {
         say(&rt, USAGE);
     }

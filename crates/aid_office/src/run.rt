@@ -28,7 +28,7 @@ use office_words::{Command, command_of};
 use std::alloc::Global;
 
 /// The status of a run whose text couldn't be written whole.
-const WRITE_FAILED: u8 = 4;
+pub(crate) const WRITE_FAILED: u8 = 4;
 
 // Writes the line of a stop, and gives the status.
 fn end_stopped<K: Sink>(stop: RunStop, out: &mut K) -> u8

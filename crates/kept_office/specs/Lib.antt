@@ -10,3 +10,4 @@ pub mod Turns
 pub mod Kept
 pub mod Lives
 pub mod OfficeLaws
+pub mod OwnLaws

@@ -7,6 +7,7 @@
 mod docket;
 mod kept;
 mod laws;
+mod own;
 
 pub use docket::FiledOffice;
 pub use kept::KeptOffice;

@@ -1,5 +1,7 @@
 -- The rows of words of the program, behind the path of its journal. Own format.
-use Rattle.std.specs.Prelude.{◌≡◌, ◌↔◌, ℕ, List, [], ◌∷◌, Option, Some, codes, decimal}
+use Rattle.std.specs.Prelude.{◌≡◌, ◌↔◌, ◌==◌, ℕ, Bool, false, not, IsTrue, List, [], ◌∷◌, length, Option, Some, codes, decimal}
+use Rattle.std.specs.List.{list_all}
+use Rattle.aid_types.specs.Ranges.{IsBetween}
 use Rattle.office_words.specs.declared.command.Command.{Command}
 use Rattle.office_words.specs.declared.command.Command.TheVariants.{Found, File, Book, Quote, Report, Generate, CheckRows, CheckBook}
 use Rattle.office_words.specs.declared.command.GenerateRequest.{GenerateRequest}
@@ -53,3 +55,13 @@ ReadsYear word read = (of : ReportYear) → (read ≡ Some of) ↔ (word ≡ dec
 -- the same of the numbers of a generated year
 abbrev pub ReadsGenerate : List (List ℕ) → Option GenerateRequest → Type 0
 ReadsGenerate words read = (generate : GenerateRequest) → (read ≡ Some generate) ↔ (words ≡ generate_words generate)
+
+-- a word that begins with a hyphen is no file of a desk
+abbrev pub begins_with_hyphen : List ℕ → Bool
+begins_with_hyphen [] = false
+begins_with_hyphen (letter ∷ word) = letter == 45
+
+-- the words are `desks` and so many files behind it, from 1 to 16
+abbrev pub AreDesks : List (List ℕ) → ℕ → Type 0
+AreDesks [] files = ⊥
+AreDesks (first ∷ paths) files = (first ≡ codes "desks") × (files ≡ length paths) × IsBetween 1 16 files × IsTrue (list_all (λ path. not (begins_with_hyphen path)) paths)

@@ -70,3 +70,12 @@ pub enum Command {
     /// `check book`: to read the text of the input as a book, and not file it.
     CheckBook,
 }
+
+/// The call of the program that a row of words needs.
+#[derive(Clone, Copy, PartialEq, Eq, Debug)]
+pub enum MainRow {
+    /// A run over one input, or over none.
+    Run,
+    /// `desks FILE..`: the files are filed at once, 1 to 16 of them.
+    Desks { files: u32 },
+}

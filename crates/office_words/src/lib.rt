@@ -2,8 +2,12 @@
 #![tactic(auto)]
 
 mod command;
+mod main_row;
 mod number;
 mod words;
 
-pub use command::{BookNumber, Command, GenerateRequest, QuoteRequest, ReportRequest, ReportYear};
+pub use command::{
+    BookNumber, Command, GenerateRequest, MainRow, QuoteRequest, ReportRequest, ReportYear,
+};
+pub use main_row::{MOST_DESKS, row_of};
 pub use words::command_of;

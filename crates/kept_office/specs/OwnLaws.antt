@@ -1,0 +1,24 @@
+-- The filing that an ask may add is that which is to be filed.
+use Rattle.std.proofs.Common.{◌≡◌, refl, Bool, true, false, List, Some, None}
+use Rattle.std.specs.Prelude.{is_some, if◌then◌else◌, Option}
+use Rattle.aid_filings.specs.declared.filing.Filing.{Filing}
+use Rattle.aid_replies.specs.declared.reply.Ask.{Ask}
+use Rattle.aid_replies.specs.declared.reply.Ask.TheVariants.{File, Quote, Standing}
+use Rattle.office_history.specs.Answer.{answer_to, is_admit}
+use Rattle.kept_office.specs.Turns.{added, asked}
+
+pub own_added : (past : List Filing) (ask : Ask) (filing : Filing) → added past ask ≡ Some filing → asked ask ≡ Some filing
+own_added past ask filing is = go (is_admit (answer_to past ask)) is
+  where
+    go : (b : Bool) → (if b then asked ask else None) ≡ Some filing → asked ask ≡ Some filing
+    go true same = same
+    go false same = absurd (let bad : ⊥ = cc in bad)
+
+pub adds_added : (past : List Filing) (ask : Ask) → is_admit (answer_to past ask) ≡ is_some (added past ask)
+adds_added past (File filing) = go (is_admit (answer_to past (File filing)))
+  where
+    go : (b : Bool) → b ≡ is_some (if b then Some filing else None)
+    go true = refl
+    go false = refl
+adds_added past (Quote school student year term) = refl
+adds_added past (Standing student year) = refl
