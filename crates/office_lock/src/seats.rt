@@ -9,6 +9,7 @@ use crate::view::{Bring, Cut, Draw, End, Ending, Glue, Learn, Look, SeatOf, Shar
 use crate::{Turned, Turns};
 use std::marker::Brand;
 use std::sync::Wait;
+use std::thread::yield_now;
 
 impl<T: Turned> Turns<T> {
     // Brings the state into the slot.
@@ -56,7 +57,7 @@ impl<T: Turned> Turns<T> {
         self.table.shared.load::<Look<T>>(seat, 1) == number
     }
 
-    // Waits until the seat is served.
+    // Waits until the seat is served. The processor is left to others between two looks: the turn before may want it.
     fn wait<R: Wait>(&self, rt: &R, seat: &mut SeatOf<T>, number: u64)
         requires lock { seat.old.table_id ≡ self.now.id }
         requires waiting { IsWaiting number seat.old.me }
@@ -67,6 +68,7 @@ impl<T: Turned> Turns<T> {
             if self.look(seat, number) {
                 break;
             }
+            yield_now();
         }
     }
 
