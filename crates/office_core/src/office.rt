@@ -17,7 +17,7 @@ ghost use Rattle.office_history.specs.FactsOf.{cell_at};
 ghost use Rattle.office_history.specs.Net.{net_at as net_of_cell};
 ghost use Rattle.office_history.specs.Past.{key_at};
 ghost use Rattle.office_history.specs.Within.{IsWithinEveryLimit};
-ghost use Rattle.office_history.specs.Rows.{filing_in};
+ghost use Rattle.office_history.specs.Rows.{filing_in, place_row, school_row, school_year_row};
 ghost use Rattle.office_core.specs.Register.{IsKeyUsedAt, IsPellPayment};
 ghost use Rattle.office_core.specs.WalkedFor.{walked_for};
 
@@ -26,8 +26,8 @@ use aid_filings::Filing;
 use aid_replies::{Ask, Outcome, StandingRow, Verdict};
 use aid_types::{Program, School, Student, Year};
 use office_answers::{answer, is_admitted, quote, quote_on, standing, standing_on, verdict_on};
-use office_history::OnFile;
-use office_rows::place_of;
+use office_history::{OnFile, PlaceRow, SchoolRow, SchoolYearRow};
+use office_rows::{place_of, school_of, school_year_of};
 use std::alloc::{AllocError, Global};
 use std::marker::Model;
 use std::sync::ledger::Ledger;
@@ -128,6 +128,27 @@ impl Office {
             .paid
             .at(program)
             .saturating_sub(account.taken.at(program))
+    }
+
+    /// What is on file of the school with a code.
+    pub fn school(&self, code: u32) -> SchoolRow
+        ensures { result ≡ school_row self.now.history code }
+    {
+        school_of(&self.indexed, code)
+    }
+
+    /// What is on file of a student's term at a school.
+    pub fn place(&self, school: School, student: Student, year: Year, term: u8) -> PlaceRow
+        ensures { result ≡ place_row self.now.history school student year term }
+    {
+        place_of(&self.indexed, school, student, year, term)
+    }
+
+    /// What is on file of a student's year at a school.
+    pub fn school_year(&self, school: School, student: Student, year: Year) -> SchoolYearRow
+        ensures { result ≡ school_year_row self.now.history school student year }
+    {
+        school_year_of(&self.indexed, school, student, year)
     }
 
     /// The verdict on a filing. It changes nothing and takes no memory.

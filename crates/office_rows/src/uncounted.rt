@@ -2,11 +2,11 @@
 ghost use Rattle.std.specs.Prelude.{◌≡◌, ◌<◌};
 ghost use Rattle.std.specs.Option.{option_copied};
 ghost use Rattle.office_history.specs.Past.{the_book};
-ghost use Rattle.office_history.specs.Rows.{place_row, school_row, term_row};
+ghost use Rattle.office_history.specs.Rows.{place_row, school_row, school_year_row, term_row};
 
 use aid_books::Book;
 use aid_types::{School, Student, Year};
-use office_history::{OnFile, PlaceRow, SchoolRow, TermRow};
+use office_history::{OnFile, PlaceRow, SchoolRow, SchoolYearRow, TermRow};
 use std::marker::Brand;
 use std::sync::ledger::{Blank, Ledger};
 use steps::Steps;
@@ -87,4 +87,47 @@ pub fn place_of<P: OnFile>(
     ensures { result ≡ place_row (P.history past.now) school student year number }
 {
     place_on::<P, Brand>(past, school, student, year, number, Blank::new(1))
+}
+
+fn school_on<P: OnFile, L: Ledger>(past: &P, code: u32, blank: Blank) -> SchoolRow
+    requires name { blank.name ≡ L.name }
+    requires parts { blank.parts ≡ L.parts }
+    requires some { 0 < blank.parts }
+    ensures { result ≡ school_row (P.history past.now) code }
+{
+    past.school(code, &mut blank_steps::<L>(blank))
+}
+
+/// The school with a code.
+pub fn school_of<P: OnFile>(past: &P, code: u32) -> SchoolRow
+    ensures { result ≡ school_row (P.history past.now) code }
+{
+    school_on::<P, Brand>(past, code, Blank::new(1))
+}
+
+fn school_year_on<P: OnFile, L: Ledger>(
+    past: &P,
+    school: School,
+    student: Student,
+    year: Year,
+    blank: Blank,
+) -> SchoolYearRow
+    requires name { blank.name ≡ L.name }
+    requires parts { blank.parts ≡ L.parts }
+    requires some { 0 < blank.parts }
+    ensures { result ≡ school_year_row (P.history past.now) school student year }
+{
+    past.school_year(school, student, year, &mut blank_steps::<L>(blank))
+}
+
+/// A student's year at a school.
+pub fn school_year_of<P: OnFile>(
+    past: &P,
+    school: School,
+    student: Student,
+    year: Year,
+) -> SchoolYearRow
+    ensures { result ≡ school_year_row (P.history past.now) school student year }
+{
+    school_year_on::<P, Brand>(past, school, student, year, Blank::new(1))
 }
