@@ -229,6 +229,54 @@ rows 2""", "returns", "2025"),
 rows 2""", "lifetime"),
         *[report("rows 0", which, "2026") for which in ("standing", "awards", "returns")],
     ],
+    "reports on many students": [
+        book(), (["book", "2"], SPECIMEN.replace(b"year = 2025", b"year = 2026"), None),
+        filed(
+            "school,0,3,110,2,12", "school,0,4,120,2,12",
+            *[f"calendar,{school},{number},2025,{number},0,{days},0" for school, number, days in [
+                (110, 1, "2025-08-25,2025-12-02"), (110, 2, "2026-01-12,2026-05-01"), (120, 1, "2025-08-25,2025-12-02")]],
+            # In another order than the students': one with a bachelor's degree, one with an application in another year
+            # alone, one with a prior use alone.
+            apply("110,10", 5003, parents_file=0), YEAR_ROWS[6].replace("110,3,5001", "110,11,5002").replace(",0,0,0,0,0,", ",0,0,1,0,0,", 1),
+            apply("110,12", 5004, parents_file=0, year=2026, birth_year=2007), "prior,0,13,5009,600000", "prior,0,14,5001,10",
+            apply("120,15", 5001, parents_file=0), apply("110,16", 5003, parents_file=0, transaction=2),
+            "originate,110,20,5003,2025,24000", "originate,110,21,5002,2025,24000", "originate,120,22,5001,2025,24000",
+            "enrol,110,23,5003,2025,1,12", "enrol,110,24,5003,2025,2,12", "enrol,110,25,5002,2025,1,12",
+            "enrol,120,26,5001,2025,1,12", "pay,120,30,5001,2025,1,pell,3698.00", "pay,110,31,5003,2025,2,pell,1.00",
+            "pay,110,32,5003,2025,1,fseog,100.05", "pay,110,33,5002,2025,1,unsub,12000.00", "pay,110,34,5003,2025,1,unsub,0.05",
+            # A payment that is taken back whole.
+            "adjust,110,35,5003,2025,2,pell,1.00", "pay,110,36,5003,2025,1,fseog,0.01",
+            # 30 of 100 days, 30 of 110 with 1,000 dollars that could have been disbursed, all of 100.
+            "withdraw,120,40,5001,2025,1,2025-09-23,2025-09-29,1000.00,0.00,0.00,0.00,0.00,0.00,0.00",
+            "withdraw,110,41,5003,2025,2,2026-02-10,2026-02-16,0.00,0.00,0.00,0.00,1000.00,0.00,0.00",
+            "withdraw,110,42,5002,2025,1,2025-12-02,2025-12-08,4000.00,0.00,0.00,0.00,0.00,0.00,0.00",
+        ),
+        report("""\
+        5001 A   -1500 maximum      7395      2998.00   40551
+        5002 A    5104 nothing         0         0.00       0
+        5003 A   -1500 maximum      7395         0.00       0
+rows 3""", "standing", "2025"),
+        report("""\
+   110         5002 1 unsub     12000.00
+   110         5003 1 unsub         0.05
+   110         5003 1 fseog       100.06
+   120         5001 1 pell       2998.00
+rows 4""", "awards", "2025"),
+        report("""\
+   120         5001 1  30.0       700.00         0.00         0.00 2025-11-13
+   110         5003 2  27.3         0.00         0.00       273.00 none
+   110         5002 1 100.0         0.00         0.00         0.00 none
+rows 3""", "returns", "2025"),
+        report("""\
+        5001      10   40551
+        5003       0       0
+        5009  600000  600000
+rows 3""", "lifetime"),
+        report("        5004 A   -1500 maximum      7395         0.00       0\nrows 1", "standing", "2026"),
+    ],
+    "reports on no filings": [
+        report("rows 0", which, *year) for which, *year in [("standing", "2025"), ("awards", "2025"), ("returns", "2025"), ("lifetime",)]
+    ],
     "rows as they are written": [
         (["check", "rows"], "\n".join(row for row, _ in BAD_ROWS).encode(),
          "".join(f"{number} {line}\n" for number, (_, line) in enumerate(BAD_ROWS, 1)) + "rows 6 errors 5"),
