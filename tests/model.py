@@ -2,8 +2,8 @@
 code so that the two can be compared.
 
 A history is a list of filings, the oldest first, and a position in it counts from 1. Nothing is kept beside the list:
-`verdict` answers a filing on it, `file` also appends the filing where it is admitted, and `quote`, `standing` and `net`
-say what the list comes to.
+`verdict` answers a filing on it, `file` also appends the filing where it is admitted, `quote`, `standing` and `net` say
+what the list comes to, and `plan_round` what a round of awards files on it.
 
 Figures of households and awards are whole dollars; what is paid, returned and owed is in cents; rates are
 ten-thousandths; the lifetime limit of 600 percent is 600,000 units. A filing's numbers are taken to be in their ranges.
@@ -30,6 +30,7 @@ LIFETIME_LIMIT = 600_000      # units (HEA 401(d)(5))
 FSEOG_LIMIT = 400_000         # cents in a year (HEA 413B(a)(2))
 FORGIVEN = 5_000              # cents of a grant up to which a student owes nothing (34 CFR 668.22(h)(3))
 GREATEST_PAYMENT = 999_999    # whole dollars (own)
+LEAST_AWARD = 100             # whole dollars of a grant (HEA 413B(a)(2))
 
 
 # Numbers
@@ -1241,6 +1242,99 @@ def standing(history, student, year):
     found = decision(book_at(history, year)[1], application)
     paid = net(history, student, year=year, program=PELL)
     return Standing(application.transaction, *astuple(found), paid, units)
+
+
+# Rounds of awards: what a school's fund of Federal Supplemental Educational Opportunity Grants pays by a policy
+
+@dataclass(frozen=True)
+class Candidate:
+    """Whom a fund may award: the final index, the need in whole dollars, the enrolment intensity in percent."""
+    student: int
+    index: int
+    need: int
+    intensity: int
+
+
+def level(candidate):
+    """The need up to 1,000 dollars, and nothing below 100. Own, on HEA 413B(a)(2)."""
+    award = min(candidate.need, 1_000)
+    return award if award >= LEAST_AWARD else 0
+
+
+def quarter(candidate):
+    """A quarter of the need in whole dollars, up to 4,000, and nothing below 100. Own, on HEA 413B(a)(2)."""
+    award = min(candidate.need // 4, 4_000)
+    return award if award >= LEAST_AWARD else 0
+
+
+POLICIES = {"level": level, "quarter": quarter}
+
+
+def need(history, student, school, year):
+    """The cost of attendance less all net aid at the school in the year, in whole dollars rounded down. HEA 471. Own: the
+    rounding, and that aid is what this office knows of."""
+    _, origination = earliest(history, Origination, student=student, school=school, year=year)
+    return max(0, 100 * origination.cost - net(history, student, school, year)) // 100
+
+
+def is_candidate(history, student, school, year, term):
+    """An application is in force, credits are in force in the term, the student hasn't withdrawn from it, and nothing of the
+    program stands in it. 34 CFR 676.9, 676.10; own: the last."""
+    place = {"student": student, "school": school, "year": year, "term": term}
+    withdrawn_at, _ = earliest(history, Withdrawal, **place)
+    return (
+        application_of(history, student, year) is not None and credits_of(history, **place) > 0 and withdrawn_at == 0
+        and net(history, program=FSEOG, **place) == 0
+    )
+
+
+def candidates(history, school, year, term):
+    """Of the students originated at the school in the year those who may be awarded, the lowest index first, of one index
+    by number. HEA 413C(c)(2); 34 CFR 676.10."""
+    originated = {
+        filing.student for _, filing in filings_of(history, Origination) if (filing.school, filing.year) == (school, year)
+    }
+    _, facts = school_at(history, school)
+    listed = [
+        Candidate(
+            student, standing(history, student, year).index, need(history, student, school, year),
+            intensity(credits_of(history, student, school, year, term), facts.full),
+        )
+        for student in originated if is_candidate(history, student, school, year, term)
+    ]
+    return sorted(listed, key=lambda candidate: (candidate.index, candidate.student))
+
+
+def award_round(fund, listed, policy):
+    """The awards of candidates in their order, and what they leave of a fund: what the policy answers cut to what is left,
+    and nothing of less than 100 dollars. Own, on 34 CFR 676.10, 676.20."""
+    awards = []
+    for candidate in listed:
+        award = min(policy(candidate), fund) if fund >= LEAST_AWARD else 0
+        awards.append(award)
+        fund -= award
+    return awards, fund
+
+
+def rest_of_fund(history, school, year, term, amount):
+    """Whole dollars of a fund that aren't paid yet: what the term's students have of the program is rounded up. Own."""
+    paid = {
+        filing.student for _, filing in filings_of(history, Payment)
+        if (filing.school, filing.year, filing.term, filing.program) == (school, year, term, FSEOG)
+    }
+    cents = sum(net(history, student, school, year, term, FSEOG) for student in paid)
+    return max(0, amount - -(-cents // 100))
+
+
+def plan_round(history, school, year, term, amount, policy, number):
+    """The payments that a round files, under numbers from one on, and what is left of the fund. Own."""
+    listed = candidates(history, school, year, term)
+    awards, left = award_round(rest_of_fund(history, school, year, term, amount), listed, policy)
+    paid = [(candidate.student, award) for candidate, award in zip(listed, awards) if award > 0]
+    payments = [
+        Payment(school, number + place, student, year, term, FSEOG, 100 * award) for place, (student, award) in enumerate(paid)
+    ]
+    return payments, left
 
 
 # Reports: what the office tells of a whole history, line by line (own)

@@ -1,0 +1,4 @@
+pub mod Candidates
+pub mod Fund
+pub mod Payments
+pub mod Planned
