@@ -9,14 +9,14 @@ use Rattle.kept_list.specs.Recovers.{Recovers, RecoversEither}
 use Rattle.kept_session.specs.Edges.{Input, Output}
 use Rattle.kept_session.specs.Texts.{Texts, after_row, after_rows}
 use Rattle.kept_session.specs.Links.{IsOpened, Runs, RecoversFront, RecoversOf, RecoversTaken}
-use Rattle.kept_session.specs.Sessions.{Takes}
+use Rattle.kept_session.specs.Sessions.{ended_filing}
 use Rattle.kept_session.specs.declared.stop.FileStop.{FileStop}
 use Rattle.kept_session.specs.declared.stop.SessionStop.{SessionStop}
 use Rattle.kept_session.proofs.Filed.{split_push}
 use Rattle.kept_session.proofs.Fronts.{behind_front, images_of_files, images_of_runs, moments_of_runs, moments_of_takes}
 use Rattle.kept_session.proofs.Runs.{after_rows-push, runs-honest}
 use Rattle.kept_rounds.specs.Asks.{after_asks, rows_of_asks}
-use Rattle.kept_rounds.specs.Planned.{Planned, until, unopened, unplanned, closed, unclosed, stopped}
+use Rattle.kept_rounds.specs.Planned.{Closes, Planned, until, unopened, unplanned, filed, closed, unclosed, stopped}
 use Rattle.kept_rounds.specs.Counted.{Counted, CountedSession, Counts, StopsBehind}
 use Rattle.kept_rounds.specs.Counted as counted
 use Rattle.kept_rounds.specs.Fronts.{IsEnd, RecoversPlanned}
@@ -46,14 +46,16 @@ module _ {D Entry Ask Verdict Error : Type 0} (disk : Ghosts D) (scheme : Scheme
         (λ also. started (disk.tells at) (P list) (λ c since. as_it_was list c (is.images honest c (only at c also since))))
 
     module _ (plans : List Entry → List Ask → List ℕ → Type 0) where
-      -- asks that were planned on the list that was opened, and taken
-      behind_plan : (past list now : List Entry) (old at new : D) (lines : Output) (asks : List Ask) (closing : List ℕ) (ended : Result (Unit {0}) FileStop)
-          → IsHonest (disk.tells old) → EachImage (disk.tells old) (λ file. Recovers scheme file past) → IsOpened disk scheme list old at → plans list asks closing
-          → Takes disk scheme judging texts list now at new lines (map texts.said (rows_of_asks asks)) ended → EachMoment (disk.tells old) (disk.tells new) (RecoversPlanned scheme judging texts plans past)
-      behind_plan past list now old at new lines asks closing ended honest each is planned takes =
-          behind_opening (RecoversPlanned scheme judging texts plans) (λ h c r. inl r) past list old at new honest each is
-          (λ also. weaken (disk.tells at) (disk.tells new) (RecoversTaken scheme judging texts list (map texts.said (rows_of_asks asks))) (RecoversPlanned scheme judging texts plans list)
-          (λ c r. inr (asks, closing, planned, r)) (moments_of_takes disk scheme judging only texts lines (map texts.said (rows_of_asks asks)) ended list now at new also (is.images honest) takes))
+      -- rows that were filed, and a closing text behind them
+      moments_of_closes : (past : List Entry) (old new : D) (output : Output) (left : List texts.Meaning) (closing : List ℕ) (ended : Result (Unit {0}) FileStop)
+          → IsHonest (disk.tells old) → EachImage (disk.tells old) (λ file. Recovers scheme file past)
+          → Closes disk scheme judging texts past old new output left closing ended → EachMoment (disk.tells old) (disk.tells new) (RecoversTaken scheme judging texts past left)
+      moments_of_closes past old new output left closing ended honest each (closed now lines takes wrote) =
+          moments_of_takes disk scheme judging only texts (until lines output) left (Ok tt) past now old new honest each takes
+      moments_of_closes past old new output left closing ended honest each (unclosed now lines takes cut) =
+          moments_of_takes disk scheme judging only texts (until lines output) left (Ok tt) past now old new honest each takes
+      moments_of_closes past old new output left closing ended honest each (stopped now stop takes) =
+          moments_of_takes disk scheme judging only texts output left (Err stop) past now old new honest each takes
 
       -- rows that were planned
       pub moments_of_planned : (output : Output) (ended : Result (Unit {0}) SessionStop) (past : List Entry) (old new : D) → IsHonest (disk.tells old) → EachImage (disk.tells old) (λ file. Recovers scheme file past)
@@ -61,32 +63,40 @@ module _ {D Entry Ask Verdict Error : Type 0} (disk : Ghosts D) (scheme : Scheme
       moments_of_planned output ended past old new honest each (unopened error not _) =
           weaken (disk.tells old) (disk.tells new) (λ file. Recovers scheme file past) (RecoversPlanned scheme judging texts plans past) (λ c r. inl r) (not.moments honest past each)
       moments_of_planned output ended past old new honest each (unplanned list is _) = opened_alone (RecoversPlanned scheme judging texts plans) (λ h c r. inl r) past list old new honest each is
-      moments_of_planned output ended past old new honest each (closed list now at asks closing lines is planned takes _) =
-          behind_plan past list now old at new (until lines output) asks closing (Ok tt) honest each is planned takes
-      moments_of_planned output ended past old new honest each (unclosed list now at asks closing lines is planned takes _) =
-          behind_plan past list now old at new (until lines output) asks closing (Ok tt) honest each is planned takes
-      moments_of_planned output ended past old new honest each (stopped list now at asks closing stop is planned takes) =
-          behind_plan past list now old at new output asks closing (Err stop) honest each is planned takes
+      moments_of_planned output ended past old new honest each (filed list at asks closing inner is planned closes) =
+          behind_opening (RecoversPlanned scheme judging texts plans) (λ h c r. inl r) past list old at new honest each is
+          (λ also. weaken (disk.tells at) (disk.tells new) (RecoversTaken scheme judging texts list (map texts.said (rows_of_asks asks))) (RecoversPlanned scheme judging texts plans list)
+          (λ c r. inr (asks, closing, planned, r)) (moments_of_closes list at new output (map texts.said (rows_of_asks asks)) closing inner also (is.images honest) closes))
 
       -- and what those leave that were all filed
+      images_of_closes : (past : List Entry) (old new : D) (output : Output) (left : List texts.Meaning) (closing : List ℕ) (ended : Result (Unit {0}) FileStop)
+          → ended_filing ended ≡ Ok tt → IsHonest (disk.tells old) → EachImage (disk.tells old) (λ file. Recovers scheme file past)
+          → Closes disk scheme judging texts past old new output left closing ended
+          → (rows : List (Result Ask Error)) × (map texts.said rows ≡ left) × EachImage (disk.tells new) (λ file. Recovers scheme file (after_rows judging past rows))
+      images_of_closes past old new output left closing ended well honest each (closed now lines takes wrote) =
+          let none : takes.rest ≡ [] = takes.whole refl in (
+            takes.rows,
+            sym (takes.taken ∙ ap (λ (l : List texts.Meaning). map texts.said takes.rows ++ l) none ∙ append-nil (map texts.said takes.rows)),
+            images_of_files disk scheme judging only texts (until lines output) takes.rows (Ok tt) past old new refl honest each takes.files,
+          )
+      images_of_closes past old new output left closing ended well honest each (unclosed now lines takes cut) = absurd (let bad : ⊥ = cc in bad)
+      images_of_closes past old new output left closing ended well honest each (stopped now stop takes) = absurd (let bad : ⊥ = cc in bad)
+
       pub images_of_planned : (output : Output) (ended : Result (Unit {0}) SessionStop) (past : List Entry) (old new : D) → ended ≡ Ok tt → IsHonest (disk.tells old) → Recovers scheme (disk.tells old).reads past
           → Planned disk scheme judging texts plans old new output ended
           → (asks : List Ask) × (closing : List ℕ) × (rows : List (Result Ask Error)) × plans past asks closing × (map texts.said rows ≡ map texts.said (rows_of_asks asks))
           × EachImage (disk.tells new) (λ file. Recovers scheme file (after_rows judging past rows))
       images_of_planned output ended past old new well honest reads (unopened error not _) = absurd (let bad : ⊥ = cc in bad)
       images_of_planned output ended past old new well honest reads (unplanned list is _) = absurd (let bad : ⊥ = cc in bad)
-      images_of_planned output ended past old new well honest reads (unclosed list now at asks closing lines is planned takes _) = absurd (let bad : ⊥ = cc in bad)
-      images_of_planned output ended past old new well honest reads (stopped list now at asks closing stop is planned takes) = absurd (let bad : ⊥ = cc in bad)
-      images_of_planned output ended past old new well honest reads (closed list now at asks closing lines is planned takes _) =
+      images_of_planned output ended past old new well honest reads (filed list at asks closing inner is planned closes) =
           let same : list ≡ past = once (disk.tells old).reads list past (is.recovers honest) reads in
-          let none : takes.rest ≡ [] = takes.whole refl in (
+          let (rows, said, images) = images_of_closes list at new output (map texts.said (rows_of_asks asks)) closing inner well (subst IsTrue (sym is.honest) honest) (is.images honest) closes in (
             asks,
             closing,
-            takes.rows,
+            rows,
             subst (λ (h : List Entry). plans h asks closing) same planned,
-            sym (takes.taken ∙ ap (λ (l : List texts.Meaning). map texts.said takes.rows ++ l) none ∙ append-nil (map texts.said takes.rows)),
-            subst (λ (h : List Entry). EachImage (disk.tells new) (λ file. Recovers scheme file (after_rows judging h takes.rows))) same
-                (images_of_files disk scheme judging only texts (until lines output) takes.rows (Ok tt) list at new refl (subst IsTrue (sym is.honest) honest) (is.images honest) takes.files),
+            said,
+            subst (λ (h : List Entry). EachImage (disk.tells new) (λ file. Recovers scheme file (after_rows judging h rows))) same images,
           )
 
     module _ {Tally : Type 0} (counts : Tally → Verdict → Tally) (ending : Tally → List ℕ) (start : Tally) where

@@ -3,38 +3,16 @@ ghost use Rattle.std.specs.Prelude.{◌≡◌, ◌++◌, ℕ, List, Result, Ok, 
 ghost use Rattle.disk_model.specs.Telling.{EachImage, EachMoment, IsHonest};
 ghost use Rattle.kept_list.specs.Recovers.{Recovers};
 ghost use Rattle.kept_session.specs.Edges.{Input, Output};
-ghost use Rattle.kept_session.specs.Texts.{after_rows};
 ghost use Rattle.kept_session.specs.Links.{RecoversOf, RecoversTaken};
 ghost use Rattle.kept_session.specs.declared.stop.SessionStop.{SessionStop};
 ghost use Rattle.kept_rounds.specs.Asks.{after_asks, rows_of_asks};
-ghost use Rattle.kept_rounds.specs.Planned.{Planned};
 ghost use Rattle.kept_rounds.specs.Counted.{Counted, CountedSession};
-ghost use Rattle.kept_rounds.specs.Fronts.{IsEnd, RecoversPlanned};
+ghost use Rattle.kept_rounds.specs.Fronts.{IsEnd};
 
-use crate::{Plan, Tally};
+use crate::Tally;
 use disk_model::Disk;
 use kept_list::Docket;
 use kept_session::Rows;
-
-/// Whatever planned rows come to, each image at each moment recovers the list before them, with what some of the asks in
-/// front add that may be planned on it.
-pub fn each_moment_of_planned<D: Disk, R: Docket, T: Plan<R>>(_disk: &D, _docket: &R, _plan: &T)
-    ensures { (plan : T) (past : List R.Entry) (old new : D) (output : Output) (ended : Result (Unit {0}) SessionStop)
-        → IsHonest (D.tells old) → EachImage (D.tells old) (λ file. Recovers R.scheme file past)
-        → Planned D.Disk R.scheme R.judging T.Rows.texts (T.plans plan) old new output ended
-        → EachMoment (D.tells old) (D.tells new) (RecoversPlanned R.scheme R.judging T.Rows.texts (T.plans plan) past) }
-{}
-
-/// Planned rows that ended well leave each image with the list that the disk read as, and all that the asks add which were
-/// planned on it.
-pub fn planned_stands<D: Disk, R: Docket, T: Plan<R>>(_disk: &D, _docket: &R, _plan: &T)
-    ensures { (plan : T) (past : List R.Entry) (old new : D) (output : Output)
-        → IsHonest (D.tells old) → Recovers R.scheme (D.tells old).reads past
-        → Planned D.Disk R.scheme R.judging T.Rows.texts (T.plans plan) old new output (Ok tt)
-        → (asks : List R.Ask) × (closing : List ℕ) × (rows : List (Result R.Ask T.Rows.Error)) × T.plans plan past asks closing
-        × (map T.Rows.texts.said rows ≡ map T.Rows.texts.said (rows_of_asks asks))
-        × EachImage (D.tells new) (λ file. Recovers R.scheme file (after_rows R.judging past rows)) }
-{}
 
 /// Whatever counted rows come to, each image at each moment recovers the list before them, with what some rows in front add.
 pub fn each_moment_of_counted<D: Disk, R: Docket, L: Rows<R>, T: Tally<R>>(

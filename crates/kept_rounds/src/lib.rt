@@ -6,14 +6,9 @@ mod counted;
 mod counting;
 mod laws;
 mod planned;
-mod planning;
 mod tally;
 
 pub use counted::{answer_counted, file_counted};
-pub use laws::{
-    counted_stands, each_moment_of_counted, each_moment_of_counted_session, each_moment_of_planned,
-    planned_stands,
-};
-pub use planned::answer_planned;
-pub use planning::Plan;
+pub use laws::{counted_stands, each_moment_of_counted, each_moment_of_counted_session};
+pub use planned::file_planned;
 pub use tally::Tally;

@@ -1,53 +1,42 @@
-// The journal is opened, rows are planned on its list, and they are filed.
-ghost use Rattle.std.specs.Prelude.{◌≡◌, ◌≢◌, ◌≤◌, false, Err, IsTrue, IfErr, OnOk};
+// Rows that were planned on an open list are filed, and a closing text is written behind their lines.
+ghost use Rattle.std.specs.Prelude.{◌≡◌, ◌≢◌, ◌≤◌, ◌<◌, ◌^◌, ℕ, false, Option, Err, IfErr, None, OnOk, length};
 ghost use Rattle.aid_edges.specs.Faults.{Rose};
 ghost use Rattle.kept_session.specs.Sessions.{is_disk_fault};
-ghost use Rattle.kept_rounds.specs.Planned.{Planned};
+ghost use Rattle.kept_rounds.specs.Planned.{Closes};
 
-use crate::Plan;
 use aid_edges::{Sink, write_whole};
 use disk_model::Disk;
-use kept_list::Docket;
-use kept_session::{FileStop, SessionStop, file_rows, open};
+use kept_list::{Docket, KeptList};
+use kept_session::{FileStop, Rows, SessionStop, file_rows};
 use std::alloc::Global;
 
-/// Opens the list of the disk's file, and files what is planned on it: each row's line is written before the next row is
-/// filed, and the closing text behind the last. It answers why it ended early, and the disk as it is then.
-pub fn answer_planned<D: Disk, K: Sink, R: Docket, T: Plan<R>>(
+/// Files the rows that are left into an open list, on which they were planned: each row's line is written before the next
+/// row is filed, and the closing text behind the last.
+pub fn file_planned<D: Disk, K: Sink, R: Docket, L: Rows<R>>(
     alloc: Global,
-    disk: D,
-    plan: &T,
+    kept: &mut KeptList<D, R>,
+    rows: L,
+    closing: &[u8],
     out: &mut K,
-) -> (Result<(), SessionStop>, D)
-    ensures planned { Planned D.Disk R.scheme R.judging T.Rows.texts (T.plans plan.now) disk result.1
-        (record { honest = K.honest out.old; before = K.text out.old; after = K.text out.new }) result.0 }
-    ensures write_fault { result.0 ≡ Err (SessionStop.Filing FileStop.Write) → Rose (K.faults out.old) (K.faults out.new) }
-    ensures disk_fault { IfErr result.0 (λ stop. IsTrue (is_disk_fault stop) → Rose (D.faults disk) (D.faults result.1)) }
-    ensures disk_unmoved { OnOk result.0 (D.faults result.1 ≡ D.faults disk) }
-    ensures sink_unmoved { OnOk result.0 (K.faults out.new ≡ K.faults out.old) }
-    ensures disk_unmoved_err { IfErr result.0 (λ stop. is_disk_fault stop ≡ false → D.faults result.1 ≡ D.faults disk) }
-    ensures sink_unmoved_err { IfErr result.0 (λ stop. stop ≢ SessionStop.Filing FileStop.Write → K.faults out.new ≡ K.faults out.old) }
-    ensures disk_later { D.faults disk ≤ D.faults result.1 }
+) -> Result<(), FileStop>
+    requires few { length (L.left rows) < 2 ^ 32 }
+    requires decided { kept.old.pending ≡ None }
+    ensures closes { Closes D.Disk R.scheme R.judging L.texts kept.old.history kept.old.disk kept.new.disk
+        (record { honest = K.honest out.old; before = K.text out.old; after = K.text out.new }) (L.left rows) closing.now result }
+    ensures write_fault { result ≡ Err FileStop.Write → Rose (K.faults out.old) (K.faults out.new) }
+    ensures disk_fault { IfErr result (λ stop. (undecided : Option ℕ) → stop ≡ FileStop.DiskFault undecided → Rose (D.faults kept.old.disk) (D.faults kept.new.disk)) }
+    ensures disk_unmoved { OnOk result (D.faults kept.new.disk ≡ D.faults kept.old.disk) }
+    ensures sink_unmoved { OnOk result (K.faults out.new ≡ K.faults out.old) }
+    ensures disk_unmoved_err { IfErr result (λ stop. is_disk_fault (SessionStop.Filing stop) ≡ false → D.faults kept.new.disk ≡ D.faults kept.old.disk) }
+    ensures sink_unmoved_err { IfErr result (λ stop. stop ≢ FileStop.Write → K.faults out.new ≡ K.faults out.old) }
+    ensures disk_later { D.faults kept.old.disk ≤ D.faults kept.new.disk }
     ensures sink_later { K.faults out.old ≤ K.faults out.new }
-    ensures disk_honest { (D.tells result.1).honest ≡ (D.tells disk).honest }
+    ensures disk_honest { (D.tells kept.new.disk).honest ≡ (D.tells kept.old.disk).honest }
     ensures sink_honest { K.honest out.new ≡ K.honest out.old }
 {
-    let mut kept = match open::<D, R>(alloc, disk) {
-        Ok(kept) => kept,
-        Err((error, disk)) => return (Err(SessionStop::Opening(error)), disk),
-    };
-    let (rows, closing) = match plan.plan(alloc, kept.docket()) {
-        Ok(planned) => planned,
-        Err(_) => return (
-            Err(SessionStop::Filing(FileStop::NoMemory)),
-            kept.into_disk(),
-        ),
-    };
-    match file_rows::<D, K, R, T::Rows>(alloc, &mut kept, rows, out) {
-        Ok(()) => match write_whole(out, &closing) {
-            Ok(()) => (Ok(()), kept.into_disk()),
-            Err(_) => (Err(SessionStop::Filing(FileStop::Write)), kept.into_disk()),
-        },
-        Err(stop) => (Err(SessionStop::Filing(stop)), kept.into_disk()),
+    file_rows::<D, K, R, L>(alloc, kept, rows, out)?;
+    match write_whole(out, closing) {
+        Ok(()) => Ok(()),
+        Err(_) => Err(FileStop::Write),
     }
 }

@@ -1,3 +1,5 @@
 pub mod NumberLemmas
+pub mod PolicyWords
 pub mod WordsLemmas
 pub mod DeskWords
+pub mod ServeWords

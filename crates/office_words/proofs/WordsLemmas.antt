@@ -1,18 +1,20 @@
 -- A row of words is that of one command at most.
-use Rattle.std.proofs.Common.{◌≡◌, ℕ, ◌<◌, ◌≤◌, List, [], ◌∷◌, Option, Some, None, IfSome, decimal, get_or, length, map, rules, refl, sym, ap, ◌∙◌, arith}
+use Rattle.std.proofs.Common.{◌≡◌, ◌⊎◌, inl, inr, ℕ, ◌<◌, ◌≤◌, List, [], ◌∷◌, Option, Some, None, IfSome, decimal, get_or, length, map, rules, refl, subst, sym, ap, ◌∙◌, arith}
 use Rattle.std.specs.Coded.{le_prop}
 use Rattle.std.proofs.lemmas.Fmt.{decimal_injective}
+use Rattle.std.proofs.lemmas.List.{length-map}
 use Rattle.aid_types.proofs.Same.{same_with_fact}
 use Rattle.aid_types.specs.Ranges.{IsBetween}
-use Rattle.office_words.specs.Words.{Reads, ReadsGenerate, ReadsQuote, ReadsYear, generate_words, quote_words, report_words, words_of}
+use Rattle.office_words.specs.Words.{HasPolicy, IsRow, Reads, ReadsGenerate, ReadsOf, ReadsQuote, ReadsYear, fund_words, generate_words, quote_words, report_words, words_of}
 use Rattle.office_words.specs.declared.command.BookNumber.{BookNumber}
 use Rattle.office_words.specs.declared.command.Command.{Command}
-use Rattle.office_words.specs.declared.command.Command.TheVariants.{Found, File, Book, Quote, Report, Generate, CheckRows, CheckBook}
+use Rattle.office_words.specs.declared.command.Command.TheVariants.{Found, File, Book, Quote, Report, Fund, Generate, CheckRows, CheckBook}
 use Rattle.office_words.specs.declared.command.GenerateRequest.{GenerateRequest}
 use Rattle.office_words.specs.declared.command.QuoteRequest.{QuoteRequest}
 use Rattle.office_words.specs.declared.command.ReportRequest.{ReportRequest}
 use Rattle.office_words.specs.declared.command.ReportRequest.TheVariants.{Standing, Awards, Returns, Lifetime}
 use Rattle.office_words.specs.declared.command.ReportYear.{ReportYear}
+use Rattle.office_words.proofs.PolicyWords.{same_fund}
 
 same_book : (x y : BookNumber) → x.number ≡ y.number → x ≡ y
 same_book x y e =
@@ -75,26 +77,35 @@ same_report (Returns x) (Returns y) e = let year : decimal x.year ≡ decimal y.
 same_report Lifetime Lifetime e = refl
 same_report x y e = first_letters (report_words x) (report_words y) e (λ is. omega (arith, is))
 
-rows_book : {A : Type 0} → words_of CheckRows ≡ words_of CheckBook → A
-rows_book e = let first : ◌≡◌ {A = ℕ} 114 98 = ap (λ (words : List (List ℕ)). get_or (get_or words 1 []) 0 0) e in absurd (omega arith)
+rows_book : {A : Type 0} (names : List (List ℕ)) → words_of names CheckRows ≡ words_of names CheckBook → A
+rows_book names e = let first : ◌≡◌ {A = ℕ} 114 98 = ap (λ (words : List (List ℕ)). get_or (get_or words 1 []) 0 0) e in absurd (omega arith)
 
 -- commands with the same words are the same
-pub same_command : (c d : Command) → words_of c ≡ words_of d → c ≡ d
-same_command Found Found e = refl
-same_command File File e = refl
-same_command CheckRows CheckRows e = refl
-same_command CheckBook CheckBook e = refl
-same_command (Book x) (Book y) e = let number : decimal x.number ≡ decimal y.number = cc in ap Book (same_book x y (same_number x.number y.number (omega (arith, x.in_range)) (omega (arith, y.in_range)) number))
-same_command (Quote x) (Quote y) e = ap Quote (same_quote x y cc)
-same_command (Report x) (Report y) e = ap Report (same_report x y cc)
-same_command (Generate x) (Generate y) e = ap Generate (same_generate x y cc)
-same_command CheckRows CheckBook e = rows_book e
-same_command CheckBook CheckRows e = rows_book (sym e)
-same_command _ _ e = absurd cc
+pub same_command : (names : List (List ℕ)) (c d : Command) → words_of names c ≡ words_of names d → HasPolicy names c → HasPolicy names d → c ≡ d
+same_command names Found Found e p q = refl
+same_command names File File e p q = refl
+same_command names CheckRows CheckRows e p q = refl
+same_command names CheckBook CheckBook e p q = refl
+same_command names (Book x) (Book y) e p q = let number : decimal x.number ≡ decimal y.number = cc in ap Book (same_book x y (same_number x.number y.number (omega (arith, x.in_range)) (omega (arith, y.in_range)) number))
+same_command names (Quote x) (Quote y) e p q = ap Quote (same_quote x y cc)
+same_command names (Report x) (Report y) e p q = ap Report (same_report x y cc)
+same_command names (Fund x) (Fund y) e p q =
+    let words : fund_words names x ≡ fund_words names y = cc in
+    ap Fund (same_fund names x y words p q)
+same_command names (Generate x) (Generate y) e p q = ap Generate (same_generate x y cc)
+same_command names CheckRows CheckBook e p q = rows_book names e
+same_command names CheckBook CheckRows e p q = rows_book names (sym e)
+same_command names _ _ e p q = absurd cc
 
 -- words of a command are read as it
-pub reads_some : (words : List (List ℕ)) (c : Command) → words ≡ words_of c → Reads words (Some c)
-reads_some words c is d = (λ same. let at : c ≡ d = cc in is ∙ ap words_of at, λ told. ap Some (same_command c d (sym is ∙ told)))
+pub reads_of : (names words : List (List ℕ)) (c : Command) → IsRow names words c → ReadsOf names words (Some c)
+reads_of names words c is d = (
+  λ same. let at : c ≡ d = cc in subst (IsRow names words) at is,
+  λ told. ap Some (same_command names c d (sym is.0 ∙ told.0) is.1 told.1),
+)
+
+pub reads_some : (words : List (List ℕ)) (c : Command) → ((names : List (List ℕ)) → IsRow names words c) → Reads words (Some c)
+reads_some words c is names = reads_of names words c (is names)
 
 pub reads_request : (words : List (List ℕ)) (q : QuoteRequest) → words ≡ quote_words q → ReadsQuote words (Some q)
 reads_request words q is r = (λ same. let at : q ≡ r = cc in is ∙ ap quote_words at, λ told. ap Some (same_quote q r (sym is ∙ told)))
@@ -105,9 +116,38 @@ reads_generate words g is r = (λ same. let at : g ≡ r = cc in is ∙ ap gener
 pub reads_year : (word : List ℕ) (of : ReportYear) → word ≡ decimal of.year → ReadsYear word (Some of)
 reads_year word of is other = (λ same. let at : of ≡ other = cc in is ∙ ap (λ (y : ReportYear). decimal y.year) at, λ told. ap Some (same_year of other (sym is ∙ told)))
 
-pub if_read : (words other : List (List ℕ)) (read : Option Command) → other ≡ words → Reads words read → IfSome read (λ c. other ≡ words_of c)
-if_read words other None same reads = search rules
-if_read words other (Some c) same reads = same ∙ (reads c).0 refl
+pub if_read : (names words other : List (List ℕ)) (read : Option Command) → other ≡ words → ReadsOf names words read → IfSome read (λ c. IsRow names other c)
+if_read names words other None same reads = search rules
+if_read names words other (Some c) same reads = let is = (reads c).0 refl in (same ∙ is.0, is.1)
+
+-- what such an end says of the command of other words
+pub only_read : (names words other : List (List ℕ)) (read : Option Command) → other ≡ words → ReadsOf names words read → (c : Command) → IsRow names other c → read ≡ Some c
+only_read names words other read same reads c is = (reads c).1 (sym same ∙ is.0, is.1)
+
+pub none_read : (names words other : List (List ℕ)) (read : Option Command) → other ≡ words → ReadsOf names words read → read ≡ None → (c : Command) → IsRow names other c → ⊥
+none_read names words other read same reads none c is = let bad : ◌≡◌ {A = Option Command} None (Some c) = sym none ∙ only_read names words other read same reads c is in absurd cc
+
+-- so many words a row has
+abbrev pub IsRowSize : ℕ → Type 0
+IsRowSize n = (n ≡ 1) ⊎ ((n ≡ 2) ⊎ ((n ≡ 3) ⊎ ((n ≡ 5) ⊎ (n ≡ 7))))
+
+words_size : (names : List (List ℕ)) (c : Command) → IsRowSize (length (words_of names c))
+words_size names Found = inl refl
+words_size names File = inl refl
+words_size names (Book book) = inr (inl refl)
+words_size names (Quote quote) = inr (inr (inr (inl refl)))
+words_size names (Report (Standing of)) = inr (inr (inl refl))
+words_size names (Report (Awards of)) = inr (inr (inl refl))
+words_size names (Report (Returns of)) = inr (inr (inl refl))
+words_size names (Report Lifetime) = inr (inl refl)
+words_size names (Fund fund) = inr (inr (inr (inr refl)))
+words_size names (Generate generate) = inr (inr (inl refl))
+words_size names CheckRows = inr (inl refl)
+words_size names CheckBook = inr (inl refl)
+
+-- the same of what the words are made of
+pub row_size : {X : Type 0} (text : X → List ℕ) (names : List (List ℕ)) (words : List X) (c : Command) → IsRow names (map text words) c → IsRowSize (length words)
+row_size text names words c is = subst IsRowSize (sym (ap length is.0) ∙ length-map words text) (words_size names c)
 
 -- a list of length 5
 pub five : {X : Type 0} (xs : List X) (a b c d e : X) → 5 ≤ length xs → length xs < 6 → a ≡ get_or xs 0 a → b ≡ get_or xs 1 b → c ≡ get_or xs 2 c → d ≡ get_or xs 3 d → e ≡ get_or xs 4 e
@@ -124,3 +164,16 @@ five (v ∷ w ∷ x ∷ y ∷ []) a b c d e some few is_a is_b is_c is_d is_e = 
 pub five_texts : {X : Type 0} (text : X → List ℕ) (xs : List X) (a b c d e : X) (p q r s t : List ℕ) → xs ≡ a ∷ b ∷ c ∷ d ∷ e ∷ []
     → p ≡ text a → q ≡ text b → r ≡ text c → s ≡ text d → t ≡ text e → map text xs ≡ p ∷ q ∷ r ∷ s ∷ t ∷ []
 five_texts text xs a b c d e p q r s t is at_a at_b at_c at_d at_e = rw (is, at_a, at_b, at_c, at_d, at_e) refl
+
+-- a list of length 7
+pub seven : {X : Type 0} (xs : List X) (a b c d e f g : X) → 7 ≤ length xs → length xs < 8 → a ≡ get_or xs 0 a → b ≡ get_or xs 1 b → c ≡ get_or xs 2 c → d ≡ get_or xs 3 d → e ≡ get_or xs 4 e
+    → f ≡ get_or xs 5 f → g ≡ get_or xs 6 g → xs ≡ a ∷ b ∷ c ∷ d ∷ e ∷ f ∷ g ∷ []
+seven (u ∷ v ∷ xs) a b c d e f g some few is_a is_b is_c is_d is_e is_f is_g =
+    let rest : xs ≡ c ∷ d ∷ e ∷ f ∷ g ∷ [] = five xs c d e f g (omega (arith, some)) (omega (arith, few)) is_c is_d is_e is_f is_g in cc
+seven [] a b c d e f g some few is_a is_b is_c is_d is_e is_f is_g = absurd (omega arith)
+seven (u ∷ []) a b c d e f g some few is_a is_b is_c is_d is_e is_f is_g = absurd (omega arith)
+
+-- the texts of its items
+pub seven_texts : {X : Type 0} (text : X → List ℕ) (xs : List X) (a b c d e f g : X) (p q r s t u v : List ℕ) → xs ≡ a ∷ b ∷ c ∷ d ∷ e ∷ f ∷ g ∷ []
+    → p ≡ text a → q ≡ text b → r ≡ text c → s ≡ text d → t ≡ text e → u ≡ text f → v ≡ text g → map text xs ≡ p ∷ q ∷ r ∷ s ∷ t ∷ u ∷ v ∷ []
+seven_texts text xs a b c d e f g p q r s t u v is at_a at_b at_c at_d at_e at_f at_g = rw (is, at_a, at_b, at_c, at_d, at_e, at_f, at_g) refl

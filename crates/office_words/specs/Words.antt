@@ -1,14 +1,18 @@
 -- The rows of words of the program, behind the path of its journal. Own format.
-use Rattle.std.specs.Prelude.{◌≡◌, ◌↔◌, ◌==◌, ℕ, Bool, false, not, IsTrue, List, [], ◌∷◌, length, Option, Some, codes, decimal}
-use Rattle.std.specs.List.{list_all}
+use Rattle.std.specs.Prelude.{◌≡◌, ◌↔◌, ◌==◌, ℕ, Bool, false, not, IsTrue, List, [], ◌∷◌, length, Option, Some, None, codes, decimal, slice_index_or}
+use Rattle.std.specs.List.{list_all, position}
+use Rattle.std.specs.Str.{bytes_eq}
 use Rattle.aid_types.specs.Ranges.{IsBetween}
 use Rattle.office_words.specs.declared.command.Command.{Command}
-use Rattle.office_words.specs.declared.command.Command.TheVariants.{Found, File, Book, Quote, Report, Generate, CheckRows, CheckBook}
+use Rattle.office_words.specs.declared.command.Command.TheVariants.{Found, File, Book, Quote, Report, Fund, Generate, CheckRows, CheckBook}
+use Rattle.office_words.specs.declared.command.FundRequest.{FundRequest}
 use Rattle.office_words.specs.declared.command.GenerateRequest.{GenerateRequest}
 use Rattle.office_words.specs.declared.command.QuoteRequest.{QuoteRequest}
 use Rattle.office_words.specs.declared.command.ReportRequest.{ReportRequest}
 use Rattle.office_words.specs.declared.command.ReportRequest.TheVariants.{Standing, Awards, Returns, Lifetime}
 use Rattle.office_words.specs.declared.command.ReportYear.{ReportYear}
+use Rattle.office_words.specs.declared.command.MainRow.{MainRow}
+use Rattle.office_words.specs.declared.command.MainRow.TheVariants.{Serve}
 
 -- the numbers of a quote: SCHOOL STUDENT YEAR TERM
 abbrev pub quote_words : QuoteRequest → List (List ℕ)
@@ -25,24 +29,51 @@ report_words Lifetime = codes "lifetime" ∷ []
 abbrev pub generate_words : GenerateRequest → List (List ℕ)
 generate_words generate = decimal generate.seed ∷ decimal generate.students ∷ []
 
--- the one row of words of a command
-abbrev pub words_of : Command → List (List ℕ)
-words_of Found = codes "found" ∷ []
-words_of File = codes "file" ∷ []
-words_of (Book book) = codes "book" ∷ decimal book.number ∷ []
-words_of (Quote quote) = codes "quote" ∷ quote_words quote
-words_of (Report report) = codes "report" ∷ report_words report
-words_of (Generate generate) = codes "generate" ∷ generate_words generate
-words_of CheckRows = codes "check" ∷ codes "rows" ∷ []
-words_of CheckBook = codes "check" ∷ codes "book" ∷ []
+-- a round of awards: SCHOOL YEAR TERM AMOUNT POLICY NUMBER, the policy by its name among those that are known
+abbrev pub fund_words : List (List ℕ) → FundRequest → List (List ℕ)
+fund_words names fund =
+    decimal fund.school ∷ decimal fund.year ∷ decimal fund.term ∷ decimal fund.amount ∷ slice_index_or names fund.policy [] ∷ decimal fund.number ∷ []
+
+-- the place is that of the first name of its kind
+abbrev pub IsFirstNamed : List (List ℕ) → ℕ → Type 0
+IsFirstNamed names place = position (λ name. bytes_eq name (slice_index_or names place [])) names ≡ Some place
+
+-- the words of a command, by the names of the policies that are known
+abbrev pub words_of : List (List ℕ) → Command → List (List ℕ)
+words_of names Found = codes "found" ∷ []
+words_of names File = codes "file" ∷ []
+words_of names (Book book) = codes "book" ∷ decimal book.number ∷ []
+words_of names (Quote quote) = codes "quote" ∷ quote_words quote
+words_of names (Report report) = codes "report" ∷ report_words report
+words_of names (Fund fund) = codes "fund" ∷ fund_words names fund
+words_of names (Generate generate) = codes "generate" ∷ generate_words generate
+words_of names CheckRows = codes "check" ∷ codes "rows" ∷ []
+words_of names CheckBook = codes "check" ∷ codes "book" ∷ []
+
+-- the policy of a command, if it has one, is known, and the first of its name
+abbrev pub HasPolicy : List (List ℕ) → Command → Type 0
+HasPolicy names (Fund fund) = IsFirstNamed names fund.policy
+HasPolicy names command = Unit {0}
+
+-- the words are the one row of the command
+abbrev pub IsRow : List (List ℕ) → List (List ℕ) → Command → Type 0
+IsRow names words command = (words ≡ words_of names command) × HasPolicy names command
 
 -- the words are the row of the command that was read, and of none where none was
+abbrev pub ReadsOf : List (List ℕ) → List (List ℕ) → Option Command → Type 0
+ReadsOf names words read = (c : Command) → (read ≡ Some c) ↔ IsRow names words c
+
+-- the same, whichever policies are known
 abbrev pub Reads : List (List ℕ) → Option Command → Type 0
-Reads words read = (c : Command) → (read ≡ Some c) ↔ (words ≡ words_of c)
+Reads words read = (names : List (List ℕ)) → ReadsOf names words read
 
 -- the same of the numbers of a quote
 abbrev pub ReadsQuote : List (List ℕ) → Option QuoteRequest → Type 0
 ReadsQuote words read = (quote : QuoteRequest) → (read ≡ Some quote) ↔ (words ≡ quote_words quote)
+
+-- the same of the words of a round
+abbrev pub ReadsFund : List (List ℕ) → List (List ℕ) → Option FundRequest → Type 0
+ReadsFund names words read = (fund : FundRequest) → (read ≡ Some fund) ↔ ((words ≡ fund_words names fund) × IsFirstNamed names fund.policy)
 
 -- the same of the words of a report
 abbrev pub ReadsReport : List (List ℕ) → Option ReportRequest → Type 0
@@ -65,3 +96,17 @@ begins_with_hyphen (letter ∷ word) = letter == 45
 abbrev pub AreDesks : List (List ℕ) → ℕ → Type 0
 AreDesks [] files = ⊥
 AreDesks (first ∷ paths) files = (first ≡ codes "desks") × (files ≡ length paths) × IsBetween 1 16 files × IsTrue (list_all (λ path. not (begins_with_hyphen path)) paths)
+
+-- the words of a server: PORT WORKERS SESSIONS
+abbrev pub serve_words : ℕ → ℕ → ℕ → List (List ℕ)
+serve_words port workers sessions = codes "serve" ∷ decimal port ∷ decimal workers ∷ decimal sessions ∷ []
+
+-- the words are those of these numbers, each in its range
+abbrev pub AreServe : List (List ℕ) → ℕ → ℕ → ℕ → Type 0
+AreServe words port workers sessions =
+    (words ≡ serve_words port workers sessions) × IsBetween 1 65535 port × IsBetween 1 16 workers × IsBetween 1 1000000 sessions
+
+-- the words are the row of the server that was read, and of none where none was
+abbrev pub ReadsServe : List (List ℕ) → Option MainRow → Type 0
+ReadsServe words None = (port workers sessions : ℕ) → ¬ AreServe words port workers sessions
+ReadsServe words (Some row) = (port : ℕ) × (workers : ℕ) × (sessions : ℕ) × (row ≡ Serve port workers sessions) × AreServe words port workers sessions

@@ -50,6 +50,20 @@ pub struct GenerateRequest {
     pub ghost in_range: { (seed ≤ 999999999999) × IsBetween 1 20000 students },
 }
 
+/// The award round that is asked for: the fund in whole dollars, the place of the policy among those that are known, and the
+/// number of the first award's key.
+#[derive(Clone, Copy, PartialEq, Eq, Debug)]
+pub struct FundRequest {
+    pub school: School,
+    pub year: Year,
+    pub term: u8,
+    pub amount: u32,
+    pub policy: usize,
+    pub number: u64,
+    pub ghost in_range: { (school ≤ 999999) × IsBetween 2000 2099 year × IsBetween 1 8 term
+        × IsBetween 1 99999999 amount × IsBetween 1 999999000000 number },
+}
+
 /// A command of the program, by its row of words.
 #[derive(Clone, Copy, PartialEq, Eq, Debug)]
 pub enum Command {
@@ -63,6 +77,8 @@ pub enum Command {
     Quote(QuoteRequest),
     /// `report standing YEAR`, `report awards YEAR`, `report returns YEAR`, `report lifetime`: to write a report on the office.
     Report(ReportRequest),
+    /// `fund SCHOOL YEAR TERM AMOUNT POLICY NUMBER`: to file the awards of a round.
+    Fund(FundRequest),
     /// `generate SEED STUDENTS`: to file a generated year, whose book is the text of the input.
     Generate(GenerateRequest),
     /// `check rows`: to read the rows of the input, and file none.
@@ -77,5 +93,14 @@ pub enum MainRow {
     /// A run over one input, or over none.
     Run,
     /// `desks FILE..`: the files are filed at once, 1 to 16 of them.
-    Desks { files: u32 },
+    Desks {
+        files: u32,
+    },
+    /// `serve PORT WORKERS SESSIONS`: so many workers, 1 to 16, answer requests on a port of this machine, each over so many
+    /// connections one after the other.
+    Serve {
+        port: u16,
+        workers: u8,
+        sessions: u32,
+    },
 }

@@ -7,7 +7,8 @@ mod number;
 mod words;
 
 pub use command::{
-    BookNumber, Command, GenerateRequest, MainRow, QuoteRequest, ReportRequest, ReportYear,
+    BookNumber, Command, FundRequest, GenerateRequest, MainRow, QuoteRequest, ReportRequest,
+    ReportYear,
 };
 pub use main_row::{MOST_DESKS, row_of};
 pub use words::command_of;

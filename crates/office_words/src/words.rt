@@ -1,19 +1,23 @@
 //! The command of a row of words.
-ghost use Rattle.std.specs.Prelude.{◌≡◌, ◌≢◌, ◌↔◌, ◌∷◌, [], IfSome, IsTrue, codes, map, string_bytes};
-ghost use Rattle.office_words.specs.Words.{Reads, ReadsGenerate, ReadsQuote, ReadsReport, ReadsYear, words_of};
+ghost use Rattle.std.specs.Prelude.{◌≡◌, ◌↔◌, ◌∷◌, [], IfSome, IsTrue, codes, map, string_bytes};
+ghost use Rattle.std.specs.List.{position};
+ghost use Rattle.std.specs.Str.{bytes_eq};
+ghost use Rattle.office_words.specs.Words.{IsRow, Reads, ReadsFund, ReadsGenerate, ReadsOf, ReadsQuote, ReadsReport, ReadsYear};
 ghost use Rattle.office_words.specs.declared.command.Command.{Command as CommandData};
 
 use crate::command::{
-    BookNumber, Command, GenerateRequest, QuoteRequest, ReportRequest, ReportYear,
+    BookNumber, Command, FundRequest, GenerateRequest, QuoteRequest, ReportRequest, ReportYear,
 };
 use crate::number::number_in;
 use aid_types::{School, Student, Year};
+use fund_policy::Policies;
 
-/// The command that the words are the row of; `None` where they are no row of the program's. It takes no memory.
-pub fn command_of(words: &[String]) -> Option<Command>
-    ensures words { IfSome result (λ c. map string_bytes words.now ≡ words_of c) }
-    ensures none { result ≡ None → (c : CommandData) → map string_bytes words.now ≢ words_of c }
-    ensures only { (c : CommandData) → map string_bytes words.now ≡ words_of c → result ≡ Some c }
+/// The command that the words are the row of, where these policies are known; `None` where they are no row of the program's.
+/// It takes no memory.
+pub fn command_of(words: &[String], policies: &Policies) -> Option<Command>
+    ensures words { IfSome result (λ c. IsRow (map (λ p. p.name) policies.now.list.items) (map string_bytes words.now) c) }
+    ensures none { result ≡ None → (c : CommandData) → ¬ (IsRow (map (λ p. p.name) policies.now.list.items) (map string_bytes words.now) c) }
+    ensures only { (c : CommandData) → IsRow (map (λ p. p.name) policies.now.list.items) (map string_bytes words.now) c → result ≡ Some c }
 {
     match words {
         [only] => command_alone(only.as_str()),
@@ -27,6 +31,16 @@ pub fn command_of(words: &[String]) -> Option<Command>
             student.as_str(),
             year.as_str(),
             term.as_str(),
+        ),
+        [first, school, year, term, amount, policy, number] => command_of_seven(
+            policies,
+            first.as_str(),
+            school.as_str(),
+            year.as_str(),
+            term.as_str(),
+            amount.as_str(),
+            policy.as_str(),
+            number.as_str(),
         ),
         _ => None,
     }
@@ -173,5 +187,60 @@ fn quote_request(school: &str, student: &str, year: &str, term: &str) -> Option<
         student: Student(number_in(student, 1, 999_999_999_999)?),
         year: Year(number_in(year, 2000, 2099)? as u16),
         term: number_in(term, 1, 8)? as u8,
+    })
+}
+
+// The place of the first policy of a name.
+fn place_of(policies: &Policies, name: &str) -> Option<usize>
+    ensures { result ≡ position (λ known. bytes_eq known name.now) (map (λ p. p.name) policies.now.list.items) }
+{
+    policies.list.iter().position(
+        |policy|
+            ensures { result ≡ bytes_eq policy.now.name name.entry.now }
+        { policy.name.as_bytes() == name.as_bytes() },
+    )
+}
+
+// The command of seven words.
+fn command_of_seven(
+    policies: &Policies,
+    first: &str,
+    school: &str,
+    year: &str,
+    term: &str,
+    amount: &str,
+    policy: &str,
+    number: &str,
+) -> Option<Command>
+    ensures { ReadsOf (map (λ p. p.name) policies.now.list.items)
+        (first.now ∷ school.now ∷ year.now ∷ term.now ∷ amount.now ∷ policy.now ∷ number.now ∷ []) result }
+{
+    if is_same_word(first, "fund") {
+        Some(Command::Fund(fund_request(policies, school, year, term, amount, policy, number)?))
+    } else {
+        None
+    }
+}
+
+// The award round that is asked for.
+fn fund_request(
+    policies: &Policies,
+    school: &str,
+    year: &str,
+    term: &str,
+    amount: &str,
+    policy: &str,
+    number: &str,
+) -> Option<FundRequest>
+    ensures { ReadsFund (map (λ p. p.name) policies.now.list.items)
+        (school.now ∷ year.now ∷ term.now ∷ amount.now ∷ policy.now ∷ number.now ∷ []) result }
+{
+    Some(FundRequest {
+        school: School(number_in(school, 0, 999_999)? as u32),
+        year: Year(number_in(year, 2000, 2099)? as u16),
+        term: number_in(term, 1, 8)? as u8,
+        amount: number_in(amount, 1, 99_999_999)? as u32,
+        policy: place_of(policies, policy)?,
+        number: number_in(number, 1, 999_999_000_000)?,
     })
 }

@@ -1,16 +1,21 @@
 //! Which rows of words are commands.
-use office_words::{Command, ReportRequest, command_of};
+use fund_policy::{Policies, Rule, level, quarter, standard};
+use office_words::{Command, FundRequest, ReportRequest, command_of};
 use std::alloc::{AllocError, Global};
 use std::process::Abort;
 use std::test::Fail;
 
 // The command of the words of a row, which stand with one space between them.
-fn command_in(alloc: Global, row: &str) -> Result<Option<Command>, AllocError> {
+fn command_in(
+    alloc: Global,
+    policies: &Policies,
+    row: &str,
+) -> Result<Option<Command>, AllocError> {
     let mut words = Vec::new(alloc);
     for word in row.split(' ') {
         words.push(String::from_str(alloc, word)?)?;
     }
-    Ok(command_of(words.as_slice()))
+    Ok(command_of(words.as_slice(), policies))
 }
 
 // What a report is of.
@@ -25,9 +30,16 @@ fn report_said(alloc: Global, report: ReportRequest) -> Result<String, AllocErro
     format!(in alloc; "{what} of {year}")
 }
 
+// What a round is of.
+fn round_said(alloc: Global, fund: FundRequest) -> Result<String, AllocError> {
+    let (school, year, term) = (fund.school.0, fund.year.0, fund.term);
+    let (amount, policy, number) = (fund.amount, fund.policy, fund.number);
+    format!(in alloc; "school {school}, year {year}, term {term}: {amount} by policy {policy} from {number}")
+}
+
 // What the command of a row says.
-fn said(alloc: Global, row: &str) -> Result<String, AllocError> {
-    match command_in(alloc, row)? {
+fn said(alloc: Global, policies: &Policies, row: &str) -> Result<String, AllocError> {
+    match command_in(alloc, policies, row)? {
         None => format!(in alloc; "none"),
         Some(Command::Found) => format!(in alloc; "an office is founded"),
         Some(Command::File) => format!(in alloc; "rows are filed"),
@@ -41,6 +53,7 @@ fn said(alloc: Global, row: &str) -> Result<String, AllocError> {
             format!(in alloc; "school {school}, student {student}, year {year}, term {term}")
         }
         Some(Command::Report(report)) => report_said(alloc, report),
+        Some(Command::Fund(fund)) => round_said(alloc, fund),
         Some(Command::Generate(generate)) => {
             let (students, seed) = (generate.students, generate.seed);
             format!(in alloc; "{students} students drawn from {seed}")
@@ -53,7 +66,7 @@ fn said(alloc: Global, row: &str) -> Result<String, AllocError> {
 // A row of words, and what its command says.
 struct Case(&'static str, &'static str);
 
-static COMMANDS: [Case; 14] = [
+static COMMANDS: [Case; 17] = [
     Case("found", "an office is founded"),
     Case("file", "rows are filed"),
     Case("book 1", "book 1 is filed"),
@@ -67,6 +80,18 @@ static COMMANDS: [Case; 14] = [
     Case("report awards 2000", "awards of 2000"),
     Case("report returns 2099", "returns of 2099"),
     Case("report lifetime", "lifetime units"),
+    Case(
+        "fund 110 2025 1 600 level 50",
+        "school 110, year 2025, term 1: 600 by policy 0 from 50",
+    ),
+    Case(
+        "fund 0 2000 8 1 quarter 1",
+        "school 0, year 2000, term 8: 1 by policy 1 from 1",
+    ),
+    Case(
+        "fund 999999 2099 1 99999999 level 999999000000",
+        "school 999999, year 2099, term 1: 99999999 by policy 0 from 999999000000",
+    ),
     Case("generate 0 1", "1 students drawn from 0"),
     Case(
         "generate 999999999999 20000",
@@ -76,7 +101,7 @@ static COMMANDS: [Case; 14] = [
     Case("check book", "a book is checked"),
 ];
 
-static NONE: [&str; 43] = [
+static NONE: [&str; 56] = [
     "",
     "Found",
     "found ",
@@ -110,6 +135,19 @@ static NONE: [&str; 43] = [
     "report lifetime 2025",
     "report lifetimes",
     "report standing 2025 1",
+    "fund",
+    "fund 110 2025 1 600 level",
+    "fund 110 2025 1 600 level 50 1",
+    "fund 1000000 2025 1 600 level 50",
+    "fund 110 1999 1 600 level 50",
+    "fund 110 2025 9 600 level 50",
+    "fund 110 2025 1 0 level 50",
+    "fund 110 2025 1 100000000 level 50",
+    "fund 110 2025 1 0600 level 50",
+    "fund 110 2025 1 600 other 50",
+    "fund 110 2025 1 600 Level 50",
+    "fund 110 2025 1 600 level 0",
+    "fund 110 2025 1 600 level 999999000001",
     "generate",
     "generate 7",
     "generate 7 0",
@@ -122,18 +160,28 @@ static NONE: [&str; 43] = [
     "rows",
 ];
 
-fn all_say(rt: &impl Abort, alloc: Global, cases: &[Case]) -> Result<(), AllocError> {
+fn all_say(
+    rt: &impl Abort,
+    alloc: Global,
+    policies: &Policies,
+    cases: &[Case],
+) -> Result<(), AllocError> {
     for case in cases {
         let (row, want) = (case.0, case.1);
-        let got = said(alloc, row)?;
+        let got = said(alloc, policies, row)?;
         assert!(rt; got.as_str() == want, "{row}: {got}");
     }
     Ok(())
 }
 
-fn none_say(rt: &impl Abort, alloc: Global, rows: &[&str]) -> Result<(), AllocError> {
+fn none_say(
+    rt: &impl Abort,
+    alloc: Global,
+    policies: &Policies,
+    rows: &[&str],
+) -> Result<(), AllocError> {
     for row in rows {
-        let got = said(alloc, row)?;
+        let got = said(alloc, policies, row)?;
         assert!(rt; got.as_str() == "none", "{row}: {got}");
     }
     Ok(())
@@ -141,7 +189,17 @@ fn none_say(rt: &impl Abort, alloc: Global, rows: &[&str]) -> Result<(), AllocEr
 
 #[test]
 fn words_are_commands(rt: HostRuntime) -> Result<(), Fail> {
-    all_say(&rt, rt.alloc(), &COMMANDS)?;
-    none_say(&rt, rt.alloc(), &NONE)?;
+    let alloc = rt.alloc();
+    let level_rule: Rule = Box::new(
+        alloc,
+        |need: u32, sai: i32, intensity: u8| level(need, sai, intensity),
+    )?;
+    let quarter_rule: Rule = Box::new(
+        alloc,
+        |need: u32, sai: i32, intensity: u8| quarter(need, sai, intensity),
+    )?;
+    let policies = standard(alloc, level_rule, quarter_rule)?;
+    all_say(&rt, alloc, &policies, &COMMANDS)?;
+    none_say(&rt, alloc, &policies, &NONE)?;
     Ok(())
 }
