@@ -1,0 +1,82 @@
+-- What the connections of all desks were told, of the list at the end.
+use Rattle.std.proofs.Common.{◌≡◌, ◌⊎◌, inl, inr, ⊎_elim, ℕ, suc, ◌+◌, ◌<◌, IsTrue, List, [], ◌∷◌, ◌++◌, Option, Some, length, get_or, subst, arith}
+use Rattle.std.specs.Prelude.{Contains}
+use Rattle.std.specs.List.{flat_map}
+use Rattle.std.proofs.lemmas.List.Elements.{Contains-append_cases}
+use Rattle.std.proofs.lemmas.List.Sorted.{Contains-permutation}
+use Rattle.kept_list.specs.Scheme.{Judging}
+use Rattle.kept_list.specs.Turns.{is_fault}
+use Rattle.kept_list.specs.declared.reply.ListReply.{ListReply}
+use Rattle.office_lock.specs.declared.turned.Stand.{Stand}
+use Rattle.office_lock.specs.Passes.{IsOlder, numbered}
+use Rattle.kept_desks.specs.Desks.{left_in, mine_in, seen_in, settled_in}
+use Rattle.kept_desks.specs.Names.{entries_of}
+use Rattle.kept_desks.specs.declared.names.Filed.{Filed}
+use Rattle.kept_desks.proofs.Turning.{entries_older}
+use Rattle.web_desk.specs.Asks.{Scheme}
+use Rattle.web_desk.specs.Exchange.{Judge}
+use Rattle.web_desk.specs.Heads.{IsJudge}
+use Rattle.web_desk.specs.declared.status.Status.TheVariants.{Unavailable}
+use Rattle.kept_web.specs.AllTold.{EachIsBrought, EachIsTold}
+use Rattle.kept_web.specs.Closed.{IsBroughtBy}
+use Rattle.kept_web.specs.Ports.{PortTelling}
+use Rattle.kept_web.specs.Workers.{HasServed, WebView}
+use Rattle.kept_web.proofs.Closing.{told_sessions}
+
+-- what is in a list of lists is in one of them
+in_one : {X A : Type 0} (f : X → List A) (xs : List X) (a : A) → Contains (flat_map f xs) a → (k : ℕ) × (k < length xs) × ((d : X) → Contains (f (get_or xs k d)) a)
+in_one f [] a has = absurd (omega (arith, has.1))
+in_one {X} f (x ∷ xs) a has = pick (in_one f xs a) (Contains-append_cases (f x) (flat_map f xs) a has)
+  where
+    pick : (Contains (flat_map f xs) a → (k : ℕ) × (k < length xs) × ((d : X) → Contains (f (get_or xs k d)) a)) → Contains (f x) a ⊎ Contains (flat_map f xs) a
+        → (k : ℕ) × (k < suc (length xs)) × ((d : X) → Contains (f (get_or (x ∷ xs) k d)) a)
+    pick more (inl here) = (0, omega arith, λ d. here)
+    pick more (inr later) = let (k, lt, is) = more later in (suc k, omega (arith, lt), is)
+
+none_in : {X : Type 0} (xs : List X) (x : X) → xs ≡ [] → Contains xs x → ⊥
+none_in xs x none has = let bad : Contains [] x = subst (λ l. Contains l x) none has in omega (arith, bad.1)
+
+module _ {Entry Ask Verdict P : Type 0} (judging : Judging Entry Ask Verdict) (own : Ask → Option Entry) (scheme : Scheme Ask (ListReply Verdict)) (own_added : (past : List Entry) (ask : Ask) (entry : Entry) → judging.added past ask ≡ Some entry → own ask ≡ Some entry) (unavailable : (said : ListReply Verdict) → scheme.status said ≡ Unavailable → IsTrue (is_fault said)) (tells : P → PortTelling) (faults : P → ℕ) (limit : ℕ) (opening closed : Stand (Filed Entry)) (before after : List (WebView Entry P)) (served : HasServed judging own scheme tells faults limit opening closed before after) (judge : Judge) (is_judge : IsJudge judge) where
+  pub each_told : EachIsTold judging own scheme tells faults limit opening closed before after served judge
+  each_told k d inside honest =
+      let one = served.each k d inside in
+      let seen : IsOlder (seen_in (get_or served.desks k d).pass) closed.list = served.ran.seen k d (omega (arith, inside, served.count)) in
+      let older : IsOlder one.last.seen closed.list = subst (λ p. IsOlder (seen_in p) closed.list) one.has seen in
+      (told_sessions judging own scheme own_added unavailable judge is_judge (k + 1) _ honest (entries_of closed.list) 1 one.first one.served.sessions one.last (entries_older one.last.seen closed.list older) one.served.each).have
+
+  module _ (honest : (k : ℕ) (d : WebView Entry P) → k < length before → IsTrue (tells (get_or before k d).port).honest) (entry : ℕ × Filed Entry) where
+    abbrev IsBrought : Type 0
+    IsBrought = (k : ℕ) × (d : WebView Entry P) × (inside : k < length before) × IsBroughtBy judging own scheme judge (k + 1) 1 (served.each k d inside).served.sessions entry.1
+
+    -- the desks are some, since one of them has the entry
+    first_of : (k : ℕ) (desks : List (WebView Entry P)) → k < length desks → WebView Entry P
+    first_of k [] lt = absurd (omega (arith, lt))
+    first_of k (d ∷ desks) lt = d
+
+    of_mine : Contains (flat_map (λ (d : WebView Entry P). mine_in d.pass) served.desks) entry → IsBrought
+    of_mine has =
+        let (k, lt, is) = in_one (λ (d : WebView Entry P). mine_in d.pass) served.desks entry has in
+        let d = first_of k served.desks lt in
+        let inside : k < length before = omega (arith, lt, served.count) in
+        let one = served.each k d inside in
+        let there : Contains one.last.mine entry = subst (λ p. Contains (mine_in p) entry) one.has (is d) in
+        (k, d, inside, ⊎_elim (λ old. absurd (none_in one.first.mine entry one.fresh.mine old)) (λ new. new) ((each_told k d inside (honest k d inside)).mine entry there))
+
+    of_left : Contains (flat_map (λ (d : WebView Entry P). left_in d.pass) served.desks) entry → IsBrought
+    of_left has =
+        let (k, lt, is) = in_one (λ (d : WebView Entry P). left_in d.pass) served.desks entry has in
+        let d = first_of k served.desks lt in
+        let inside : k < length before = omega (arith, lt, served.count) in
+        let one = served.each k d inside in
+        let there : Contains one.last.left entry = subst (λ p. Contains (left_in p) entry) one.has (is d) in
+        (k, d, inside, ⊎_elim (λ old. absurd (none_in one.first.left entry one.fresh.left old)) (λ new. new) ((each_told k d inside (honest k d inside)).left entry there))
+
+    of_either : Contains (flat_map (λ (d : WebView Entry P). mine_in d.pass) served.desks) entry ⊎ Contains (flat_map (λ (d : WebView Entry P). settled_in d.pass) served.desks) entry → IsBrought
+    of_either (inl mine) = of_mine mine
+    of_either (inr settled) = of_left (served.ran.settled entry settled)
+
+  pub each_brought : EachIsBrought judging own scheme tells faults limit opening closed before after served judge
+  each_brought honest entry has =
+      of_either honest entry
+      (Contains-append_cases (flat_map (λ (d : WebView Entry P). mine_in d.pass) served.desks) (flat_map (λ (d : WebView Entry P). settled_in d.pass) served.desks) entry
+      (Contains-permutation (numbered (length opening.list) served.ran.added) (flat_map (λ (d : WebView Entry P). mine_in d.pass) served.desks ++ flat_map (λ (d : WebView Entry P). settled_in d.pass) served.desks) entry served.ran.once has))

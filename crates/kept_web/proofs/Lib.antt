@@ -1,0 +1,10 @@
+pub mod Telling
+pub mod Handing
+pub mod Reached
+pub mod Connections
+pub mod Dealing
+pub mod Gathered
+pub mod AllPorts
+pub mod Rejections
+pub mod Closing
+pub mod AllTelling

@@ -1,0 +1,34 @@
+-- The clerk of one connection: each ask is a turn of the lock by one pass.
+use Rattle.std.specs.Prelude.{◌≡◌, ℕ, Option}
+use Rattle.kept_list.specs.Scheme.{Judging}
+use Rattle.kept_list.specs.declared.reply.ListReply.{ListReply}
+use Rattle.office_lock.specs.Passes.{Known}
+use Rattle.kept_desks.specs.Rows.{Replies}
+use Rattle.kept_desks.specs.declared.names.Filed.{Filed}
+use Rattle.kept_desks.specs.declared.names.RowName.{RowName}
+use Rattle.web_desk.specs.Asks.{Scheme, Request, Answers, IsAsked, Reaches}
+use Rattle.web_desk.specs.Responses.{Answer}
+
+-- the name under which entries are filed, and what the pass knows
+pub record Clerking (Entry : Type 0) : Type 0 where
+  pub by : RowName
+  pub pass : Known (Filed Entry)
+
+-- one ask: what its turn does to what the pass knows
+pub record AsksTurn {Entry Ask Verdict : Type 0} (judging : Judging Entry Ask Verdict) (own : Ask → Option Entry) (before : Clerking Entry) (ask : Ask) (reply : ListReply Verdict) (after : Clerking Entry) : Type 0 where
+  pub by : after.by ≡ before.by
+  pub replies : Replies Unit judging own before.by ask reply before.pass after.pass
+  pub lock : after.pass.lock ≡ before.pass.lock
+  pub share : after.pass.allowance ≡ before.pass.allowance
+
+-- the pass's own count of replies that told of a fault
+abbrev pub clerk_faults : {Entry : Type 0} → Clerking Entry → ℕ
+clerk_faults clerk = clerk.pass.faults
+
+-- a request, its answer, and the clerk before and after
+abbrev pub PassAnswers : {Entry Ask Verdict : Type 0} → Judging Entry Ask Verdict → (Ask → Option Entry) → Scheme Ask (ListReply Verdict) → Clerking Entry → Request → Answer → Clerking Entry → Type 0
+PassAnswers judging own scheme = Answers scheme (AsksTurn judging own) clerk_faults
+
+-- the clerk came from one to the other by asks alone
+abbrev pub PassReaches : {Entry Ask Verdict : Type 0} → Judging Entry Ask Verdict → (Ask → Option Entry) → Scheme Ask (ListReply Verdict) → Clerking Entry → Clerking Entry → Type 0
+PassReaches judging own scheme = Reaches (IsAsked (AsksTurn judging own) clerk_faults scheme.status)

@@ -1,0 +1,11 @@
+pub use Rattle.kept_list.specs.Turns
+pub use Rattle.office_lock.specs.Passes
+pub use Rattle.kept_desks.specs.Names
+pub mod Ports
+pub mod Texts
+pub mod Clerks
+pub mod Told
+pub mod Sessions
+pub mod Workers
+pub mod Closed
+pub mod AllTold

@@ -1,0 +1,99 @@
+//! A port in memory whose connections wait for a gate. Tests choose by it which of two ports is served first.
+ghost use Rattle.std.specs.Prelude.{◌≡◌};
+
+use crate::{MemoryPort, Port};
+use aid_edges::Failed;
+use kept_desks::Gate;
+use std::marker::Model;
+use web_desk::{Link, MemoryLink};
+
+/// A connection in memory. Before each read it calls the gate's `hold`, and after each write its `answered`, with its port's
+/// number and row 1.
+#[derive(Drop)]
+pub struct GatedLink<'g, G> {
+    inner: MemoryLink,
+    gate: &'g G,
+    port: u32,
+}
+
+impl<'g, G> Model for GatedLink<'g, G> {
+    ghost use Rattle.web_desk.specs.Kept.{Wire};
+
+    ghost Value = { Wire };
+
+    ghost view = { λ l. l.inner };
+}
+
+impl<'g, G: Gate> Link for GatedLink<'g, G> {
+    ghost use Rattle.web_desk.specs.Kept.{wire_tells, wire_faults};
+
+    ghost tells = { wire_tells };
+
+    ghost faults = { wire_faults };
+
+    fn read(&mut self, buffer: &mut [u8]) -> Result<usize, Failed> {
+        self.gate.hold(self.port, 1);
+        self.inner.read(buffer)
+    }
+
+    fn write(&mut self, bytes: &[u8]) -> Result<usize, Failed> {
+        let written = self.inner.write(bytes);
+        self.gate.answered(self.port, 1);
+        written
+    }
+}
+
+/// A port in memory whose connections wait for a gate.
+#[derive(Drop)]
+pub struct GatedPort<'g, G> {
+    inner: MemoryPort,
+    gate: &'g G,
+    port: u32,
+}
+
+impl<'g, G> Model for GatedPort<'g, G> {
+    ghost use Rattle.kept_web.specs.Ports.{Held};
+
+    ghost Value = { Held };
+
+    ghost view = { λ p. p.inner };
+}
+
+impl<'g, G> GatedPort<'g, G> {
+    /// A port with this number, whose connections are those of the inner one. It takes no memory.
+    pub fn new(inner: MemoryPort, gate: &'g G, port: u32) -> Self
+        ensures { result ≡ inner }
+    {
+        GatedPort { inner, gate, port }
+    }
+
+    /// The port in memory.
+    pub fn inner(&self) -> &MemoryPort
+        ensures { result.now ≡ self.now }
+    {
+        &self.inner
+    }
+}
+
+impl<'g, G: Gate> Port for GatedPort<'g, G> {
+    ghost use Rattle.kept_web.specs.Ports.{held_tells};
+
+    type Link = GatedLink<'g, G>;
+
+    ghost tells = { held_tells };
+
+    ghost faults = { λ p. p.faults };
+
+    fn next(&mut self) -> Result<GatedLink<'g, G>, Failed> {
+        let inner = self.inner.next()?;
+        Ok(GatedLink {
+            inner,
+            gate: self.gate,
+            port: self.port,
+        })
+    }
+
+    fn done(&mut self, link: GatedLink<'g, G>) {
+        self.inner.done(link.inner);
+    }
+}

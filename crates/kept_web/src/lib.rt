@@ -1,0 +1,25 @@
+//! A web desk over a kept list: each connection is served by turns of one lock, and several ports at once.
+#![tactic(auto)]
+
+mod all;
+mod clerk;
+mod crew;
+mod gated;
+mod laws;
+mod memory;
+mod port;
+mod serving;
+mod stop;
+mod texts;
+mod worker;
+
+pub use all::serve_ports;
+pub use clerk::serve_desk;
+pub use crew::{close_web, open_web};
+pub use gated::{GatedLink, GatedPort};
+pub use laws::{all_told, available, told};
+pub use memory::MemoryPort;
+pub use port::Port;
+pub use stop::WebEnd;
+pub use texts::{DocketForms, WebTexts};
+pub use worker::WebDesk;

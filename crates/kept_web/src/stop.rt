@@ -1,0 +1,12 @@
+// How a desk behind a port ends.
+
+/// How far a desk behind a port is.
+#[derive(Clone, Copy, Debug, PartialEq, Eq)]
+pub enum WebEnd {
+    /// It hasn't begun.
+    Open,
+    /// It served as many connections as it was to.
+    Done,
+    /// Its port failed.
+    PortFault,
+}

@@ -1,0 +1,125 @@
+//! A desk behind a port: it serves the connections of the port one after the other.
+ghost use Rattle.std.specs.Prelude.{◌≡◌, ◌+◌, ◌≤◌, ◌<◌, ◌^◌, [], ℕ, None, Some, false};
+ghost use Rattle.kept_web.specs.Workers.{HoldsPass, Works};
+
+use crate::serving::serve_all;
+use crate::{Port, WebEnd, WebTexts};
+use disk_model::Disk;
+use kept_desks::{Filed, OwnDocket, SharedList};
+use kept_list::Docket;
+use office_lock::{Pass, Turned, Turns};
+use std::alloc::Global;
+use std::marker::Model;
+use std::sync::Wait;
+
+/// A desk behind a port. It has a number and a pass of the lock while the lock is open.
+#[derive(Drop)]
+pub struct WebDesk<R: OwnDocket, P: Port> {
+    number: u32,
+    port: P,
+    served: u32,
+    starved: bool,
+    ended: WebEnd,
+    pass: Option<Pass<Filed<R::Entry>>>,
+}
+
+impl<R: OwnDocket, P: Port> Model for WebDesk<R, P> {
+    ghost use Rattle.kept_web.specs.Workers.{WebView};
+
+    ghost Value = { WebView R.Entry P };
+
+    ghost view = { λ d. record {
+      number = d.number;
+      port = d.port;
+      served = d.served;
+      starved = d.starved;
+      ended = d.ended;
+      pass = d.pass;
+    } };
+}
+
+impl<R: OwnDocket, P: Port> WebDesk<R, P> {
+    /// A desk behind this port.
+    pub fn new(port: P) -> WebDesk<R, P>
+        ensures { result ≡ record { number = 0; port = port; served = 0; starved = false; ended = WebEnd.Open; pass = None } }
+    {
+        WebDesk {
+            number: 0,
+            port,
+            served: 0,
+            starved: false,
+            ended: WebEnd::Open,
+            pass: None,
+        }
+    }
+
+    // Takes a number and a pass of the lock.
+    pub(crate) fn give(&mut self, number: u32, pass: Pass<Filed<R::Entry>>)
+        ensures { self.new ≡ record { number = number; port = self.old.port; served = 0; starved = false; ended = WebEnd.Open; pass = Some pass } }
+    {
+        self.number = number;
+        self.served = 0;
+        self.starved = false;
+        self.ended = WebEnd::Open;
+        self.pass = Some(pass);
+    }
+
+    // Gives its pass back.
+    pub(crate) fn take(&mut self) -> Option<Pass<Filed<R::Entry>>>
+        ensures pass { result ≡ self.old.pass }
+        ensures rest { self.new ≡ record self.old { pass = None } }
+    {
+        self.pass.take()
+    }
+
+    /// Its port.
+    pub fn port(&self) -> &P
+        ensures { result.now ≡ self.now.port }
+    {
+        &self.port
+    }
+
+    /// How it ended.
+    pub fn ended(&self) -> WebEnd
+        ensures { result ≡ self.now.ended }
+    {
+        self.ended
+    }
+
+    /// Whether a session ended for want of memory.
+    pub fn is_starved(&self) -> bool
+        ensures { result ≡ self.now.starved }
+    {
+        self.starved
+    }
+
+    /// Serves so many connections of the port, one after the other, each by turns of the lock. It ends early only where
+    /// the port fails.
+    pub fn work<D: Disk, T: WebTexts<R>, H: Wait>(
+        &mut self,
+        rt: &H,
+        alloc: Global,
+        turns: &Turns<SharedList<D, R>>,
+        sessions: u32,
+    )
+        requires { HoldsPass turns.now.id self.old }
+        ensures { Works R.judging R.own T.scheme P.tells P.faults turns.now.id sessions self.old self.new }
+    {
+        let Some(pass) = self.pass.take() else {
+            return;
+        };
+        let (pass, tally) = serve_all::<D, R, T, P, H>(
+            rt,
+            alloc,
+            turns,
+            pass,
+            self.number,
+            &mut self.port,
+            sessions,
+        );
+        self.served = tally.served;
+        self.starved = tally.starved;
+        self.ended = tally.ended;
+        self.pass = Some(pass);
+    }
+}

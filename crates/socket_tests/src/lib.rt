@@ -1,0 +1,8 @@
+//! A connection over a socket of this machine, served by turns of a lock over an office.
+#![tactic(auto)]
+
+#[cfg(test)]
+mod tests;
+mod texts;
+
+pub use texts::OfficeTexts;

@@ -1,0 +1,104 @@
+//! A connection over a socket.
+ghost use Rattle.std.specs.Prelude.{◌≡◌, ◌≤◌, false};
+ghost use Rattle.aid_edges.specs.Faults.{Rose};
+
+use aid_edges::Failed;
+use std::io;
+use std::io::{Read, Write};
+use std::net::{Shutdown, TcpStream};
+use std::time::Duration;
+use web_desk::Link;
+
+/// So many seconds a read or a write waits for the peer.
+const SECONDS: u64 = 30;
+
+/// So many pieces of what a peer still sends are read and thrown away before its socket is closed, each within a second.
+const LAST_PIECES: u32 = 64;
+
+/// A connection over a socket, with a count of its faults. A read or a write that waits longer than 30 seconds is a fault,
+/// so that a peer who does nothing doesn't hold a worker for good.
+#[derive(Drop)]
+pub struct SocketEdge {
+    stream: Option<TcpStream>,
+    faults: u64,
+}
+
+// Sets how long a call waits, and that no answer waits for another.
+fn set_up(stream: &TcpStream) -> io::Result<()> {
+    let time_out = Some(Duration::from_secs(SECONDS));
+    stream.set_read_timeout(time_out)?;
+    stream.set_write_timeout(time_out)?;
+    stream.set_nodelay(true)
+}
+
+impl SocketEdge {
+    /// The edge of a socket. Where the system refuses to set its time-outs each call is a fault.
+    pub fn new(stream: TcpStream) -> Self
+        ensures silent { (⟦<SocketEdge as Link>⟧.tells result).honest ≡ false }
+        ensures no_faults { ⟦<SocketEdge as Link>⟧.faults result ≡ 0 }
+    {
+        let stream = match set_up(&stream) {
+            Ok(()) => Some(stream),
+            Err(_) => None,
+        };
+        SocketEdge { stream, faults: 0 }
+    }
+
+    /// Ends the connection: what was written goes out, and what the peer still sends is read for a while and thrown away. A
+    /// socket that is closed over bytes that weren't read may take the last response from the peer.
+    pub fn close(self) {
+        if let Some(stream) = self.stream {
+            let _ = finish(stream);
+        }
+    }
+
+    // One fault more.
+    fn fail(&mut self) -> Failed
+        ensures later { self.old.faults ≤ self.new.faults }
+        ensures cause { Rose self.old.faults self.new.faults }
+    {
+        self.faults = self.faults.saturating_add(1);
+        Failed
+    }
+}
+
+// Says that no more is written, and reads up to the peer's end.
+fn finish(mut stream: TcpStream) -> io::Result<()> {
+    stream.shutdown(Shutdown::Write)?;
+    stream.set_read_timeout(Some(Duration::from_secs(1)))?;
+    let mut piece = [0; 4096];
+    for _ in 0..LAST_PIECES {
+        if stream.read(&mut piece)? == 0 {
+            return Ok(());
+        }
+    }
+    Ok(())
+}
+
+impl Link for SocketEdge {
+    ghost use Rattle.std.specs.Prelude.{[], false};
+
+    ghost tells = { λ _. record { honest = false; left = []; text = [] } };
+
+    ghost faults = { λ e. e.faults };
+
+    fn read(&mut self, buffer: &mut [u8]) -> Result<usize, Failed> {
+        match &mut self.stream {
+            Some(stream) => match stream.read(buffer) {
+                Ok(count) => Ok(count),
+                Err(_) => Err(self.fail()),
+            },
+            None => Err(self.fail()),
+        }
+    }
+
+    fn write(&mut self, bytes: &[u8]) -> Result<usize, Failed> {
+        match &mut self.stream {
+            Some(stream) => match stream.write(bytes) {
+                Ok(count) if count > 0 || bytes.is_empty() => Ok(count),
+                _ => Err(self.fail()),
+            },
+            None => Err(self.fail()),
+        }
+    }
+}
