@@ -19,6 +19,8 @@ use Rattle.kept_office.specs.Turns.{office_judging}
 use Rattle.desk_forms.specs.Lines.{fine_line}
 use Rattle.kept_rounds.specs.Counted.{Counted, CountedSession}
 use Rattle.kept_rounds.specs.Counted as counting
+use Rattle.kept_rounds.specs.Planned.{Planned}
+use Rattle.kept_rounds.specs.Planned as planning
 use Rattle.kept_session.specs.Checks.{Checks, LooksAt, Looks}
 use Rattle.kept_session.specs.Checks as looking
 use Rattle.kept_session.specs.Edges.{Input, Output}
@@ -40,7 +42,8 @@ use Rattle.generated_rows.specs.Texts.{rows_of_text, year_texts}
 use Rattle.generated_year.specs.Counted.{year_counted, year_ending}
 use Rattle.generated_year.specs.Payments.{year_judging}
 use Rattle.aid_office.specs.Asks.{book_rows, book_texts, desk_rows, desk_texts, no_verdicts, quote_rows, quote_texts, report_text}
-use Rattle.aid_office.specs.Ran.{CanBeDone, ChecksBook, ChecksRows, Counts, HasCause, Does, founding, filing, booking, quoting, reporting, generating, checking_rows, checking_book, Ends, well, told, untold, Tallies, tallied, unwritten, starved, stopped, from, up_to}
+use Rattle.aid_office.specs.Rounds.{PolicyAnswers, fund_plans, round_texts}
+use Rattle.aid_office.specs.Ran.{CanBeDone, ChecksBook, ChecksRows, Counts, HasCause, Does, founding, filing, booking, quoting, reporting, funding, generating, checking_rows, checking_book, Ends, well, told, untold, Tallies, tallied, unwritten, starved, stopped, from, up_to}
 use Rattle.aid_office.specs.Ran as run
 use Rattle.aid_office.specs.Statuses.{check_status, ended_check, ended_file, ended_found, found_status, open_status, read_status, status_of}
 use Rattle.aid_office.specs.declared.stop.RunStop.{RunStop}
@@ -107,6 +110,12 @@ module _ {D Entry : Type 0} (disk : Ghosts D) (scheme : Scheme Entry) (old new :
       counted_session_by rows_of limit input ended (counting.unread stop is same silent) source short = unread_by stop limit input is source short
       counted_session_by rows_of limit input ended (counting.read left inner is are counts) source short = counted_by left inner counts
 
+    planned_by : (plans : List Entry → List Ask → List ℕ → Type 0) (ended : Result Unit SessionStop) → Planned disk scheme judging texts plans old new output ended
+        → IfErr (ended_file ended) (λ stop. IsExcused (status_of stop))
+    planned_by plans ended (planning.unopened error u same) = unopened_by error u
+    planned_by plans ended (planning.unplanned past is same) = inr (inr (inr refl))
+    planned_by plans ended (planning.filed past at asks closing inner is planned closes) = filed_by inner
+
     opened_by : (left : List texts.Meaning) (ended : Result Unit SessionStop) → Opens disk scheme judging texts old new output left ended
         → IfErr (ended_file ended) (λ stop. IsExcused (status_of stop))
     opened_by left ended (unopened error u same) = unopened_by error u
@@ -148,22 +157,24 @@ book_by : (input : Input) (output : Output) (ended : Result Unit RunStop) → Ch
 book_by input output ended (run.looked_at checked checks) source short = check_ended_by checked (checked_by book_texts (book_rows 1) fine_line 16777216 input output checked checks source short)
 
 -- a command that can be done
-done_by : {D : Type 0} (disk : Ghosts D) (old new : D) (input : Input) (output : Output) (command : Command) (ended : Result Unit RunStop) → Does disk old new input output command ended
+done_by : {D : Type 0} (gives : PolicyAnswers) (disk : Ghosts D) (old new : D) (input : Input) (output : Output) (command : Command) (ended : Result Unit RunStop) → Does gives disk old new input output command ended
     → CanBeDone command input.honest (length input.before) (disk.tells old) → IfErr ended (λ stop. IsExcused (status_of stop))
-done_by disk old new input output command ended (founding inner session) can = founded_by disk office_scheme old new _ output inner session can.0 can.1
-done_by disk old new input output command ended (filing inner session) can =
+done_by gives disk old new input output command ended (founding inner session) can = founded_by disk office_scheme old new _ output inner session can.0 can.1
+done_by gives disk old new input output command ended (filing inner session) can =
     session_by disk office_scheme old new can.1.0 can.1.1 can.1.2 office_judging desk_texts output desk_rows 16777216 input inner session can.0.0 can.0.1
-done_by disk old new input output command ended (booking book inner session) can =
+done_by gives disk old new input output command ended (booking book inner session) can =
     session_by disk office_scheme old new can.1.0 can.1.1 can.1.2 office_judging book_texts output (book_rows book.number) 16777216 input inner session can.0.0 can.0.1
-done_by disk old new input output command ended (quoting quote inner opens) can =
+done_by gives disk old new input output command ended (quoting quote inner opens) can =
     opened_by disk office_scheme old new can.0 can.1 can.2 office_judging quote_texts output (quote_rows quote) inner opens
-done_by disk old new input output command ended (reporting report inner reports) can =
+done_by gives disk old new input output command ended (reporting report inner reports) can =
     reported_by disk office_scheme old new can.0 can.1 can.2 (report_text report) output inner reports
-done_by disk old new input output command ended (generating generate inner session) can =
+done_by gives disk old new input output command ended (funding fund inner planned) can =
+    planned_by disk office_scheme old new can.0 can.1 can.2 office_judging round_texts output (fund_plans gives fund) inner planned
+done_by gives disk old new input output command ended (generating generate inner session) can =
     counted_session_by disk office_scheme old new can.1.0 can.1.1 can.1.2 (year_judging office_judging) year_texts output year_counted year_ending no_verdicts
     (rows_of_text generate.students generate.seed) 16777216 input inner session can.0.0 can.0.1
-done_by disk old new input output command ended (checking_rows _ same checks) can = rows_by input output ended checks can.0 can.1
-done_by disk old new input output command ended (checking_book _ same checks) can = book_by input output ended checks can.0 can.1
+done_by gives disk old new input output command ended (checking_rows _ same checks) can = rows_by input output ended checks can.0 can.1
+done_by gives disk old new input output command ended (checking_book _ same checks) can = book_by input output ended checks can.0 can.1
 
 ends_by : (output : Output) (ended : Result Unit RunStop) (status : ℕ) → Ends output ended status → IfErr ended (λ stop. IsExcused (status_of stop)) → (status ≡ 0) ⊎ IsExcused status
 ends_by output ended status (well same) by = inl refl
@@ -178,12 +189,12 @@ unfailed status A B C (inr (inr (inr (inl five)))) a b c no_a no_b no_c = absurd
 unfailed status A B C (inr (inr (inr (inr nine)))) a b c no_a no_b no_c = inr nine
 
 -- where no edge failed, a command that can be done is done, or there was no memory
-pub complete : {D : Type 0} (disk : Ghosts D) (counts : Counts) (old new : D) (input : Input) (before behind : Output) (command : Command) (ended : Result Unit RunStop) (status : ℕ)
-    → Does disk old new input before command ended → HasCause counts ended status → Ends behind ended status → CanBeDone command input.honest (length input.before) (disk.tells old)
+pub complete : {D : Type 0} (gives : PolicyAnswers) (disk : Ghosts D) (counts : Counts) (old new : D) (input : Input) (before behind : Output) (command : Command) (ended : Result Unit RunStop) (status : ℕ)
+    → Does gives disk old new input before command ended → HasCause counts ended status → Ends behind ended status → CanBeDone command input.honest (length input.before) (disk.tells old)
     → (Rose counts.source.0 counts.source.1 → ⊥) → (Rose counts.sink.0 counts.sink.1 → ⊥) → (Rose counts.disk.0 counts.disk.1 → ⊥) → (status ≡ 0) ⊎ (status ≡ 9)
-complete disk counts old new input before behind command ended status does cause ends can =
+complete gives disk counts old new input before behind command ended status does cause ends can =
     unfailed status (Rose counts.source.0 counts.source.1) (Rose counts.sink.0 counts.sink.1) (Rose counts.disk.0 counts.disk.1)
-    (ends_by behind ended status ends (done_by disk old new input before command ended does can))
+    (ends_by behind ended status ends (done_by gives disk old new input before command ended does can))
     (λ three. cause.source.rose (read_cause behind ended status ends three))
     (λ four. cause.sink.rose (eq-eqb status 4 four))
     (λ five. cause.disk.rose (disk_cause behind ended status ends five))

@@ -1,19 +1,18 @@
 -- What the desks filed, from the opening of the lock to its end.
-use Rattle.std.proofs.Common.{◌≡◌, ℕ, zero, suc, ◌+◌, ◌<◌, List, [], ◌∷◌, length, drop, get_or, slice_index_or, refl, sym, ap, ◌∙◌, subst, arith}
+use Rattle.std.proofs.Common.{◌≡◌, ℕ, zero, suc, ◌<◌, List, [], ◌∷◌, length, drop, get_or, slice_index_or, ap, ◌∙◌, subst, arith}
 use Rattle.std.specs.List.{All}
 use Rattle.aid_filings.specs.declared.filing.Filing.{Filing}
 use Rattle.atomic_table.specs.Seated.{TableId}
 use Rattle.kept_desks.specs.declared.names.Filed.{Filed}
 use Rattle.kept_desks.specs.Answered.{Files}
-use Rattle.kept_desks.specs.Desks.{DeskView, IsReady, Ran, all_shown, shown_of}
+use Rattle.kept_desks.specs.Desks.{IsReady, Ran, all_shown, shown_of}
 use Rattle.kept_office.specs.Turns.{asked as filing_asked, office_judging}
 use Rattle.office_lock.specs.declared.turned.Stand.{Stand}
 use Rattle.aid_office.specs.Asks.{desk_texts}
-use Rattle.aid_office.specs.DeskTexts.{desks_text, desks_status}
 use Rattle.aid_office.specs.RanDesks.{FilesOwn, HasFiled, View, WorksHere, left_of}
 
 -- what is shown of lists of desks is shown of each of them
-shown_at : (xs ys : List View) → all_shown xs ≡ all_shown ys → (k : ℕ) (d : View) → k < length ys → shown_of (get_or xs k d) ≡ shown_of (get_or ys k d)
+pub shown_at : (xs ys : List View) → all_shown xs ≡ all_shown ys → (k : ℕ) (d : View) → k < length ys → shown_of (get_or xs k d) ≡ shown_of (get_or ys k d)
 shown_at xs [] same k d lt = absurd (omega (arith, lt))
 shown_at [] (y ∷ ys) same k d lt = absurd (let sizes : 0 ≡ suc (length (all_shown ys)) = ap length same in omega (arith, sizes))
 shown_at (x ∷ xs) (y ∷ ys) same zero d lt = ap (λ l. get_or l 0 (shown_of y)) same

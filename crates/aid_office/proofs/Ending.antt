@@ -18,7 +18,7 @@ use Rattle.aid_office.specs.Ran.{ChecksRows, Ends, Moved, Tallies, tallied, unwr
 use Rattle.aid_office.specs.Ran as run
 use Rattle.aid_office.specs.Statuses.{fault_line, is_disk_fault, is_read_fault, is_write_fault, status_of}
 use Rattle.aid_office.specs.declared.stop.RunStop.{RunStop}
-use Rattle.aid_office.specs.declared.stop.RunStop.TheVariants.{Usage, Found, File, Check}
+use Rattle.aid_office.specs.declared.stop.RunStop.TheVariants.{Usage, Found, File, Check, Socket}
 
 -- what was written, by the status
 pub told_as : (output : Output) (stop : RunStop) (status : ℕ) (line : List ℕ) → status ≡ status_of stop → line ≡ fault_line stop
@@ -53,6 +53,7 @@ pub record ShowsFault (stop : RunStop) : Type 0 where
 
 pub shown : (stop : RunStop) → ShowsFault stop
 shown Usage = record { read = refl; write = refl; disk = refl; some = refl }
+shown Socket = record { read = refl; write = refl; disk = refl; some = refl }
 shown (Found (founded.Founding fault_of.Exists)) = record { read = refl; write = refl; disk = refl; some = refl }
 shown (Found (founded.Founding fault_of.NotJournal)) = record { read = refl; write = refl; disk = refl; some = refl }
 shown (Found (founded.Founding fault_of.DiskFault)) = record { read = refl; write = refl; disk = refl; some = refl }

@@ -26,7 +26,8 @@ use Rattle.kept_list.specs.Kept.{IsSound}
 use Rattle.kept_office.specs.Scheme.{office_scheme}
 use Rattle.kept_session.specs.Links.{IsOpened}
 use Rattle.aid_office.proofs.Reading.{some_of}
-use Rattle.aid_office.specs.RanDesks.{AreNew, AreRead, EndsDesks, FilesAll, FilesOwn, HasFiled, View, worked}
+use Rattle.aid_office.specs.DeskTexts.{admitted_text, desks_status, desks_text}
+use Rattle.aid_office.specs.RanDesks.{AreNew, AreRead, EndsWith, FilesAll, FilesOwn, HasFiled, View, worked}
 use Rattle.aid_office.specs.declared.desks.DeskInput.{DeskInput}
 
 module _ {E : Type 0} where
@@ -51,14 +52,14 @@ module _ {E : Type 0} where
       let (p, (j, less, is)) = numbered_has n added k d (omega (arith, lt)) in (p, (suc j, omega (arith, less), is))
 
 -- what is in a list of lists is in one of them
-abbrev IsInOne : {X A : Type 0} → (X → List A) → List X → A → Type 0
+abbrev pub IsInOne : {X A : Type 0} → (X → List A) → List X → A → Type 0
 IsInOne {X} f xs a = (k : ℕ) × (x : X) × (k < length xs) × (x ≡ get_or xs k x) × Contains (f x) a
 
 in_first : {X A : Type 0} (f : X → List A) (x : X) (xs : List X) (a : A) → (Contains (flat_map f xs) a → IsInOne f xs a) → Contains (f x) a ⊎ Contains (flat_map f xs) a → IsInOne f (x ∷ xs) a
 in_first f x xs a more (inl here) = (0, x, omega arith, refl, here)
 in_first f x xs a more (inr later) = let (k, y, lt, is, there) = more later in (suc k, y, omega (arith, lt), is, there)
 
-in_one : {X A : Type 0} (f : X → List A) (xs : List X) (a : A) → Contains (flat_map f xs) a → IsInOne f xs a
+pub in_one : {X A : Type 0} (f : X → List A) (xs : List X) (a : A) → Contains (flat_map f xs) a → IsInOne f xs a
 in_one f [] a (k, lt, is) = absurd (omega (arith, lt))
 in_one f (x ∷ xs) a has = in_first f x xs a (in_one f xs a) (Contains-append_cases (f x) (flat_map f xs) a has)
 
@@ -146,7 +147,7 @@ module _ (opening : Stand (Filed Filing)) (history : List Filing) (pending : Opt
           go (inl mine) = let (j, x, less, is, there) = in_one (λ (v : View). mine_in v.pass) filed.desks entry mine in of_desk j x entry less is (inl there) zero_is
           go (inr was) = let (j, x, less, is, there) = in_one (λ (v : View). left_in v.pass) filed.desks entry (filed.ran.settled entry was) in of_desk j x entry less is (inr there) zero_is
 
-  named : (h : List Filing) (l : List RowName) → length (filed_list h l) ≡ length h
+  pub named : (h : List Filing) (l : List RowName) → length (filed_list h l) ≡ length h
   named [] l = refl
   named (f ∷ h) [] = ap suc (named h [])
   named (f ∷ h) (row ∷ l) = ap suc (named h l)
@@ -174,14 +175,15 @@ new_desks source old new desks few read = record {
 
 -- the desks filed, and what they did was told
 pub files_worked : {D K : Type 0} (disk : DiskGhosts D) (sink : SinkGhosts K) (old at closed new : D) (before after : List View) (past history : List Filing) (pending : Option Filing) (log : List RowName) (waiting : Option RowName)
-    (front status : ℕ) (out out' : K) → AreNew before → IsOpened disk office_scheme past old at
+    (front status : ℕ) (out out' : K) → AreNew before → IsOpened disk office_scheme past old at → disk.faults at ≡ disk.faults old
     → HasFiled (stand_of past None [] None (disk.faults at) (disk.tells at).honest) (stand_of history pending log waiting (disk.faults closed) (disk.tells closed).honest) before after
     → new ≡ closed → (IsHonest (disk.tells new) → IsSound office_scheme (disk.tells new) history pending) → front ≡ length past
-    → EndsDesks sink (front + 1) (reverse (take (length history - front) log)) after out out' status → FilesAll disk sink old new before out out' status
-files_worked {D} disk sink old at closed new before after past history pending log waiting front status out out' fresh opened filed new_is sound front_is ends =
+    → EndsWith sink (desks_text after ++ admitted_text (front + 1) (reverse (take (length history - front) log))) (desks_status after) out out' status → FilesAll disk sink old new before out out' status
+files_worked {D} disk sink old at closed new before after past history pending log waiting front status out out' fresh opened unmoved was_filed new_is sound front_is ends =
+    let filed = subst (λ (n : ℕ). HasFiled (stand_of past None [] None n (disk.tells at).honest) (stand_of history pending log waiting (disk.faults closed) (disk.tells closed).honest) before after) unmoved was_filed in
     subst (λ (d : D). (IsHonest (disk.tells d) → IsSound office_scheme (disk.tells d) history pending) → FilesAll disk sink old d before out out' status) (sym new_is)
     (λ is_sound. worked after past history pending log waiting at status opened filed is_sound
-    (subst (λ rows. EndsDesks sink (length past + 1) rows after out out' status)
-    (rows_told (stand_of past None [] None (disk.faults at) (disk.tells at).honest) history pending log waiting (disk.faults closed) (disk.tells closed).honest before after filed fresh.numbered past refl)
-    (subst (λ (n : ℕ). EndsDesks sink (n + 1) (reverse (take (length history - n) log)) after out out' status) front_is ends)))
+    (subst (λ rows. EndsWith sink (desks_text after ++ admitted_text (length past + 1) rows) (desks_status after) out out' status)
+    (rows_told (stand_of past None [] None (disk.faults old) (disk.tells at).honest) history pending log waiting (disk.faults closed) (disk.tells closed).honest before after filed fresh.numbered past refl)
+    (subst (λ (n : ℕ). EndsWith sink (desks_text after ++ admitted_text (n + 1) (reverse (take (length history - n) log))) (desks_status after) out out' status) front_is ends)))
     sound

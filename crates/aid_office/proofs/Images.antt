@@ -1,5 +1,5 @@
 -- What each image of the disk recovers at each moment of a command, and behind it.
-use Rattle.std.proofs.Common.{◌≡◌, ⊎_elim, ℕ, Bool, true, false, List, [], ◌∷◌, ◌++◌, map, Result, Ok, Err, None, ap, subst, refl, sym, ◌∙◌, arith, append-nil}
+use Rattle.std.proofs.Common.{◌≡◌, ⊎_elim, ℕ, Bool, true, false, List, [], ◌∷◌, ◌++◌, map, Result, Ok, Err, None, ap, subst, refl, sym, ◌∙◌, arith, append-nil, map-id}
 use Rattle.std.specs.Prelude.{if◌then◌else◌}
 use Rattle.aid_filings.specs.declared.filing.Filing.{Filing}
 use Rattle.aid_replies.specs.declared.reply.Ask.{Ask}
@@ -19,7 +19,10 @@ use Rattle.kept_office.specs.Turns.{office_judging}
 use Rattle.generated_rows.specs.Texts.{rows_of_text, year_texts}
 use Rattle.generated_year.specs.Counted.{year_counted, year_ending}
 use Rattle.generated_year.specs.Payments.{year_judging}
-use Rattle.kept_rounds.proofs.Moments.{images_of_counted_session, moments_of_counted_session}
+use Rattle.kept_rounds.specs.Asks.{after_asks, rows_of_asks}
+use Rattle.kept_rounds.specs.Planned.{Planned}
+use Rattle.kept_rounds.proofs.Behind.{after_rows_of_asks}
+use Rattle.kept_rounds.proofs.Moments.{images_of_counted_session, images_of_planned, moments_of_counted_session, moments_of_planned}
 use Rattle.kept_session.specs.Edges.{Input, Output}
 use Rattle.kept_session.specs.Links.{IsOpened}
 use Rattle.kept_session.specs.Reports.{Reports}
@@ -31,10 +34,12 @@ use Rattle.kept_session.specs.declared.stop.SessionStop.{SessionStop}
 use Rattle.kept_session.proofs.Fronts.{images_of_session, moments_of_session}
 use Rattle.office_history.specs.Answer.{answer_to, is_admit}
 use Rattle.office_words.specs.declared.command.Command.{Command}
+use Rattle.office_words.specs.declared.command.FundRequest.{FundRequest}
 use Rattle.office_words.specs.declared.command.QuoteRequest.{QuoteRequest}
 use Rattle.aid_office.specs.Asks.{book_rows, book_texts, desk_rows, desk_texts, no_verdicts, quote_ask, quote_rows, quote_texts, report_text}
-use Rattle.aid_office.specs.Moments.{MayRecover, Stands, StoodBefore}
-use Rattle.aid_office.specs.Ran.{Does, founding, filing, booking, quoting, reporting, generating, checking_rows, checking_book}
+use Rattle.aid_office.specs.Rounds.{PolicyAnswers, fund_plans, round_texts}
+use Rattle.aid_office.specs.Moments.{MayRecover, RoundStands, Stands, StoodBefore}
+use Rattle.aid_office.specs.Ran.{Does, founding, filing, booking, quoting, reporting, funding, generating, checking_rows, checking_book}
 use Rattle.aid_office.specs.Statuses.{ended_file, ended_found}
 use Rattle.aid_office.specs.declared.stop.RunStop.{RunStop}
 
@@ -58,7 +63,7 @@ quotes_add quote past (row ∷ []) rest is =
 quotes_add quote past (row ∷ other ∷ rows) rest is = absurd (let bad : ⊥ = cc in bad)
 
 -- an input of one answer, whatever it is
-module _ {D : Type 0} (disk : Ghosts D) (only : (d : D) (c : List ℕ) → IsHonest (disk.tells d) → (disk.tells d).image_since (disk.tells d).moment c → (disk.tells d).image c)
+module _ {D : Type 0} (gives : PolicyAnswers) (disk : Ghosts D) (only : (d : D) (c : List ℕ) → IsHonest (disk.tells d) → (disk.tells d).image_since (disk.tells d).moment c → (disk.tells d).image c)
     (here : (d : D) → IsHonest (disk.tells d) → (disk.tells d).image (disk.tells d).reads) where
   -- each image recovers the list before
   abbrev Each : D → List Filing → Type 0
@@ -106,8 +111,8 @@ module _ {D : Type 0} (disk : Ghosts D) (only : (d : D) (c : List ℕ) → IsHon
   moments_of_report old new text output ended past honest each (telling.unwritten list is cut) = moments_of_opened old new past list honest each is
   moments_of_report old new text output ended past honest each (telling.starved list is same) = moments_of_opened old new past list honest each is
 
-  pub moments : (old new : D) (input : Input) (output : Output) (command : Command) (ended : Result Unit RunStop) (past : List Filing) → Does disk old new input output command ended
-      → IsHonest (disk.tells old) → Each old past → EachMoment (disk.tells old) (disk.tells new) (MayRecover command input past)
+  moments : (old new : D) (input : Input) (output : Output) (command : Command) (ended : Result Unit RunStop) (past : List Filing) → Does gives disk old new input output command ended
+      → IsHonest (disk.tells old) → Each old past → EachMoment (disk.tells old) (disk.tells new) (MayRecover gives command input past)
   moments old new input output command ended past (founding inner session) honest each = moments_of_found old new _ output inner past honest each session
   moments old new input output command ended past (filing inner session) honest each =
       moments_of_session disk office_scheme office_judging only desk_texts output once desk_rows 16777216 input here inner past old new honest each session
@@ -119,11 +124,19 @@ module _ {D : Type 0} (disk : Ghosts D) (only : (d : D) (c : List ℕ) → IsHon
       (moments_of_session disk office_scheme office_judging only quote_texts output once (λ text. quote_rows quote) 0 (record { honest = true; before = []; after = [] }) here inner past old new honest each
       (as_session quote old new output inner opens))
   moments old new input output command ended past (reporting report inner reports) honest each = moments_of_report old new (report_text report) output inner past honest each reports
+  moments old new input output command ended past (funding fund inner planned) honest each =
+      moments_of_planned disk office_scheme office_judging only round_texts once here (fund_plans gives fund) output inner past old new honest each planned
   moments old new input output command ended past (generating generate inner session) honest each =
       moments_of_counted_session disk office_scheme (year_judging office_judging) only year_texts once here year_counted year_ending no_verdicts
       (rows_of_text generate.students generate.seed) 16777216 input output inner past old new honest each session
   moments old new input output command ended past (checking_rows _ same checks) honest each = stays old new past honest each same
   moments old new input output command ended past (checking_book _ same checks) honest each = stays old new past honest each same
+
+  -- the same of the command that the words are the row of
+  pub moments_by : (old new : D) (input : Input) (output : Output) (command same : Command) (ended : Result Unit RunStop) (past : List Filing) → command ≡ same
+      → Does gives disk old new input output command ended → IsHonest (disk.tells old) → Each old past → EachMoment (disk.tells old) (disk.tells new) (MayRecover gives same input past)
+  moments_by old new input output command same ended past is does honest each =
+      subst (λ (k : Command). EachMoment (disk.tells old) (disk.tells new) (MayRecover gives k input past)) is (moments old new input output command ended past does honest each)
 
   -- ---- where all was done
   session_done : (ended : Result Unit SessionStop) → ended_file ended ≡ Ok tt → ended ≡ Ok tt
@@ -144,8 +157,26 @@ module _ {D : Type 0} (disk : Ghosts D) (only : (d : D) (c : List ℕ) → IsHon
   stands_of_report old new text output ended past honest reads (telling.unwritten list is cut) well = absurd (let bad : ⊥ = cc in bad)
   stands_of_report old new text output ended past honest reads (telling.starved list is same) well = absurd (let bad : ⊥ = cc in bad)
 
-  pub stands : (old new : D) (input : Input) (output : Output) (command : Command) (ended : Result Unit RunStop) (past : List Filing) → Does disk old new input output command ended
-      → ended ≡ Ok tt → IsHonest (disk.tells old) → StoodBefore command (disk.tells old).reads past → Stands command input past (disk.tells new)
+  -- the rows of a round are the asks of its payments
+  payments_of : (asks : List Ask) (rows : List (Result Ask RowError)) → map (λ row. row) rows ≡ map (λ row. row) (rows_of_asks asks) → (past : List Filing)
+      → after_rows office_judging past rows ≡ after_asks office_judging past asks
+  payments_of asks rows same past =
+      let are : rows ≡ rows_of_asks asks = sym (map-id rows) ∙ same ∙ map-id (rows_of_asks asks) in
+      ap (after_rows office_judging past) are ∙ after_rows_of_asks office_judging RowError past asks
+
+  stands_of_round : (fund : FundRequest) (old new : D) (output : Output) (ended : Result Unit SessionStop) (past : List Filing) → ended ≡ Ok tt → IsHonest (disk.tells old) → Recovers (disk.tells old).reads past
+      → Planned disk office_scheme office_judging round_texts (fund_plans gives fund) old new output ended → RoundStands gives fund past (disk.tells new)
+  stands_of_round fund old new output ended past well honest reads planned =
+      let (asks, closing, rows, (filings, left, is, are, closed), said, images) =
+      images_of_planned disk office_scheme office_judging only round_texts once here (fund_plans gives fund) output ended past old new well honest reads planned in (
+        filings,
+        left,
+        is,
+        λ c image. subst (λ (h : List Filing). Recovers c h) (payments_of asks rows said past ∙ ap (after_asks office_judging past) are) (images c image),
+      )
+
+  stands : (old new : D) (input : Input) (output : Output) (command : Command) (ended : Result Unit RunStop) (past : List Filing) → Does gives disk old new input output command ended
+      → ended ≡ Ok tt → IsHonest (disk.tells old) → StoodBefore command (disk.tells old).reads past → Stands gives command input past (disk.tells new)
   stands old new input output command ended past (founding inner session) well honest stood = stands_of_found old new _ output inner honest session well
   stands old new input output command ended past (filing inner session) well honest stood =
       images_of_session disk office_scheme office_judging only desk_texts output once desk_rows 16777216 input inner past old new (session_done inner well) honest stood session
@@ -157,8 +188,15 @@ module _ {D : Type 0} (disk : Ghosts D) (only : (d : D) (c : List ℕ) → IsHon
       λ c image. subst (λ (h : List Filing). Recovers c h) (quotes_add quote past rows [] (sym (said refl) ∙ sym (append-nil (map (λ row. row) rows)))) (images c image)
   stands old new input output command ended past (reporting report inner reports) well honest stood =
       stands_of_report old new (report_text report) output inner past honest stood reports (session_done inner well)
+  stands old new input output command ended past (funding fund inner planned) well honest stood = stands_of_round fund old new output inner past (session_done inner well) honest stood planned
   stands old new input output command ended past (generating generate inner session) well honest stood =
       images_of_counted_session disk office_scheme (year_judging office_judging) only year_texts once here year_counted year_ending no_verdicts
       (rows_of_text generate.students generate.seed) 16777216 input output inner past old new (session_done inner well) honest stood session
   stands old new input output command ended past (checking_rows _ same checks) well honest stood = tt
   stands old new input output command ended past (checking_book _ same checks) well honest stood = tt
+
+  pub stands_by : (old new : D) (input : Input) (output : Output) (command same : Command) (ended : Result Unit RunStop) (past : List Filing) → command ≡ same
+      → Does gives disk old new input output command ended → ended ≡ Ok tt → IsHonest (disk.tells old) → StoodBefore same (disk.tells old).reads past → Stands gives same input past (disk.tells new)
+  stands_by old new input output command same ended past is does well honest stood =
+      subst (λ (k : Command). Stands gives k input past (disk.tells new)) is
+      (stands old new input output command ended past does well honest (subst (λ (k : Command). StoodBefore k (disk.tells old).reads past) (sym is) stood))

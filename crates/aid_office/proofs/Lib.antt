@@ -1,3 +1,4 @@
+pub mod Awarding
 pub mod Complete
 pub mod Ending
 pub mod Images
@@ -7,3 +8,7 @@ pub mod Reading
 pub mod Crew
 pub mod Closing
 pub mod Filers
+pub mod Following
+pub mod DesksDone
+pub mod Named
+pub mod WebCauses

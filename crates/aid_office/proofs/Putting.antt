@@ -1,5 +1,5 @@
 -- Texts that are written one after the other.
-use Rattle.std.proofs.Common.{rules, ◌≡◌, ℕ, zero, suc, ◌+◌, ◌<◌, ◌≤◌, List, [], ◌∷◌, ◌++◌, Result, Ok, Err, IsTrue, length, take, drop, get_or, refl, sym, ap, ◌∙◌, subst, arith, append-nil, append_assoc, length-append}
+use Rattle.std.proofs.Common.{◌≡◌, ℕ, zero, suc, ◌+◌, ◌<◌, ◌≤◌, List, [], ◌∷◌, ◌++◌, Result, Ok, Err, IsTrue, length, take, drop, get_or, refl, sym, ap, ◌∙◌, subst, arith, append-nil, append_assoc, length-append}
 use Rattle.std.proofs.lemmas.List.{take-append-le, take_all}
 use Rattle.std.specs.Prelude.{OnOk, OnErr}
 use Rattle.aid_edges.specs.Faults.{Rose}
@@ -10,7 +10,6 @@ use Rattle.kept_desks.specs.declared.names.RowName.{RowName}
 use Rattle.kept_desks.specs.DeskTexts.{desk_text}
 use Rattle.aid_office.specs.DeskTexts.{desks_text, admitted_line, admitted_text, stop_line}
 use Rattle.aid_office.specs.Puts.{HasPut, HasCut, Puts}
-use Rattle.aid_office.proofs.Ending.{rose_after}
 
 take_past : (one other : List ℕ) (n : ℕ) → take (length one + n) (one ++ other) ≡ one ++ take n other
 take_past [] other n = let count : 0 + n ≡ n = omega arith in ap (λ (m : ℕ). take m other) count

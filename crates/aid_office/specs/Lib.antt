@@ -1,7 +1,12 @@
 pub mod Asks
+pub mod Rounds
 pub mod Statuses
 pub mod Ran
 pub mod Moments
 pub mod DeskTexts
 pub mod Puts
 pub mod RanDesks
+pub mod WebTexts
+pub mod WebLaws
+pub mod RanWeb
+pub mod DesksDone

@@ -1,5 +1,5 @@
 -- What a run of the program does, by its command.
-use Rattle.std.specs.Prelude.{◌≡◌, ◌≢◌, ◌≤◌, ◌==◌, ℕ, Bool, true, false, IsTrue, List, [], codes, Result, Ok, Err}
+use Rattle.std.specs.Prelude.{◌≡◌, ◌≤◌, ◌==◌, ℕ, Bool, true, false, IsTrue, List, [], codes, Result, Ok, Err}
 use Rattle.aid_edges.specs.Faults.{Rose}
 use Rattle.disk_model.specs.Telling.{IsHonest, Telling}
 use Rattle.disk_model.specs.declared.disk.Disk.{Ghosts}
@@ -12,6 +12,7 @@ use Rattle.generated_rows.specs.Texts.{rows_of_text, year_texts}
 use Rattle.generated_year.specs.Counted.{year_counted, year_ending}
 use Rattle.generated_year.specs.Payments.{year_judging}
 use Rattle.kept_rounds.specs.Counted.{CountedSession}
+use Rattle.kept_rounds.specs.Planned.{Planned}
 use Rattle.kept_session.specs.Checks.{Checks}
 use Rattle.kept_session.specs.Edges.{Input, Output, HasWritten, HasWrittenShort}
 use Rattle.kept_session.specs.Reports.{Reports}
@@ -22,14 +23,16 @@ use Rattle.kept_session.specs.declared.checking.Tally.{Tally}
 use Rattle.kept_session.specs.declared.stop.FoundStop.{FoundStop}
 use Rattle.kept_session.specs.declared.stop.SessionStop.{SessionStop}
 use Rattle.desk_forms.specs.Lines.{fine_line, tally_line}
-use Rattle.office_words.specs.Words.{words_of}
+use Rattle.office_words.specs.Words.{IsRow}
 use Rattle.office_words.specs.declared.command.BookNumber.{BookNumber}
 use Rattle.office_words.specs.declared.command.Command.{Command}
-use Rattle.office_words.specs.declared.command.Command.TheVariants.{Found, File, Book, Quote, Report, Generate, CheckRows, CheckBook}
+use Rattle.office_words.specs.declared.command.Command.TheVariants.{Found, File, Book, Quote, Report, Fund, Generate, CheckRows, CheckBook}
+use Rattle.office_words.specs.declared.command.FundRequest.{FundRequest}
 use Rattle.office_words.specs.declared.command.GenerateRequest.{GenerateRequest}
 use Rattle.office_words.specs.declared.command.QuoteRequest.{QuoteRequest}
 use Rattle.office_words.specs.declared.command.ReportRequest.{ReportRequest}
 use Rattle.aid_office.specs.Asks.{book_rows, book_texts, desk_rows, desk_texts, no_verdicts, quote_rows, quote_texts, report_text}
+use Rattle.aid_office.specs.Rounds.{PolicyAnswers, fund_plans, round_texts}
 use Rattle.aid_office.specs.Statuses.{ended_check, ended_file, ended_found, fault_line, status_of, is_disk_fault, is_read_fault}
 use Rattle.aid_office.specs.declared.stop.RunStop.{RunStop}
 use Rattle.aid_office.specs.declared.stop.RunStop.TheVariants as stops
@@ -57,33 +60,38 @@ pub data ChecksRows (input : Input) (output : Output) : Result Unit RunStop → 
 pub data ChecksBook (input : Input) (output : Output) : Result Unit RunStop → Type 0 where
   looked_at : (checked : Result Tally CheckStop) → Checks book_texts (book_rows 1) fine_line 16777216 input output checked → ChecksBook input output (ended_check checked)
 
--- What a command does, up to how it ends: to the disk, of the input, and with what it writes.
-pub data Does {D : Type 0} (disk : Ghosts D) (old new : D) (input : Input) (output : Output) : Command → Result Unit RunStop → Type 0 where
+-- What a command does, up to how it ends: to the disk, of the input, and with what it writes. `gives` tells what a call of the
+-- policy at a place may give.
+pub data Does {D : Type 0} (gives : PolicyAnswers) (disk : Ghosts D) (old new : D) (input : Input) (output : Output) : Command → Result Unit RunStop → Type 0 where
   -- `found`: an office is founded, and `founded` is written
   founding : (ended : Result Unit FoundStop) → FoundSession disk office_scheme old new (codes "founded\n") output ended
-      → Does disk old new input output Found (ended_found ended)
+      → Does gives disk old new input output Found (ended_found ended)
   -- `file`: the rows of the input are filed, and a line is written for each
   filing : (ended : Result Unit SessionStop) → Session disk office_scheme office_judging desk_texts desk_rows 16777216 old new input output ended
-      → Does disk old new input output File (ended_file ended)
+      → Does gives disk old new input output File (ended_file ended)
   -- `book`: the text of the input is filed as one book
   booking : (book : BookNumber) (ended : Result Unit SessionStop)
       → Session disk office_scheme office_judging book_texts (book_rows book.number) 16777216 old new input output ended
-      → Does disk old new input output (Book book) (ended_file ended)
+      → Does gives disk old new input output (Book book) (ended_file ended)
   -- `quote`: the office is asked, and the quote is written
   quoting : (quote : QuoteRequest) (ended : Result Unit SessionStop) → Opens disk office_scheme office_judging quote_texts old new output (quote_rows quote) ended
-      → Does disk old new input output (Quote quote) (ended_file ended)
+      → Does gives disk old new input output (Quote quote) (ended_file ended)
   -- `report`: the office is opened, and the report on it is written
   reporting : (report : ReportRequest) (ended : Result Unit SessionStop) → Reports disk office_scheme (report_text report) old new output ended
-      → Does disk old new input output (Report report) (ended_file ended)
+      → Does gives disk old new input output (Report report) (ended_file ended)
+  -- `fund`: the payments of a round on the office are filed, a line is written for each, and behind them what is left of the fund
+  funding : (fund : FundRequest) (ended : Result Unit SessionStop)
+      → Planned disk office_scheme office_judging round_texts (fund_plans gives fund) old new output ended
+      → Does gives disk old new input output (Fund fund) (ended_file ended)
   -- `generate`: the rows of a generated year are filed, whose book is the text of the input, and what they come to is written; where
   -- the text is no book, its line alone is
   generating : (generate : GenerateRequest) (ended : Result Unit SessionStop)
       → CountedSession disk office_scheme (year_judging office_judging) year_texts year_counted year_ending no_verdicts
       (rows_of_text generate.students generate.seed) 16777216 old new input output ended
-      → Does disk old new input output (Generate generate) (ended_file ended)
+      → Does gives disk old new input output (Generate generate) (ended_file ended)
   -- `check rows` and `check book`: lines are written, and no call is made on the disk
-  checking_rows : (ended : Result Unit RunStop) → new ≡ old → ChecksRows input output ended → Does disk old new input output CheckRows ended
-  checking_book : (ended : Result Unit RunStop) → new ≡ old → ChecksBook input output ended → Does disk old new input output CheckBook ended
+  checking_rows : (ended : Result Unit RunStop) → new ≡ old → ChecksRows input output ended → Does gives disk old new input output CheckRows ended
+  checking_book : (ended : Result Unit RunStop) → new ≡ old → ChecksBook input output ended → Does gives disk old new input output CheckBook ended
 
 -- The end of a run: nothing more where all was done. Otherwise the last line is that of the stop; or that line is cut
 -- short, and the status is that of a failed write.
@@ -117,23 +125,24 @@ pub record Shows (counts : Counts) (status : ℕ) : Type 0 where
   pub source : (status == 4) ≡ false → Moved (status == 3) counts.source
   pub disk : (status == 4) ≡ false → Moved (status == 5) counts.disk
 
--- A run with these words over a disk.
-pub data Ran {D : Type 0} (disk : Ghosts D) (counts : Counts) (words : List (List ℕ)) (old new : D) (input : Input) (output : Output) : ℕ → Type 0 where
+-- A run with these words over a disk. `names` are those of the policies, in their order.
+pub data Ran {D : Type 0} (names : List (List ℕ)) (gives : PolicyAnswers) (disk : Ghosts D) (counts : Counts) (words : List (List ℕ)) (old new : D) (input : Input) (output : Output) : ℕ → Type 0 where
   -- the words are no row: nothing is read, and no call is made on the disk
-  no_row : (status : ℕ) → ((command : Command) → words ≢ words_of command) → new ≡ old → input.after ≡ input.before
+  no_row : (status : ℕ) → ((command : Command) → IsRow names words command → ⊥) → new ≡ old → input.after ≡ input.before
       → HasCause counts (Err stops.Usage) status → Ends output (Err stops.Usage) status
-      → Ran disk counts words old new input output status
+      → Ran names gives disk counts words old new input output status
   -- they are the row of a command
-  did : (command : Command) (text : List ℕ) (ended : Result Unit RunStop) (status : ℕ) → words ≡ words_of command
-      → Does disk old new input (up_to text output) command ended
+  did : (command : Command) (text : List ℕ) (ended : Result Unit RunStop) (status : ℕ) → IsRow names words command
+      → Does gives disk old new input (up_to text output) command ended
       → HasCause counts ended status → Ends (from text output) ended status
-      → Ran disk counts words old new input output status
+      → Ran names gives disk counts words old new input output status
 
 -- whether a command reads the input
 abbrev pub reads_input : Command → Bool
 reads_input Found = false
 reads_input (Quote quote) = false
 reads_input (Report report) = false
+reads_input (Fund fund) = false
 reads_input _ = true
 
 -- A command can be done: its source is honest and has not too many bytes, and the file is one for it.
@@ -149,6 +158,7 @@ CanBeDone File honest size disk = IsShort honest size × IsOffice disk
 CanBeDone (Book book) honest size disk = IsShort honest size × IsOffice disk
 CanBeDone (Quote quote) honest size disk = IsOffice disk
 CanBeDone (Report report) honest size disk = IsOffice disk
+CanBeDone (Fund fund) honest size disk = IsOffice disk
 CanBeDone (Generate generate) honest size disk = IsShort honest size × IsOffice disk
 CanBeDone CheckRows honest size disk = IsShort honest size
 CanBeDone CheckBook honest size disk = IsShort honest size

@@ -1,5 +1,5 @@
 -- What a run of many desks does: their inputs, the journal, what they filed, the text and the status.
-use Rattle.std.specs.Prelude.{◌≡◌, ◌≢◌, ◌⊎◌, ◌+◌, ◌<◌, ◌≤◌, ◌++◌, ℕ, ℤ, IsTrue, List, [], ◌∷◌, length, map, reverse, Option, Some, None, get_or, Result, Ok, Err}
+use Rattle.std.specs.Prelude.{◌≡◌, ◌≢◌, ◌⊎◌, ◌+◌, ◌<◌, ◌≤◌, ◌++◌, ℕ, ℤ, IsTrue, List, [], ◌∷◌, length, map, reverse, Option, Some, None, get_or, codes, Result}
 use Rattle.std.specs.List.{All}
 use Rattle.aid_edges.specs.Faults.{Rose}
 use Rattle.aid_edges.specs.declared.source.Source.{Ghosts as SourceGhosts}
@@ -10,17 +10,16 @@ use Rattle.desk_forms.specs.declared.error.RowError.{RowError}
 use Rattle.disk_model.specs.Telling.{IsHonest}
 use Rattle.disk_model.specs.declared.disk.Disk.{Ghosts}
 use Rattle.filing_journal.specs.declared.opening.OpenError.{OpenError}
+use Rattle.filing_journal.specs.declared.opening.OpenError.TheVariants as opening
 use Rattle.filing_kinds.specs.declared.kind.Kind.{Kind}
 use Rattle.kept_list.specs.Kept.{IsSound}
 use Rattle.kept_office.specs.Scheme.{office_scheme}
 use Rattle.kept_office.specs.Turns.{asked as filing_asked, office_judging}
-use Rattle.kept_session.specs.Edges.{Input, Output, IsReadWhole}
+use Rattle.kept_session.specs.Edges.{Input, IsReadWhole}
 use Rattle.kept_session.specs.Links.{IsOpened}
 use Rattle.kept_session.specs.Sessions.{IsUnopened, IsUnread}
-use Rattle.kept_session.specs.declared.stop.FileStop.TheVariants as filing
 use Rattle.kept_session.specs.declared.stop.ReadStop.{ReadStop}
 use Rattle.kept_session.specs.declared.stop.ReadStop.TheVariants as reading
-use Rattle.kept_session.specs.declared.stop.SessionStop.TheVariants as session
 use Rattle.office_lock.specs.Passes.{Known}
 use Rattle.office_lock.specs.declared.turned.Stand.{Stand}
 use Rattle.kept_desks.specs.Answered.{Files}
@@ -33,12 +32,9 @@ use Rattle.kept_desks.specs.declared.stop.DeskEnd.TheVariants.{Open}
 use Rattle.aid_office.specs.Asks.{asked, desk_rows, desk_texts}
 use Rattle.aid_office.specs.DeskTexts.{admitted_text, desk_prefix, desks_status, desks_text}
 use Rattle.aid_office.specs.Puts.{HasCut, HasPut}
-use Rattle.aid_office.specs.Ran.{Ends}
-use Rattle.aid_office.specs.Statuses.{status_of}
+use Rattle.aid_office.specs.Statuses.{open_line, open_status, read_line, read_status}
 use Rattle.aid_office.specs.declared.desk.DeskRows.{DeskRows}
 use Rattle.aid_office.specs.declared.desks.DeskInput.{DeskInput}
-use Rattle.aid_office.specs.declared.stop.RunStop.{RunStop}
-use Rattle.aid_office.specs.declared.stop.RunStop.TheVariants.{Usage, File}
 
 -- a desk of the office
 abbrev pub View : Type 0
@@ -102,15 +98,10 @@ pub record HasFiled (opening closed : Stand (Filed Filing)) (before after : List
   pub ran : Ran opening closed desks
   pub shown : all_shown after ≡ all_shown desks
 
--- The end after the desks filed: all of the text was written, and the status is theirs; or it is cut short.
-pub data EndsDesks {K : Type 0} (sink : SinkGhosts K) (position : ℕ) (rows : List RowName) (desks : List View) (old new : K) : ℕ → Type 0 where
-  told : HasPut sink (desks_text desks ++ admitted_text position rows) old new → EndsDesks sink position rows desks old new (desks_status desks)
-  untold : HasCut sink (desks_text desks ++ admitted_text position rows) old new → EndsDesks sink position rows desks old new 4
-
--- The end before a desk filed: the line of the stop; or it is cut short, and a write failed.
-pub record EndsEarly {K : Type 0} (sink : SinkGhosts K) (stop : RunStop) (old new : K) (status : ℕ) : Type 0 where
-  pub ends : Ends (record { honest = sink.honest old; before = sink.text old; after = sink.text new }) (Err stop) status
-  pub count : ((status ≡ status_of stop) × (sink.faults new ≡ sink.faults old)) ⊎ ((status ≡ 4) × Rose (sink.faults old) (sink.faults new))
+-- The end of a run: all of the text was written, and the status is the one that goes with it; or the text is cut short, and a write failed.
+pub data EndsWith {K : Type 0} (sink : SinkGhosts K) (text : List ℕ) (shown : ℕ) (old new : K) : ℕ → Type 0 where
+  told : HasPut sink text old new → EndsWith sink text shown old new shown
+  untold : HasCut sink text old new → EndsWith sink text shown old new 4
 
 -- the desks are numbered from 1, and none has begun
 pub record AreNew (desks : List View) : Type 0 where
@@ -121,26 +112,27 @@ pub record AreNew (desks : List View) : Type 0 where
 -- What becomes of the rows of desks once they were read, by how the run ended.
 pub data FilesAll {D K : Type 0} (disk : Ghosts D) (sink : SinkGhosts K) (old new : D) (before : List View) (out out' : K) : ℕ → Type 0 where
   -- no office was opened
-  unopened : (error : OpenError) (status : ℕ) → IsUnopened disk office_scheme error old new → EndsEarly sink (File (session.Opening error)) out out' status
+  unopened : (error : OpenError) (status : ℕ) → IsUnopened disk office_scheme error old new → (error ≡ opening.DiskFault → Rose (disk.faults old) (disk.faults new))
+      → EndsWith sink (open_line error) (open_status error) out out' status
       → FilesAll disk sink old new before out out' status
   -- there was no memory for the desks: nothing was filed
-  starved : (past : List Filing) (status : ℕ) → IsOpened disk office_scheme past old new → EndsEarly sink (File (session.Filing filing.NoMemory)) out out' status
+  starved : (past : List Filing) (status : ℕ) → IsOpened disk office_scheme past old new → EndsWith sink (codes "fault memory\n") 9 out out' status
       → FilesAll disk sink old new before out out' status
   -- The desks filed. Each image of the disk then recovers the list at the end, with or without one undecided filing.
   worked : (after : List View) (past history : List Filing) (pending : Option Filing) (log : List RowName) (waiting : Option RowName) (at : D) (status : ℕ)
       → IsOpened disk office_scheme past old at
-      → (filed : HasFiled (stand_of past None [] None (disk.faults at) (disk.tells at).honest) (stand_of history pending log waiting (disk.faults new) (disk.tells new).honest) before after)
+      → (filed : HasFiled (stand_of past None [] None (disk.faults old) (disk.tells at).honest) (stand_of history pending log waiting (disk.faults new) (disk.tells new).honest) before after)
       → (IsHonest (disk.tells new) → IsSound office_scheme (disk.tells new) history pending)
-      → EndsDesks sink (length past + 1) (reverse (rows_of filed.ran.added)) after out out' status
+      → EndsWith sink (desks_text after ++ admitted_text (length past + 1) (reverse (rows_of filed.ran.added))) (desks_status after) out out' status
       → FilesAll disk sink old new before out out' status
 
 -- A run of many desks, by how it ended.
 pub data RanDesks {D S K : Type 0} (disk : Ghosts D) (source : SourceGhosts S) (sink : SinkGhosts K) (old new : D) (inputs inputs' : List (DeskInput S)) (out out' : K) : ℕ → Type 0 where
   -- there is no desk, or more than 16: nothing is read
-  unasked : (status : ℕ) → (length inputs ≡ 0) ⊎ (16 < length inputs) → new ≡ old → inputs' ≡ inputs → EndsEarly sink Usage out out' status
+  unasked : (status : ℕ) → (length inputs ≡ 0) ⊎ (16 < length inputs) → new ≡ old → inputs' ≡ inputs → EndsWith sink (codes "fault usage\n") 2 out out' status
       → RanDesks disk source sink old new inputs inputs' out out' status
   -- an input wasn't read: no call is made on the disk
-  unread : (stop : ReadStop) (status : ℕ) → IsUnreadAt source stop inputs inputs' → new ≡ old → EndsEarly sink (File (session.Reading stop)) out out' status
+  unread : (stop : ReadStop) (status : ℕ) → IsUnreadAt source stop inputs inputs' → new ≡ old → EndsWith sink (read_line stop) (read_status stop) out out' status
       → RanDesks disk source sink old new inputs inputs' out out' status
   -- all inputs were read, each into a desk, and the desks filed
   read : (before : List View) (status : ℕ) → AreRead source (length inputs) inputs inputs' before → FilesAll disk sink old new before out out' status

@@ -12,7 +12,7 @@ use Rattle.kept_session.specs.declared.stop.FoundStop.TheVariants as founded
 use Rattle.kept_session.specs.declared.stop.SessionStop.{SessionStop}
 use Rattle.kept_session.specs.declared.stop.SessionStop.TheVariants.{Reading, Opening, Filing}
 use Rattle.aid_office.specs.declared.stop.RunStop.{RunStop}
-use Rattle.aid_office.specs.declared.stop.RunStop.TheVariants.{Usage, Found, File, Check}
+use Rattle.aid_office.specs.declared.stop.RunStop.TheVariants.{Usage, Found, File, Check, Socket}
 use Rattle.kept_session.specs.declared.checking.Tally.{Tally}
 use Rattle.kept_session.specs.declared.checking.CheckStop.{CheckStop}
 use Rattle.kept_session.specs.declared.checking.CheckStop.TheVariants as checking
@@ -57,6 +57,7 @@ status_of Usage = 2
 status_of (Found stop) = found_status stop
 status_of (File stop) = session_status stop
 status_of (Check stop) = check_status stop
+status_of Socket = 10
 
 -- its last line; there is none after a write that failed
 abbrev pub read_line : ReadStop → List ℕ
@@ -99,6 +100,7 @@ fault_line Usage = codes "fault usage\n"
 fault_line (Found stop) = found_line stop
 fault_line (File stop) = session_line stop
 fault_line (Check stop) = check_line stop
+fault_line Socket = codes "fault socket\n"
 
 -- how a run ended, by how its founding, its session or its check did
 abbrev pub ended_found : Result Unit FoundStop → Result Unit RunStop

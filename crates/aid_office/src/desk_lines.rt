@@ -99,8 +99,8 @@ fn admitted_line(position: u64, by: RowName) -> ArrayString<80>
     line
 }
 
-// Writes all the bytes.
-fn put<K: Sink>(out: &mut K, bytes: &[u8]) -> Result<(), Failed>
+/// Writes all the bytes.
+pub(crate) fn put<K: Sink>(out: &mut K, bytes: &[u8]) -> Result<(), Failed>
     ensures { Puts K.Sink bytes.now result out.old out.new }
 {
     write_whole(out, bytes)

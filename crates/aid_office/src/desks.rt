@@ -1,5 +1,5 @@
 //! A run of many desks: each has an input of its own, and files its rows while the others file theirs.
-ghost use Rattle.std.specs.Prelude.{◌≡◌, ◌⊎◌, ◌≤◌, ◌<◌, ◌+◌, ◌-◌, [], ℕ, false, true, None, Err, IfOk, IfErr, OnOk, slice_index_or, length, reverse, take};
+ghost use Rattle.std.specs.Prelude.{◌≡◌, ◌⊎◌, ◌≤◌, ◌<◌, ◌+◌, ◌-◌, ◌++◌, [], ℕ, false, true, None, Err, IfOk, IfErr, OnOk, slice_index_or, length, reverse, take};
 ghost use Rattle.disk_model.specs.Telling.{IsHonest};
 ghost use Rattle.kept_list.specs.Kept.{IsSound};
 ghost use Rattle.kept_office.specs.Scheme.{office_scheme};
@@ -11,11 +11,15 @@ ghost use Rattle.kept_desks.specs.declared.names.Filed.{Filed};
 ghost use Rattle.kept_desks.specs.Desks.{IsReady, HasEnded};
 ghost use Rattle.kept_desks.specs.Shares.{stand_of};
 ghost use Rattle.kept_session.specs.Sessions.{IsUnread};
-ghost use Rattle.aid_office.specs.RanDesks.{AreNew, AreRead, EndsDesks, EndsEarly, FilesAll, HasFiled, IsUnreadAt, Joins, RanDesks, WorksHere};
+ghost use Rattle.office_lock.specs.Turning.{RoseBy};
+ghost use Rattle.aid_office.specs.DeskTexts.{admitted_text, desks_status as desks_status_of, desks_text};
+ghost use Rattle.aid_office.specs.Statuses.{fault_line, status_of};
+ghost use Rattle.aid_office.specs.DesksDone.{CanFile, NoneRose};
+ghost use Rattle.aid_office.specs.RanDesks.{AreNew, AreRead, EndsWith, FilesAll, HasFiled, IsUnreadAt, Joins, RanDesks, WorksHere};
 
 use crate::desk::{DeskForms, DeskRows};
-use crate::desk_lines::{OfficeDesk, desk_prefix, desks_status, put_all};
-use crate::run::{WRITE_FAILED, end};
+use crate::desk_lines::{OfficeDesk, desk_prefix, desks_status, put, put_all};
+use crate::run::WRITE_FAILED;
 use crate::stop::RunStop;
 use aid_edges::{Sink, Source};
 use disk_model::Disk;
@@ -123,7 +127,7 @@ fn file_all<D: Disk + Send, G: Gate + Sync, H: Threads + Wait + Sync>(
 
 // Writes what the desks did, and gives the status.
 fn tell<K: Sink>(desks: &[OfficeDesk], front: u32, rows: &[RowName], out: &mut K) -> u8
-    ensures { EndsDesks K.Sink (front + 1) rows.now desks.now out.old out.new result }
+    ensures { EndsWith K.Sink (desks_text desks.now ++ admitted_text (front + 1) rows.now) (desks_status_of desks.now) out.old out.new result }
 {
     match put_all(desks, front, rows, out) {
         Ok(()) => desks_status(desks),
@@ -138,7 +142,8 @@ fn close<D: Disk, K: Sink>(
     front: u32,
     out: &mut K,
 ) -> (u8, D)
-    ensures ends { EndsDesks K.Sink (front + 1) (reverse (take (length closed.history - front) closed.log)) desks.now out.old out.new result.0 }
+    ensures ends { EndsWith K.Sink (desks_text desks.now ++ admitted_text (front + 1) (reverse (take (length closed.history - front) closed.log))) (desks_status_of desks.now)
+        out.old out.new result.0 }
     ensures disk { result.1 ≡ closed.disk }
     ensures sound { IsHonest (D.tells result.1) → IsSound office_scheme (D.tells result.1) closed.history closed.pending }
 {
@@ -150,9 +155,12 @@ fn close<D: Disk, K: Sink>(
 
 // Ends a run in which no desk filed.
 fn stop<K: Sink>(stop: RunStop, out: &mut K) -> u8
-    ensures { EndsEarly K.Sink stop out.old out.new result }
+    ensures { EndsWith K.Sink (fault_line stop) (status_of stop) out.old out.new result }
 {
-    end(Err(stop), out)
+    match put(out, stop.line().as_bytes()) {
+        Ok(()) => stop.status(),
+        Err(_) => WRITE_FAILED,
+    }
 }
 
 // Opens the office of the disk's file, files what the desks have, and writes what they did.
@@ -205,7 +213,12 @@ pub fn run_desks<D: Disk + Send, S: Source, G: Gate + Sync, K: Sink, H: Threads 
     gate: &G,
     out: &mut K,
 ) -> (u8, D)
-    ensures { RanDesks D.Disk S.Source K.Sink disk result.1 desks.old desks.new out.old out.new result.0 }
+    // All that a run of desks does, by how it ended: the text, the disk, the counts, and the status.
+    ensures ran { RanDesks D.Disk S.Source K.Sink disk result.1 desks.old desks.new out.old out.new result.0 }
+
+    // Where no count rose, desks that can file are done, if there is memory.
+    ensures complete { CanFile S.Source desks.old (D.tells disk) → NoneRose S.Source desks.old desks.new → ¬ (Rose (K.faults out.old) (K.faults out.new))
+        → ¬ (RoseBy 1 (D.faults disk) (D.faults result.1)) → (result.0 ≡ 0) ⊎ (result.0 ≡ 9) }
 {
     if !can_file(desks.len()) {
         return (stop(RunStop::Usage, out), disk);

@@ -6,26 +6,42 @@ mod checks;
 mod desk;
 mod desk_lines;
 mod desks;
+#[cfg(test)]
+mod desks_tests;
+mod fund;
+mod laws;
 mod quote;
 mod report;
 mod run;
 mod stop;
 #[cfg(test)]
 mod tests;
+mod web;
+mod web_laws;
+#[cfg(test)]
+mod web_tests;
 
-use aid_edges::{ReadEdge, WriteEdge};
+use aid_edges::{ReadEdge, Sink, WriteEdge};
 use desks::{DeskInput, run_desks};
 use disk_model::HostDisk;
+use fund_policy::{Rule, level, quarter, standard};
 use kept_desks::FreeGate;
 use kept_office::OpenError;
 use kept_session::ReadStop;
+use kept_web::WebDesk;
 use office_words::{MainRow, row_of};
 use run::{end, run};
+use std::alloc::{AllocError, Global};
 use std::fs::{File, OpenOptions, TryLockError};
 use std::io::ErrorKind;
+use std::net::{Ipv4Addr, Net, TcpListener, TcpStream};
 use std::process::ExitCode;
+use std::sync::Wait;
+use std::thread::Threads;
 use std::{env, io};
 use stop::RunStop;
+use web::run_web;
+use web_edges::PortEdge;
 
 // The words after the program's name.
 fn words_of(rt: &HostRuntime) -> io::Result<Vec<String>> {
@@ -49,11 +65,13 @@ usage: aid_office JOURNAL found
        aid_office JOURNAL book NUMBER < BOOK.toml
        aid_office JOURNAL file < ROWS.csv
        aid_office JOURNAL desks ROWS.csv..
+       aid_office JOURNAL serve PORT WORKERS SESSIONS
        aid_office JOURNAL quote SCHOOL STUDENT YEAR TERM
        aid_office JOURNAL report standing YEAR
        aid_office JOURNAL report awards YEAR
        aid_office JOURNAL report returns YEAR
        aid_office JOURNAL report lifetime
+       aid_office JOURNAL fund SCHOOL YEAR TERM AMOUNT POLICY NUMBER
        aid_office JOURNAL generate SEED STUDENTS < BOOK.toml
        aid_office JOURNAL check rows < ROWS.csv
        aid_office JOURNAL check book < BOOK.toml";
@@ -135,6 +153,49 @@ fn open_inputs(
     Ok(desks)
 }
 
+// Runs over the standard input, with the office's two policies of awards.
+fn run_alone<K: Sink>(
+    rt: &HostRuntime,
+    words: &Vec<String>,
+    disk: HostDisk,
+    out: &mut K,
+) -> Result<u8, AllocError> {
+    let alloc = rt.alloc();
+    let level_rule: Rule = Box::new(
+        alloc,
+        |need: u32, sai: i32, intensity: u8| level(need, sai, intensity),
+    )?;
+    let quarter_rule: Rule = Box::new(
+        alloc,
+        |need: u32, sai: i32, intensity: u8| quarter(need, sai, intensity),
+    )?;
+    let policies = standard(alloc, level_rule, quarter_rule)?;
+    let mut input = ReadEdge::new(rt.stdin());
+    Ok(run(alloc, words, disk, &mut input, out, &policies).0)
+}
+
+// Serves on a port of this machine alone. The desks of all workers take their connections from one listener.
+fn serve<H: Net<Listener = TcpListener, Stream = TcpStream> + Threads + Wait + Sync, K: Sink>(
+    rt: &H,
+    alloc: Global,
+    port: u16,
+    workers: u8,
+    sessions: u32,
+    disk: HostDisk,
+    out: &mut K,
+) -> u8 {
+    let Ok(listener) = TcpListener::bind(rt, (Ipv4Addr::LOCALHOST, port)) else {
+        return end(Err(RunStop::Socket), out);
+    };
+    let mut desks = Vec::new(alloc);
+    for _ in 0..workers {
+        if desks.push(WebDesk::new(PortEdge::new(&listener))).is_err() {
+            return end(Err(RunStop::File(ReadStop::NoMemory.into())), out);
+        }
+    }
+    run_web(rt, alloc, &mut desks, sessions, disk, out).0
+}
+
 fn main(rt: HostRuntime) -> ExitCode {
     let Ok(_streams) = fill_streams(&rt) else {
         return ExitCode::from(RunStop::File(OpenError::DiskFault.into()).status());
@@ -174,14 +235,19 @@ fn main(rt: HostRuntime) -> ExitCode {
     }
     let disk = HostDisk::new(file);
     let status = match row_of(&words) {
-        MainRow::Run => {
-            let mut input = ReadEdge::new(rt.stdin());
-            run(rt.alloc(), &words, disk, &mut input, &mut out).0
-        }
+        MainRow::Run => match run_alone(&rt, &words, disk, &mut out) {
+            Ok(status) => status,
+            Err(_) => end(Err(RunStop::File(ReadStop::NoMemory.into())), &mut out),
+        },
         MainRow::Desks { .. } => match open_inputs(&rt, &words) {
             Ok(mut desks) => run_desks(&rt, rt.alloc(), &mut desks, disk, &FreeGate, &mut out).0,
             Err(stop) => end(Err(RunStop::File(stop.into())), &mut out),
         },
+        MainRow::Serve {
+            port,
+            workers,
+            sessions,
+        } => serve(&rt, rt.alloc(), port, workers, sessions, disk, &mut out),
     };
     if status == RunStop::Usage.status() {
         say(&rt, USAGE);

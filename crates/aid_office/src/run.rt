@@ -5,20 +5,23 @@ ghost use Rattle.aid_edges.specs.Faults.{Rose};
 ghost use Rattle.disk_model.specs.Telling.{EachImage, EachMoment, IsHonest};
 ghost use Rattle.kept_office.specs.Recovers.{Recovers};
 ghost use Rattle.office_history.specs.Within.{IsWithinEveryLimit};
-ghost use Rattle.office_words.specs.Words.{words_of};
+ghost use Rattle.office_words.specs.Words.{IsRow};
 ghost use Rattle.office_words.specs.declared.command.Command.{Command as CommandData};
 ghost use Rattle.aid_office.specs.Moments.{MayRecover, Stands, StoodBefore};
 ghost use Rattle.aid_office.specs.Ran.{CanBeDone, Does, Ends, Moved, Ran, Shows, reads_input};
+ghost use Rattle.aid_office.specs.Rounds.{IsPolicyAmong, gives_at};
 ghost use Rattle.aid_office.specs.Statuses.{is_disk_fault, is_read_fault, is_write_fault, status_of};
 
 use crate::book::BookForms;
 use crate::checks::{check_book, check_rows};
 use crate::desk::DeskForms;
+use crate::fund::file_round;
 use crate::quote::QuoteRow;
 use crate::report::OfficeReport;
 use crate::stop::{RunStop, ended_filing, ended_founding};
 use aid_edges::{Sink, Source, write_whole};
 use disk_model::Disk;
+use fund_policy::{Policies, Rule};
 use generated_rows::YearForms;
 use generated_year::{GeneratedOffice, YearTally};
 use kept_office::FiledOffice;
@@ -62,11 +65,13 @@ pub fn end<K: Sink>(ended: Result<(), RunStop>, out: &mut K) -> u8
 fn do_command<D: Disk, S: Source, K: Sink>(
     alloc: Global,
     command: Command,
+    policies: &Policies,
     disk: D,
     input: &mut S,
     out: &mut K,
 ) -> (Result<(), RunStop>, D)
-    ensures does { Does D.Disk disk result.1
+    requires policy { IsPolicyAmong (length policies.now.list.items) command }
+    ensures does { Does (gives_at policies.now.list.items (λ p. ⟦<Rule as Fn(u32, i32, u8) -> u32>⟧.post p.rule)) D.Disk disk result.1
         (record { honest = S.honest input.old; before = S.left input.old; after = S.left input.new })
         (record { honest = K.honest out.old; before = K.text out.old; after = K.text out.new }) command result.0 }
     ensures unread { reads_input command ≡ false → input.new ≡ input.old }
@@ -110,6 +115,11 @@ fn do_command<D: Disk, S: Source, K: Sink>(
             );
             (ended_filing(ended), disk)
         }
+        Command::Fund(fund) => {
+            let policy = &policies.list[fund.policy];
+            let (ended, disk) = file_round(alloc, disk, fund, policy, out);
+            (ended_filing(ended), disk)
+        }
         Command::Generate(generate) => {
             let forms = YearForms {
                 students: generate.students,
@@ -132,7 +142,8 @@ fn do_command<D: Disk, S: Source, K: Sink>(
 
 /// Does what the words say, and answers the status and the disk as it is then: `found` founds an office in the disk's
 /// file; `file` files the rows of the input, and `book` its text as a book; `quote` asks for one; `report` writes a
-/// report on the office, and files nothing; `generate` files a generated year, whose book is the input's text, and writes
+/// report on the office, and files nothing; `fund` files the payments of a round of awards by the first of the policies that has
+/// its name; `generate` files a generated year, whose book is the input's text, and writes
 /// what it comes to; `check rows` and `check book` say what is wrong with the input, and make no
 /// call on the disk. The whole input is read before the
 /// journal is, and the line of a row is written before the next row is filed.
@@ -146,25 +157,26 @@ pub fn run<D: Disk, S: Source, K: Sink>(
     disk: D,
     input: &mut S,
     out: &mut K,
+    policies: &Policies,
 ) -> (u8, D)
     // All that a run does, by its words and by how it ended: the text, the disk at every moment, the counts, and the status.
-    ensures ran { Ran D.Disk
+    ensures ran { Ran (map (λ p. p.name) policies.now.list.items) (gives_at policies.now.list.items (λ p. ⟦<Rule as Fn(u32, i32, u8) -> u32>⟧.post p.rule)) D.Disk
         (record { source = (S.faults input.old, S.faults input.new); sink = (K.faults out.old, K.faults out.new); disk = (D.faults disk, D.faults result.1) })
         (map string_bytes words.now.items) disk result.1
         (record { honest = S.honest input.old; before = S.left input.old; after = S.left input.new })
         (record { honest = K.honest out.old; before = K.text out.old; after = K.text out.new }) result.0 }
     // The input is read by a command that has one alone.
-    ensures unread { ((command : CommandData) → map string_bytes words.now.items ≡ words_of command → reads_input command ≡ false) → input.new ≡ input.old }
+    ensures unread { ((command : CommandData) → IsRow (map (λ p. p.name) policies.now.list.items) (map string_bytes words.now.items) command → reads_input command ≡ false) → input.new ≡ input.old }
 
     // Whatever a run comes to, each image at each moment of it recovers the list before it, with what some rows in front of
     // the input's add; where it was done, with what all of them add. In each such list no student stands above a limit.
-    ensures moments { (command : CommandData) (past : List Filing) → map string_bytes words.now.items ≡ words_of command
+    ensures moments { (command : CommandData) (past : List Filing) → IsRow (map (λ p. p.name) policies.now.list.items) (map string_bytes words.now.items) command
         → IsHonest (D.tells disk) → EachImage (D.tells disk) (λ file. Recovers file past)
         → EachMoment (D.tells disk) (D.tells result.1)
-        (MayRecover command (record { honest = S.honest input.old; before = S.left input.old; after = S.left input.new }) past) }
-    ensures stands { (command : CommandData) (past : List Filing) → map string_bytes words.now.items ≡ words_of command → result.0 ≡ 0
+        (MayRecover (gives_at policies.now.list.items (λ p. ⟦<Rule as Fn(u32, i32, u8) -> u32>⟧.post p.rule)) command (record { honest = S.honest input.old; before = S.left input.old; after = S.left input.new }) past) }
+    ensures stands { (command : CommandData) (past : List Filing) → IsRow (map (λ p. p.name) policies.now.list.items) (map string_bytes words.now.items) command → result.0 ≡ 0
         → IsHonest (D.tells disk) → StoodBefore command (D.tells disk).reads past
-        → Stands command (record { honest = S.honest input.old; before = S.left input.old; after = S.left input.new }) past (D.tells result.1) }
+        → Stands (gives_at policies.now.list.items (λ p. ⟦<Rule as Fn(u32, i32, u8) -> u32>⟧.post p.rule)) command (record { honest = S.honest input.old; before = S.left input.old; after = S.left input.new }) past (D.tells result.1) }
     ensures within { (file : List ℕ) (history : List Filing) → Recovers file history → IsWithinEveryLimit history }
 
     // 3, 4 and 5 come only where the count of the source, the sink or the disk rose, and no fault is passed over.
@@ -172,7 +184,7 @@ pub fn run<D: Disk, S: Source, K: Sink>(
         (record { source = (S.faults input.old, S.faults input.new); sink = (K.faults out.old, K.faults out.new); disk = (D.faults disk, D.faults result.1) }) result.0 }
 
     // Where no count rose, a command that can be done is done, if there is memory.
-    ensures complete { (command : CommandData) → map string_bytes words.now.items ≡ words_of command
+    ensures complete { (command : CommandData) → IsRow (map (λ p. p.name) policies.now.list.items) (map string_bytes words.now.items) command
         → CanBeDone command (S.honest input.old) (length (S.left input.old)) (D.tells disk) → ¬ (Rose (S.faults input.old) (S.faults input.new))
         → ¬ (Rose (K.faults out.old) (K.faults out.new)) → ¬ (Rose (D.faults disk) (D.faults result.1))
         → (result.0 ≡ 0) ⊎ (result.0 ≡ 9) }
@@ -184,9 +196,9 @@ pub fn run<D: Disk, S: Source, K: Sink>(
     ensures sink_honest { K.honest out.new ≡ K.honest out.old }
     ensures disk_honest { (D.tells result.1).honest ≡ (D.tells disk).honest }
 {
-    match command_of(words) {
+    match command_of(words, policies) {
         Some(command) => {
-            let (ended, disk) = do_command(alloc, command, disk, input, out);
+            let (ended, disk) = do_command(alloc, command, policies, disk, input, out);
             (end(ended, out), disk)
         }
         None => (end(Err(RunStop::Usage), out), disk),

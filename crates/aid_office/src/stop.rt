@@ -33,6 +33,8 @@ pub enum RunStop {
     File(SessionStop),
     /// A check ended early.
     Check(CheckStop),
+    /// A port failed.
+    Socket,
 }
 
 impl RunStop {
@@ -47,6 +49,7 @@ impl RunStop {
             RunStop::Found(stop) => found_status(stop),
             RunStop::File(stop) => session_status(stop),
             RunStop::Check(stop) => check_status(stop),
+            RunStop::Socket => 10,
         }
     }
 
@@ -59,6 +62,7 @@ impl RunStop {
             RunStop::Found(stop) => found_line(stop),
             RunStop::File(stop) => session_line(stop),
             RunStop::Check(stop) => check_line(stop),
+            RunStop::Socket => text_line("fault socket\n"),
         }
     }
 }
@@ -226,8 +230,8 @@ fn text_line(text: &str) -> ArrayString<40>
     line
 }
 
-// A line that ends with a number.
-fn number_line(front: &str, number: u64) -> ArrayString<40>
+/// A line that ends with a number.
+pub fn number_line(front: &str, number: u64) -> ArrayString<40>
     requires { length front.now ≤ 19 }
     ensures { result.bytes ≡ front.now ++ decimal number ++ codes "\n" }
 {

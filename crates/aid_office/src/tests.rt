@@ -1,7 +1,8 @@
 // What no clause says: worked texts and files, that memory suffices for them, and what each fault leaves.
 use crate::run::run;
-use aid_edges::{MemorySink, MemorySource, SteadySource};
+use aid_edges::{MemorySink, MemorySource, Source, SteadySource};
 use disk_model::{DiskStop, Fill, MemoryDisk};
+use fund_policy::{Rule, level, quarter, standard};
 use kept_session::INPUT_LIMIT;
 use std::alloc::{AllocError, Global};
 use std::test::Fail;
@@ -23,13 +24,13 @@ const REFUSALS: &[u8] =
 const LIFETIME: &[u8] = b"        5001  550000  550000\nrows 1\n";
 
 // A founded file without filings.
-const EMPTY: &[u8] = b"\x01AIDPELL1\x01\0\0\0\0\0\0\0";
+pub(crate) const EMPTY: &[u8] = b"\x01AIDPELL1\x01\0\0\0\0\0\0\0";
 
 // The file of the two first filings.
-const BOTH: &[u8] =
+pub(crate) const BOTH: &[u8] =
     b"\x01AIDPELL1\x01\0\0\0\0\0\0\x01\x13\0\0\0\x02\0\0\0\0\x01\0\0\0\0\0\0\0\x6e\0\0\0\x02\x0c\x01\x19\0\0\0\x04\0\0\0\0\x02\0\0\0\0\0\0\0\x89\x13\0\0\0\0\0\0\x70\x64\x08\0\0";
 
-fn disk(
+pub(crate) fn disk(
     alloc: Global,
     bytes: &[u8],
     failing: &[u64],
@@ -38,11 +39,11 @@ fn disk(
     Ok(MemoryDisk::new(alloc, bytes.to_vec(alloc)?, failing.to_vec(alloc)?, stop)?)
 }
 
-// What a run with a line of words gives: its status, its text and its disk.
-fn ran(
+// What a run with a line of words over a source gives: its status, its text and its disk.
+fn ran_over<S: Source>(
     alloc: Global,
     line: &str,
-    input: &[u8],
+    source: &mut S,
     disk: MemoryDisk,
     failing: &[u64],
 ) -> Result<(u8, MemorySink, MemoryDisk), Fail> {
@@ -50,17 +51,37 @@ fn ran(
     for word in line.split(' ') {
         words.push(String::from_str(alloc, word)?)?;
     }
-    let mut source = SteadySource::new(input.to_vec(alloc)?);
+    let level_rule: Rule = Box::new(
+        alloc,
+        |need: u32, sai: i32, intensity: u8| level(need, sai, intensity),
+    )?;
+    let quarter_rule: Rule = Box::new(
+        alloc,
+        |need: u32, sai: i32, intensity: u8| quarter(need, sai, intensity),
+    )?;
+    let policies = standard(alloc, level_rule, quarter_rule)?;
     let mut sink = MemorySink::new(alloc, failing.to_vec(alloc)?);
-    let (status, disk) = run(alloc, &words, disk, &mut source, &mut sink);
+    let (status, disk) = run(alloc, &words, disk, source, &mut sink, &policies);
     Ok((status, sink, disk))
+}
+
+// The same over an input.
+pub(crate) fn ran(
+    alloc: Global,
+    line: &str,
+    input: &[u8],
+    disk: MemoryDisk,
+    failing: &[u64],
+) -> Result<(u8, MemorySink, MemoryDisk), Fail> {
+    let mut source = SteadySource::new(input.to_vec(alloc)?);
+    ran_over(alloc, line, &mut source, disk, failing)
 }
 
 // Each run goes on with the file of the one before it.
 #[test]
 fn runs_follow_each_other(rt: HostRuntime) -> Result<(), Fail> {
     let alloc = rt.alloc();
-    let rows: [(&str, &[u8], u8, &[u8], usize); 19] = [
+    let rows: [(&str, &[u8], u8, &[u8], usize); 22] = [
         ("file", FIRST, 6, b"fault no office\n", 0),
         ("found", b"", 0, b"founded\n", 17),
         ("file", FIRST, 0, ACCEPTED, 71),
@@ -79,6 +100,9 @@ fn runs_follow_each_other(rt: HostRuntime) -> Result<(), Fail> {
         ("book 1", b"", 0, b"1 book 2 1\n", 71),
         ("generate 7 1", b"", 0, b"1 book 2 1\n", 71),
         ("generate 7 0", b"", 2, b"fault usage\n", 71),
+        ("fund 110 2025 1 600 level 50", b"", 0, b"left 600\n", 71),
+        ("fund 110 2025 1 600 other 50", b"", 2, b"fault usage\n", 71),
+        ("fund 110 2025 1 600 level 0", b"", 2, b"fault usage\n", 71),
         ("quote", b"", 2, b"fault usage\n", 71),
         ("quote 110 5001 2025 1", b"", 0, b"quote 0\n", 71),
         ("report standing 2025", b"", 0, b"rows 0\n", 71),
@@ -207,10 +231,11 @@ fn a_stop_loses_nothing(rt: HostRuntime) -> Result<(), Fail> {
 #[test]
 fn write_faults_end_a_run(rt: HostRuntime) -> Result<(), Fail> {
     let alloc = rt.alloc();
-    let rows: [(&str, &[u8], u64, &[u8], usize); 7] = [
+    let rows: [(&str, &[u8], u64, &[u8], usize); 8] = [
         ("check rows", EMPTY, 3, b"1 fine\n2 fine\n", 17),
         ("check book", EMPTY, 1, b"", 17),
         ("generate 7 1", EMPTY, 1, b"", 17),
+        ("fund 110 2025 1 600 level 50", EMPTY, 1, b"", 17),
         ("file", EMPTY, 1, b"", 41),
         ("file", EMPTY, 2, b"1 0 accepted 1 noted\n", 71),
         ("found", b"", 1, b"", 17),
@@ -235,17 +260,15 @@ fn write_faults_end_a_run(rt: HostRuntime) -> Result<(), Fail> {
 #[test]
 fn read_faults_end_a_run(rt: HostRuntime) -> Result<(), Fail> {
     let alloc = rt.alloc();
-    let words = vec![in alloc; String::from_str(alloc, "file")?]?;
     for call in [1, 2] {
         let mut source = MemorySource::new(FIRST.to_vec(alloc)?, vec![in alloc; call]?);
-        let mut sink = MemorySink::new(alloc, Vec::new(alloc));
-        let (status, after) = run(
+        let (status, sink, after) = ran_over(
             alloc,
-            &words,
-            disk(alloc, EMPTY, &[], None)?,
+            "file",
             &mut source,
-            &mut sink,
-        );
+            disk(alloc, EMPTY, &[], None)?,
+            &[],
+        )?;
         assert_eq!(rt; status, 3, "{call}");
         assert_eq!(rt; sink.text(), b"fault read\n".as_slice(), "{call}");
         assert_eq!(rt; after.image(), EMPTY, "{call}");

@@ -1,4 +1,4 @@
-use Rattle.std.proofs.Common.{◌++◌, subst}
+use Rattle.std.proofs.Common.{subst}
 use Rattle.kept_desks.specs.DeskTexts.{stop_at, stop_text}
 use Rattle.aid_office.specs.DeskTexts.{stop_line}
 use Rattle.aid_office.specs.Puts.{HasCut, HasPut}

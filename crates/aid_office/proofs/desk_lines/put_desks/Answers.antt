@@ -1,5 +1,5 @@
-use Rattle.std.proofs.Common.{rules, ◌<◌, ◌≤◌, length}
-use Rattle.aid_office.proofs.Putting.{desks_cut, desks_end, desks_put, put_none}
+use Rattle.std.proofs.Common.{rules, ◌<◌, length}
+use Rattle.aid_office.proofs.Putting.{desks_cut, desks_put, put_none}
 use Rattle.aid_office.proofs.desk_lines.put_desks.Goals as goal
 
 pub loop-i-init : goal.loop-i-init

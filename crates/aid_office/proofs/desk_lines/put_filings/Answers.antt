@@ -1,4 +1,4 @@
-use Rattle.std.proofs.Common.{rules, ◌<◌, ◌+◌, ◌≡◌, length, arith}
+use Rattle.std.proofs.Common.{rules, ◌<◌, ◌+◌, length, arith}
 use Rattle.aid_office.proofs.Putting.{rows_cut, rows_put, put_none}
 use Rattle.aid_office.proofs.desk_lines.put_filings.Goals as goal
 

@@ -1,4 +1,3 @@
-use Rattle.std.proofs.Common.{◌++◌}
 use Rattle.aid_office.specs.DeskTexts.{stop_words}
 use Rattle.aid_office.proofs.Putting.{cut_early, puts_then}
 use Rattle.aid_office.proofs.desk_lines.put_stop.Goals as goal

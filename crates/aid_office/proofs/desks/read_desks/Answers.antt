@@ -1,6 +1,6 @@
 use Rattle.aid_edges.specs.Faults.{Rose}
 use Rattle.kept_session.specs.Sessions.{IsUnread}
-use Rattle.std.proofs.Common.{rules, ◌<◌, ◌+◌, [], Err, ap, length, sym, subst}
+use Rattle.std.proofs.Common.{rules, ◌<◌, ◌+◌, Err, ap, length, sym, subst}
 use Rattle.aid_office.specs.RanDesks.{AreRead, Joins}
 use Rattle.aid_office.proofs.Reading.{read_behind, read_more, read_none, unread_here}
 use Rattle.aid_office.proofs.desks.read_desks.Goals as goal

@@ -1,5 +1,8 @@
-use Rattle.std.proofs.Common.{refl}
-use Rattle.aid_office.specs.Ran.{founding, filing, booking, quoting, reporting, generating, checking_rows, checking_book}
+use Rattle.std.proofs.Common.{◌∙◌, Some, ap, length, refl, subst, sym}
+use Rattle.std.proofs.lemmas.Option.{slice_get-get_or}
+use Rattle.aid_office.specs.Rounds.{IsPolicyAmong}
+use Rattle.aid_office.specs.Ran.{founding, filing, booking, quoting, reporting, funding, generating, checking_rows, checking_book}
+use Rattle.aid_office.proofs.Awarding.{planned_at}
 use Rattle.aid_office.proofs.Ending.{rows_disk, stood}
 use Rattle.aid_office.proofs.run.do_command.Goals as goal
 
@@ -20,6 +23,15 @@ returns-in-Quote-clause-does g c =
 pub returns-in-Report-clause-does : goal.returns-in-Report-clause-does
 returns-in-Report-clause-does g c =
     rw (c.in-Report.is, c.ended_filing-in-Report.ensures) (reporting c.in-Report.request c.write_report-ended.result.0 c.write_report-ended.ensures.reports)
+
+pub returns-in-Fund-clause-does : goal.returns-in-Fund-clause-does
+returns-in-Fund-clause-does g c =
+    let policies = c.args.policies.now.list.items in
+    let place = c.in-Fund.fund.policy in
+    rw (c.in-Fund.is, c.ended_filing-in-Fund.ensures) (funding c.in-Fund.fund c.file_round-ended.result.0
+    (planned_at g.D.Disk policies c.index-policy.result.now place _ _ _ _ _ _
+    (slice_get-get_or policies place c.index-policy.result.now (subst (IsPolicyAmong (length policies)) c.in-Fund.is c.requires.policy) ∙ ap Some (sym c.index-policy.ensures))
+    c.file_round-ended.ensures.planned))
 
 pub returns-in-Generate-clause-does : goal.returns-in-Generate-clause-does
 returns-in-Generate-clause-does g c =

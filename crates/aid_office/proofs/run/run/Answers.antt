@@ -1,13 +1,11 @@
 use Rattle.std.proofs.Common.{◌≡◌, ◌∙◌, ap, arith, Global, length, map, refl, string_bytes, subst, sym, Err}
-use Rattle.disk_model.specs.Telling.{EachMoment}
 use Rattle.office_history.proofs.LegalWithin.{legal_within}
 use Rattle.office_words.specs.declared.command.Command.{Command}
-use Rattle.aid_office.specs.Moments.{MayRecover, Stands, StoodBefore}
 use Rattle.aid_office.specs.Ran.{CanBeDone, no_row, did}
 use Rattle.aid_office.specs.declared.stop.RunStop.TheVariants as stops
 use Rattle.aid_office.proofs.Complete.{complete}
 use Rattle.aid_office.proofs.Ending.{done_at, ends_as, sink_moved, stood}
-use Rattle.aid_office.proofs.Images.{moments, stands}
+use Rattle.aid_office.proofs.Images.{moments_by, stands_by}
 use Rattle.aid_office.proofs.Shown.{run_shows}
 use Rattle.aid_office.proofs.run.run.Goals as goal
 
@@ -15,7 +13,7 @@ pub returns-in-Some-clause-ran : goal.returns-in-Some-clause-ran
 returns-in-Some-clause-ran g c =
     let done = c.do_command-ended in
     did c.in-Some.command (g.K.Sink.text done.new.out) done.result.0 c.end.result
-    (sym (ap (map (string_bytes {Z = Global})) c.deref.ensures.value) ∙ c.in-Some.ensures.words)
+    (sym (ap (map (string_bytes {Z = Global})) c.deref.ensures.value) ∙ c.in-Some.ensures.words.0, c.in-Some.ensures.words.1)
     done.ensures.does
     (record {
       source = done.ensures.source;
@@ -27,26 +25,23 @@ returns-in-Some-clause-ran g c =
 pub returns-in-Some-clause-moments : goal.returns-in-Some-clause-moments
 returns-in-Some-clause-moments g c command past words honest each =
     let done = c.do_command-ended in
-    let is = c.in-Some.ensures.only command (ap (map (string_bytes {Z = Global})) c.deref.ensures.value ∙ words) in
+    let is = c.in-Some.ensures.only command (ap (map (string_bytes {Z = Global})) c.deref.ensures.value ∙ words.0, words.1) in
     let same : c.in-Some.command ≡ command = cc in
-    subst (λ (k : Command). EachMoment (g.D.Disk.tells c.args.disk) (g.D.Disk.tells done.result.1) (MayRecover k (record { honest = g.S.Source.honest c.args.input.now; before = g.S.Source.left c.args.input.now; after = g.S.Source.left done.new.input }) past)) same
-    (moments g.D.Disk g.met.D.Disk.only_now g.met.D.Disk.reads_as_image c.args.disk done.result.1
+    moments_by _ g.D.Disk g.met.D.Disk.only_now g.met.D.Disk.reads_as_image c.args.disk done.result.1
     (record { honest = g.S.Source.honest c.args.input.now; before = g.S.Source.left c.args.input.now; after = g.S.Source.left done.new.input })
     (record { honest = g.K.Sink.honest c.args.out.now; before = g.K.Sink.text c.args.out.now; after = g.K.Sink.text done.new.out })
-    c.in-Some.command done.result.0 past done.ensures.does honest each)
+    c.in-Some.command command done.result.0 past same done.ensures.does honest each
 
 pub returns-in-Some-clause-stands : goal.returns-in-Some-clause-stands
 returns-in-Some-clause-stands g c command past words well honest stood =
     let done = c.do_command-ended in
-    let is = c.in-Some.ensures.only command (ap (map (string_bytes {Z = Global})) c.deref.ensures.value ∙ words) in
+    let is = c.in-Some.ensures.only command (ap (map (string_bytes {Z = Global})) c.deref.ensures.value ∙ words.0, words.1) in
     let same : c.in-Some.command ≡ command = cc in
-    subst (λ (k : Command). Stands k (record { honest = g.S.Source.honest c.args.input.now; before = g.S.Source.left c.args.input.now; after = g.S.Source.left done.new.input }) past (g.D.Disk.tells done.result.1)) same
-    (stands g.D.Disk g.met.D.Disk.only_now g.met.D.Disk.reads_as_image c.args.disk done.result.1
+    stands_by _ g.D.Disk g.met.D.Disk.only_now g.met.D.Disk.reads_as_image c.args.disk done.result.1
     (record { honest = g.S.Source.honest c.args.input.now; before = g.S.Source.left c.args.input.now; after = g.S.Source.left done.new.input })
     (record { honest = g.K.Sink.honest c.args.out.now; before = g.K.Sink.text c.args.out.now; after = g.K.Sink.text done.new.out })
-    c.in-Some.command done.result.0 past done.ensures.does
-    (done_at (record { honest = g.K.Sink.honest done.new.out; before = g.K.Sink.text done.new.out; after = g.K.Sink.text c.end.new.out }) done.result.0 c.end.result c.end.ensures.ends well) honest
-    (subst (λ (k : Command). StoodBefore k (g.D.Disk.tells c.args.disk).reads past) (sym same) stood))
+    c.in-Some.command command done.result.0 past same done.ensures.does
+    (done_at (record { honest = g.K.Sink.honest done.new.out; before = g.K.Sink.text done.new.out; after = g.K.Sink.text c.end.new.out }) done.result.0 c.end.result c.end.ensures.ends well) honest stood
 
 pub returns-in-Some-clause-within : goal.returns-in-Some-clause-within
 returns-in-Some-clause-within g c file history is = legal_within history is.legal
@@ -54,9 +49,9 @@ returns-in-Some-clause-within g c file history is = legal_within history is.lega
 pub returns-in-Some-clause-complete : goal.returns-in-Some-clause-complete
 returns-in-Some-clause-complete g c command words can no_source no_sink no_disk =
     let done = c.do_command-ended in
-    let is = c.in-Some.ensures.only command (ap (map (string_bytes {Z = Global})) c.deref.ensures.value ∙ words) in
+    let is = c.in-Some.ensures.only command (ap (map (string_bytes {Z = Global})) c.deref.ensures.value ∙ words.0, words.1) in
     let same : command ≡ c.in-Some.command = cc in
-    complete g.D.Disk
+    complete _ g.D.Disk
     (record {
       source = (g.S.Source.faults c.args.input.now, g.S.Source.faults done.new.input);
       sink = (g.K.Sink.faults c.args.out.now, g.K.Sink.faults c.end.new.out);
@@ -78,7 +73,7 @@ returns-in-Some-clause-complete g c command words can no_source no_sink no_disk 
 
 pub returns-in-None-clause-ran : goal.returns-in-None-clause-ran
 returns-in-None-clause-ran g c =
-    no_row c.end-in-None.result (λ command is. c.in-None.ensures.none refl command (ap (map (string_bytes {Z = Global})) c.deref.ensures.value ∙ is)) refl refl
+    no_row c.end-in-None.result (λ command is. c.in-None.ensures.none refl command (ap (map (string_bytes {Z = Global})) c.deref.ensures.value ∙ is.0, is.1)) refl refl
     (record {
       source = stood _ _ refl;
       disk = stood _ _ refl;
@@ -86,13 +81,21 @@ returns-in-None-clause-ran g c =
     })
     c.end-in-None.ensures.ends
 
+pub returns-in-None-clause-moments : goal.returns-in-None-clause-moments
+returns-in-None-clause-moments g c command past words honest each =
+    absurd (c.in-None.ensures.none refl command (ap (map (string_bytes {Z = Global})) c.deref.ensures.value ∙ words.0, words.1))
+
+pub returns-in-None-clause-complete : goal.returns-in-None-clause-complete
+returns-in-None-clause-complete g c command words can no_source no_sink no_disk =
+    absurd (c.in-None.ensures.none refl command (ap (map (string_bytes {Z = Global})) c.deref.ensures.value ∙ words.0, words.1))
+
 pub returns-in-None-clause-within : goal.returns-in-None-clause-within
 returns-in-None-clause-within g c file history is = legal_within history is.legal
 
 pub returns-in-Some-clause-shows : goal.returns-in-Some-clause-shows
 returns-in-Some-clause-shows g c =
     let done = c.do_command-ended in
-    run_shows g.D.Disk
+    run_shows _ _ g.D.Disk
     (record {
       source = (g.S.Source.faults c.args.input.now, g.S.Source.faults done.new.input);
       sink = (g.K.Sink.faults c.args.out.now, g.K.Sink.faults c.end.new.out);
@@ -105,7 +108,7 @@ returns-in-Some-clause-shows g c =
 
 pub returns-in-None-clause-shows : goal.returns-in-None-clause-shows
 returns-in-None-clause-shows g c =
-    run_shows g.D.Disk
+    run_shows _ _ g.D.Disk
     (record {
       source = (g.S.Source.faults c.args.input.now, g.S.Source.faults c.args.input.now);
       sink = (g.K.Sink.faults c.args.out.now, g.K.Sink.faults c.end-in-None.new.out);
