@@ -3,6 +3,7 @@ its input, from the columns of a row to the lines of its answer."""
 import os
 import re
 import sys
+from collections import Counter
 from dataclasses import dataclass
 from datetime import date
 
@@ -241,26 +242,57 @@ class Desk:
         """What `quote SCHOOL STUDENT YEAR TERM` prints."""
         return f"quote {model.quote(self.history, school, student, year, term) // 100}\n"
 
+    def fund(self, school, year, term, amount, policy, number):
+        """What `fund SCHOOL YEAR TERM AMOUNT POLICY NUMBER` prints."""
+        payments, left = model.plan_round(self.history, school, year, term, amount, model.POLICIES[policy], number)
+        return "".join(self.line(row, payment) for row, payment in enumerate(payments, 1)) + f"left {left}\n"
+
     def generate(self, seed, students, text):
         """What `generate SEED STUDENTS` prints."""
         try:
             book = book_of(year_book.read(text))
         except year_book.NotABook as error:
             return f"{error.line}\n"
-        accepted = refused = pell = returned = 0
+        totals = Counter()
         for filing in generated.filings(book, seed, students, lambda *place: model.quote(self.history, *place)):
-            answer = model.file(self.history, filing)
-            refused += isinstance(answer, model.Refused)
-            accepted += not isinstance(answer, model.Refused)
-            if isinstance(answer, model.Admitted):
-                pell += filing.cents if isinstance(filing, model.Payment) else 0
-                returned += answer.outcome.school if isinstance(filing, model.Withdrawal) else 0
-        return f"accepted {accepted}\nrefused {refused}\npell {money(pell)}\nreturned {money(returned)}\n"
+            totals += counted(filing, model.file(self.history, filing))
+        return four_lines(totals)
 
     def report(self, which, year=None):
         """What `report standing YEAR`, `report awards YEAR`, `report returns YEAR` and `report lifetime` print."""
         lines = REPORTS[which](self.history, *[] if year is None else [year])
         return "".join(f"{line}\n" for line in lines) + f"rows {len(lines)}\n"
+
+
+def counted(filing, answer):
+    """What a row of a generated year counts."""
+    if isinstance(answer, model.Refused):
+        return Counter(refused=1)
+    if not isinstance(answer, model.Admitted):
+        return Counter(accepted=1)
+    pell = filing.cents if isinstance(filing, model.Payment) else 0
+    returned = answer.outcome.school if isinstance(filing, model.Withdrawal) else 0
+    return Counter(accepted=1, pell=pell, returned=returned)
+
+
+def four_lines(totals):
+    """What `generate` prints of such counts."""
+    sums = "".join(f"{word} {money(totals[word])}\n" for word in ["pell", "returned"])
+    return f"accepted {totals['accepted']}\nrefused {totals['refused']}\n{sums}"
+
+
+def generate_apart(seed, students, book):
+    """What `generate SEED STUDENTS` prints on an office without filings, in no long time: students share nothing but the founding
+    rows, so each is judged on those and on rows of its own."""
+    history, totals = [], Counter()
+    for filing in generated.founding(book):
+        totals += counted(filing, model.file(history, filing))
+    drawn = generated.draws(seed)
+    for student in range(1, students + 1):
+        own = list(history)
+        for filing in generated.of_student(book.year, student, [next(drawn) for _ in range(4)], lambda *place: model.quote(own, *place)):
+            totals += counted(filing, model.file(own, filing))
+    return four_lines(totals)
 
 
 def percent_text(tenths):

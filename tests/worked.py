@@ -110,6 +110,35 @@ BAD_BOOKS = [
     (b"form = ", "1 book 1"),
 ]
 
+# Of the students of school 110 two have one index and are filed in the other order of their numbers, and a third with their index
+# needs less than 100 dollars; one has a higher index; one has withdrawn, one was paid 100.05 dollars of the fund, one is enrolled in
+# term 2 alone, one isn't enrolled, and one isn't originated. The need of 5003 is 499.50 dollars.
+ROUND_ROWS = [
+    "school,0,2,110,2,12", "school,0,3,120,2,12", TERMS[0], TERMS[1].replace("2026-04-21", "2026-05-01"),
+    TERMS[0].replace("calendar,110", "calendar,120"), apply("110,10", 5003, parents_file=0), YEAR_ROWS[6].replace("110,3,5001", "110,11,4001"),
+    *[apply(f"110,{number}", student, parents_file=0) for number, student in enumerate([5001, 5007, 5008, 5009, 5010], 12)],
+    apply("120,17", 5011, parents_file=0), apply("110,18", 5012, parents_file=0), apply("110,19", 5013, parents_file=0),
+    *[f"originate,110,{number},{student},2025,24000" for number, student in enumerate([5003, 4001, 5001, 5007, 5008, 5009], 20)],
+    "originate,110,26,5010,2025,99", "originate,120,27,5011,2025,24000", "originate,110,28,5012,2025,24000", "enrol,110,30,5003,2025,1,12",
+    "enrol,110,31,4001,2025,1,6", "enrol,110,32,5001,2025,1,12", "enrol,110,33,5007,2025,1,12", "enrol,110,34,5008,2025,1,12",
+    "enrol,110,35,5009,2025,2,12", "enrol,110,36,5010,2025,1,12", "enrol,120,37,5011,2025,1,12", "enrol,110,38,5013,2025,1,12",
+    "pay,110,40,5003,2025,1,unsub,23500.50", "pay,110,41,5008,2025,1,fseog,100.05",
+    "withdraw,110,42,5007,2025,1,2025-09-23,2025-09-29,100.00,0.00,0.00,0.00,0.00,0.00,0.00",
+]
+# What rounds on these 37 filings print. The 100.05 dollars that were paid count as 101.
+ROUNDS = {
+    (110, 2025, 1, 3_000, "level"): "1 37 accepted 38 paid 1000.00 0\n2 38 accepted 39 paid 499.00 0\n3 39 accepted 40 paid 1000.00 0\nleft 400",
+    (110, 2025, 1, 1_601, "level"): "1 37 accepted 38 paid 1000.00 0\n2 38 accepted 39 paid 499.00 0\nleft 1",
+    (110, 2025, 1, 20_000, "quarter"):
+        "1 37 accepted 38 paid 4000.00 0\n2 38 accepted 39 paid 124.00 0\n3 39 accepted 40 paid 4000.00 0\nleft 11775",
+    (110, 2025, 1, 201, "level"): "1 37 accepted 38 paid 100.00 0\nleft 0",
+    (110, 2025, 1, 200, "level"): "left 99",
+    (110, 2025, 1, 100, "level"): "left 0",
+    (110, 2025, 2, 500, "level"): "1 37 accepted 38 paid 500.00 0\nleft 0",
+    (120, 2025, 1, 5_000, "level"): "1 37 accepted 38 paid 1000.00 0\nleft 4000",
+    (110, 2026, 1, 500, "level"): "left 500",
+}
+
 OFFICES = {
     "a day's first rows": [
         rows(("school,0,1,110,2,12", "accepted 1 noted"), ("prior,0,2,5001,550000", "accepted 2 noted")),
@@ -276,6 +305,14 @@ rows 3""", "lifetime"),
     ],
     "reports on no filings": [
         report("rows 0", which, *year) for which, *year in [("standing", "2025"), ("awards", "2025"), ("returns", "2025"), ("lifetime",)]
+    ],
+    **{
+        f"a round {' '.join(map(str, words))}": [book(), filed(*ROUND_ROWS), (["fund", *map(str, words), "70"], b"", lines)]
+        for words, lines in ROUNDS.items()
+    },
+    "rounds of one fund": [book(), (["file"], example("year.csv"), example("year.txt").decode())] + [
+        (["fund", "110", "2025", "1", amount, "level", number], b"", lines) for amount, number, lines in [
+            ("600", "50", "1 18 accepted 19 paid 600.00 78221\nleft 0"), ("600", "50", "left 0"), ("700", "51", "left 100")]
     ],
     "rows as they are written": [
         (["check", "rows"], "\n".join(row for row, _ in BAD_ROWS).encode(),

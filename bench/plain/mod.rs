@@ -7,3 +7,4 @@ pub mod filings;
 pub mod office;
 pub mod orders;
 pub mod returns;
+pub mod spelling;

@@ -420,6 +420,14 @@ impl Office {
         Ok(Outcome::Noted)
     }
 
+    // What stands of each program in each place of a year, by school, student and term.
+    pub fn nets_of(&self, year: u16) -> Vec<(Place, [u64; PROGRAMS])> {
+        let of_year = self.places.iter().filter(|(place, _)| place.year == year);
+        let mut nets: Vec<_> = of_year.map(|(place, row)| (*place, row.net)).collect();
+        nets.sort_unstable_by_key(|(place, _)| (place.school, place.student, place.term));
+        nets
+    }
+
     // The student's terms, by school, year and number.
     fn places_of(&self, student: u64) -> impl Iterator<Item = (&Place, &PlaceRow)> {
         let first = |student| Place { student, school: 0, year: 0, term: 0 };

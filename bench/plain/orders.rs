@@ -143,7 +143,7 @@ fn withdrawal(place: &Place, days: i32) -> What {
 // Files about so many filings in the order that a word names; whether it names one.
 pub fn file(desk: &mut impl Desk, order: &str, filings: u32) -> bool {
     match order {
-        "students" => file_students(desk, filings / FILINGS_OF_STUDENT),
+        "students" => file_year(desk, 1, filings / FILINGS_OF_STUDENT),
         "kinds" => file_kinds(desk, filings / FILINGS_OF_STUDENT),
         "one" => file_long(desk, filings),
         "priors" => file_priors(desk, filings),
@@ -152,9 +152,10 @@ pub fn file(desk: &mut impl Desk, order: &str, filings: u32) -> bool {
     true
 }
 
-fn file_students(desk: &mut impl Desk, students: u32) {
+// Files the year of so many students, drawn from a seed.
+pub fn file_year(desk: &mut impl Desk, seed: u64, students: u32) {
     file_schools(desk);
-    let mut sequence = Sequence(1);
+    let mut sequence = Sequence(seed);
     for student in 1..=students {
         let draws = sequence.draws();
         for kind in KINDS {
