@@ -5,12 +5,16 @@
 use std::fs::File;
 use std::io::{self, Read, Write};
 use std::net::{TcpListener, TcpStream};
+use std::ops::Range;
 use std::os::unix::fs::FileExt;
 use std::sync::Mutex;
 use std::time::{Duration, Instant};
 use std::{env, process, thread};
 
 const PAYLOAD: usize = 25;
+
+/// A connection to the office takes so many requests.
+const LIMIT: u64 = 10_000;
 
 /// The file, the place of its closed gate, and how many payloads stand.
 struct Journal {
@@ -137,8 +141,22 @@ fn connect(port: u16) -> io::Result<TcpStream> {
     Err(io::ErrorKind::NotConnected.into())
 }
 
+/// Sends the filings of these numbers over one connection after another, each of which takes its limit of requests.
+fn send_all(port: u16, mut stream: TcpStream, numbers: Range<u64>) -> io::Result<()> {
+    let mut first = numbers.start;
+    loop {
+        let end = numbers.end.min(first + LIMIT);
+        send(&mut stream, first..end)?;
+        if end == numbers.end {
+            return Ok(());
+        }
+        first = end;
+        stream = connect(port)?;
+    }
+}
+
 /// Sends the filings of these numbers, each once the one before it was accepted.
-fn send(stream: &mut TcpStream, numbers: std::ops::Range<u64>) -> io::Result<()> {
+fn send(stream: &mut TcpStream, numbers: Range<u64>) -> io::Result<()> {
     let mut held = Vec::new();
     let mut piece = [0; 4096];
     for number in numbers {
@@ -160,12 +178,12 @@ fn send(stream: &mut TcpStream, numbers: std::ops::Range<u64>) -> io::Result<()>
 }
 
 fn drive(port: u16, connections: u64, requests: u64) -> io::Result<()> {
-    let mut streams = (0..connections).map(|_| connect(port)).collect::<io::Result<Vec<_>>>()?;
+    let streams = (0..connections).map(|_| connect(port)).collect::<io::Result<Vec<_>>>()?;
     let begun = Instant::now();
     thread::scope(|scope| {
-        for (place, stream) in (0..).zip(&mut streams) {
+        for (place, stream) in (0..).zip(streams) {
             let numbers = 1 + place * requests / connections..1 + (place + 1) * requests / connections;
-            scope.spawn(move || send(stream, numbers).expect("each filing is answered"));
+            scope.spawn(move || send_all(port, stream, numbers).expect("each filing is answered"));
         }
     });
     println!("{}", begun.elapsed().as_secs_f64());
