@@ -34,7 +34,9 @@ fn report_said(alloc: Global, report: ReportRequest) -> Result<String, AllocErro
 fn round_said(alloc: Global, fund: FundRequest) -> Result<String, AllocError> {
     let (school, year, term) = (fund.school.0, fund.year.0, fund.term);
     let (amount, policy, number) = (fund.amount, fund.policy, fund.number);
-    format!(in alloc; "school {school}, year {year}, term {term}: {amount} by policy {policy} from {number}")
+    format!(in alloc;
+        "school {school}, year {year}, term {term}: {amount} by policy {policy} from {number}"
+    )
 }
 
 // What the command of a row says.
