@@ -4,7 +4,7 @@ use Rattle.std.proofs.lemmas.Int.{ints, clamps}
 use Rattle.std.specs.Int.{int_max}
 use Rattle.aid_num.specs.Nearest.{half_up, to5}
 use Rattle.aid_books.specs.declared.book.PellFigures.{PellFigures}
-use Rattle.sai_parent.proofs.NearestOrder.{to5-rises}
+use Rattle.sai_index.proofs.NearestOrder.{to5-rises}
 use Rattle.pell_schedule.specs.Award.{IsScheduledAward}
 
 max_at_most : (a b most : ℤ) → a ≤ℤ most → b ≤ℤ most → int_max a b ≤ℤ most

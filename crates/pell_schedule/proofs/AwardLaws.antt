@@ -10,7 +10,7 @@ use Rattle.aid_books.specs.declared.book.Book.{Book}
 use Rattle.aid_books.specs.declared.book.PellFigures.{PellFigures}
 use Rattle.aid_types.specs.declared.award.Formula.{Formula}
 use Rattle.aid_types.specs.declared.award.Way.TheVariants.{Maximum, Calculated, Minimum, Nothing}
-use Rattle.sai_parent.proofs.NearestOrder.{to5-rises}
+use Rattle.sai_index.proofs.NearestOrder.{to5-rises}
 use Rattle.pell_schedule.specs.Award.{IsDecidedByCase, IsScheduledAward, awarded, calculated, greatest_award, decision_under, is_barred, is_maximum, is_minimum, must_file}
 
 test_from_le : (x y : ℤ) → x ≤ℤ y → int_le x y ≡ true

@@ -11,11 +11,11 @@ use Rattle.aid_books.specs.declared.book.Employment.{Employment}
 use Rattle.aid_books.specs.declared.book.Payroll.{Payroll}
 use Rattle.aid_types.specs.declared.award.Formula.{Formula}
 use Rattle.aid_types.specs.declared.award.Formula.TheVariants.{A, B, C}
-use Rattle.sai_parent.specs.Household.{IsRisingSchedule, asset_contribution, asset_protection, business_worth, employment_allowance, medicare, oasdi, payroll_allowance, protection_allowance, tax_allowance, total_income}
-use Rattle.sai_parent.specs.Lines.{household_lines, parent_lines}
-use Rattle.sai_parent.specs.declared.ParentLines.{ParentLines}
-use Rattle.sai_parent.proofs.NearestOrder.{share-rises}
-use Rattle.sai_parent.proofs.ScheduleRises.{schedule_value-rises}
+use Rattle.sai_index.specs.Household.{IsRisingSchedule, asset_contribution, asset_protection, business_worth, employment_allowance, medicare, oasdi, payroll_allowance, protection_allowance, tax_allowance, total_income}
+use Rattle.sai_index.specs.Lines.{household_lines, parent_lines}
+use Rattle.sai_index.specs.declared.lines.ParentLines.{ParentLines}
+use Rattle.sai_index.proofs.NearestOrder.{share-rises}
+use Rattle.sai_index.proofs.ScheduleRises.{schedule_value-rises}
 use Rattle.sai_index.specs.Formulas.{formula}
 use Rattle.sai_index.specs.Income.{HasMoreIncome, IsRicher}
 use Rattle.sai_index.specs.Index.{age, bounded, dependent_lines, employment_if_married, family_protection, income_contribution, index_lines, lines_of, shortfall, single_lines, single_or_married}

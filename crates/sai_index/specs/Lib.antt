@@ -1,4 +1,6 @@
 pub mod Fits
 pub mod Formulas
+pub mod Household
 pub mod Income
 pub mod Index
+pub mod Lines

@@ -1,4 +1,0 @@
-pub mod LinesLaws
-pub mod NearestOrder
-pub mod ScheduleRises
-pub mod Sums
