@@ -11,6 +11,12 @@ use std::marker::Brand;
 use std::sync::Wait;
 use std::thread::yield_now;
 
+// How often a seat that waits looks before it sleeps: a short turn ends in that time.
+const LOOKS_AWAKE: u32 = 200;
+
+// The part of a number that a sleeping seat is told by.
+const LOW_WORD: u64 = 0xffff_ffff;
+
 impl<T: Turned> Turns<T> {
     // Brings the state into the slot.
     pub(crate) fn bring(&self, seat: &mut SeatOf<T>, state: T)
@@ -57,18 +63,32 @@ impl<T: Turned> Turns<T> {
         self.table.shared.load::<Look<T>>(seat, 1) == number
     }
 
-    // Waits until the seat is served. The processor is left to others between two looks: the turn before may want it.
+    // Waits until the seat is served: after some looks, between which the processor is left to others, it sleeps until a turn ends.
     fn wait<R: Wait>(&self, rt: &R, seat: &mut SeatOf<T>, number: u64)
         requires lock { seat.old.table_id ≡ self.now.id }
         requires waiting { IsWaiting number seat.old.me }
         ensures lock { seat.new.table_id ≡ seat.old.table_id }
         ensures served { IsServedAfter T.stand seat.old.me seat.new.me }
     {
+        let mut looks = 0;
         for _ in rt.forever() {
             if self.look(seat, number) {
                 break;
             }
-            yield_now();
+            if looks < LOOKS_AWAKE {
+                looks += 1;
+                yield_now();
+            } else {
+                self.sleep(rt, number);
+            }
+        }
+    }
+
+    // Sleeps until a turn ends, unless that number is served.
+    fn sleep<R: Wait>(&self, rt: &R, number: u64) {
+        let served = self.table.shared.peek(1);
+        if served != number {
+            self.table.shared.park(rt, 1, (served & LOW_WORD) as u32);
         }
     }
 
@@ -91,7 +111,7 @@ impl<T: Turned> Turns<T> {
         reply
     }
 
-    // Ends the turn.
+    // Ends the turn, and wakes the seats that sleep.
     fn end<N: Ending>(&self, seat: &mut SeatOf<T>, reply: &T::Reply)
         requires picked { N.faults ≡ faults_in (T.says reply.now) }
         requires lock { seat.old.table_id ≡ self.now.id }
@@ -100,6 +120,7 @@ impl<T: Turned> Turns<T> {
         ensures ended { HasEnded T.stand (faults_in (T.says reply.now)) seat.old.me seat.new.me }
     {
         self.table.shared.fetch_add::<End<T, N>>(seat, 1, 1);
+        self.table.shared.wake_all(1);
     }
 
     // A whole turn of a seat.
