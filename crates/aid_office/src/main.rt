@@ -1,36 +1,18 @@
 //! The program of a federal student aid office: its words, its journal, what it reads and what it writes.
 #![tactic(auto)]
 
-mod book;
-mod checks;
-mod desk;
-mod desk_lines;
-mod desks;
-#[cfg(test)]
-mod desks_tests;
-mod fund;
-mod laws;
-mod quote;
-mod report;
-mod run;
-mod stop;
-#[cfg(test)]
-mod tests;
-mod web;
-mod web_laws;
-#[cfg(test)]
-mod web_tests;
-
 use aid_edges::{ReadEdge, Sink, WriteEdge};
-use desks::{DeskInput, run_desks};
 use disk_model::HostDisk;
+use filing_journal::OpenError;
 use fund_policy::{Rule, level, quarter, standard};
 use kept_desks::FreeGate;
-use kept_office::OpenError;
 use kept_session::ReadStop;
 use kept_web::WebDesk;
+use office_desks::{DeskInput, run_desks};
+use office_runs::run;
+use office_web::run_web;
 use office_words::{MainRow, row_of};
-use run::{end, run};
+use run_ends::{RunStop, end};
 use std::alloc::{AllocError, Global};
 use std::fs::{File, OpenOptions, TryLockError};
 use std::io::ErrorKind;
@@ -39,8 +21,6 @@ use std::process::ExitCode;
 use std::sync::Wait;
 use std::thread::Threads;
 use std::{env, io};
-use stop::RunStop;
-use web::run_web;
 use web_edges::PortEdge;
 
 // The words after the program's name.

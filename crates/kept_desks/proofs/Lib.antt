@@ -3,4 +3,3 @@ pub mod Turning
 pub mod Rowing
 pub mod Gathering
 pub mod Working
-pub mod Writing

@@ -1,6 +1,5 @@
--- The text of all desks.
-use Rattle.std.specs.Prelude.{◌≡◌, ◌+◌, ℕ, List, [], ◌++◌, IsTrue, Option, Some, None}
-use Rattle.kept_session.specs.Edges.{Output}
+-- The lines of a desk.
+use Rattle.std.specs.Prelude.{◌+◌, ℕ, List, [], ◌++◌, Option, Some, None}
 use Rattle.kept_desks.specs.declared.names.RowName.{RowName}
 use Rattle.kept_desks.specs.declared.stop.DeskStop.{DeskStop}
 use Rattle.kept_desks.specs.declared.stop.DeskEnd.{DeskEnd}
@@ -21,7 +20,3 @@ stop_text line (Some (at, stop)) = line at stop
 -- the lines of a desk: one for each row that was answered, and one for its stop
 abbrev pub desk_text : {Entry Lines : Type 0} → (RowName → DeskStop → List ℕ) → DeskView Entry Lines → List ℕ
 desk_text line desk = desk.text ++ stop_text line (stop_at desk.number desk.answered desk.ended)
-
--- of these bytes some in front were written
-abbrev pub HasWrittenFront : List ℕ → Output → Type 0
-HasWrittenFront text output = IsTrue output.honest → (front : List ℕ) × (rest : List ℕ) × (text ≡ front ++ rest) × (output.after ≡ output.before ++ front)

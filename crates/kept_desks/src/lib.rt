@@ -10,8 +10,6 @@ mod own;
 mod row;
 mod shared;
 mod stop;
-mod text;
-mod words;
 
 pub use crew::{close_desks, open_desks};
 pub use desk::Desk;
@@ -21,5 +19,3 @@ pub use names::{Filed, RowAsk, RowName};
 pub use own::OwnDocket;
 pub use shared::SharedList;
 pub use stop::{DeskEnd, DeskStop};
-pub use text::{TextStop, write_desks};
-pub use words::DeskWords;

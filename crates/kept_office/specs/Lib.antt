@@ -6,6 +6,7 @@ pub use Rattle.office_core.specs.Register
 pub mod Scheme
 pub mod Recovers
 pub mod Faulty
+pub mod Openable
 pub mod Turns
 pub mod Kept
 pub mod Lives

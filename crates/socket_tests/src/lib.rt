@@ -3,6 +3,3 @@
 
 #[cfg(test)]
 mod tests;
-mod texts;
-
-pub use texts::OfficeTexts;

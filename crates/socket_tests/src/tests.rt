@@ -1,13 +1,13 @@
 // A filing twice over one connection, both ends of which are in this process.
 ghost use Rattle.std.specs.Prelude.{◌≡◌, None, IfOk};
 
-use crate::OfficeTexts;
 use disk_model::MemoryDisk;
 use kept_desks::{RowName, SharedList};
 use kept_list::KeptList;
 use kept_office::FiledOffice;
 use kept_web::serve_desk;
 use office_lock::Turns;
+use office_web::OfficeTexts;
 use std::alloc::Global;
 use std::io::{Read, Write};
 use std::net::{Ipv4Addr, Shutdown, TcpListener, TcpStream};

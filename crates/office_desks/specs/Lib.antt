@@ -1,0 +1,3 @@
+pub mod DeskTexts
+pub mod DesksDone
+pub mod RanDesks

@@ -1,0 +1,10 @@
+//! The rows that the office's desks file, whatever keeps its list: those of a text, one book, and one quote.
+#![tactic(auto)]
+
+mod book;
+mod desk;
+mod quote;
+
+pub use book::{BookForms, BookRow};
+pub use desk::{DeskForms, DeskRows};
+pub use quote::QuoteRow;

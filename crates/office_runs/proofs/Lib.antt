@@ -1,0 +1,5 @@
+pub mod Awarding
+pub mod Checking
+pub mod Complete
+pub mod Images
+pub mod Shown

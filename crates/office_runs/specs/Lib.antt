@@ -1,0 +1,4 @@
+pub mod Moments
+pub mod Ran
+pub mod Rounds
+pub mod Texts

@@ -1,0 +1,185 @@
+// A run of the program: its words, its input, its journal, what it writes, and its status.
+ghost use Rattle.std.specs.Prelude.{◌≡◌, ◌⊎◌, ◌≤◌, ℕ, false, List, length, map, string_bytes, [], ◌∷◌, codes};
+ghost use Rattle.aid_filings.specs.declared.filing.Filing.{Filing};
+ghost use Rattle.aid_edges.specs.Faults.{Rose};
+ghost use Rattle.disk_model.specs.Telling.{EachImage, EachMoment, IsHonest};
+ghost use Rattle.kept_office.specs.Recovers.{Recovers};
+ghost use Rattle.office_history.specs.Within.{IsWithinEveryLimit};
+ghost use Rattle.office_words.specs.Words.{IsRow};
+ghost use Rattle.office_words.specs.declared.command.Command.{Command as CommandData};
+ghost use Rattle.kept_office.specs.Scheme.{office_scheme};
+ghost use Rattle.kept_office.specs.Turns.{office_judging};
+ghost use Rattle.kept_session.specs.Links.{RecoversOf};
+ghost use Rattle.office_forms.specs.Asks.{desk_rows, desk_texts};
+ghost use Rattle.office_runs.specs.Moments.{AllStand, MayRecover, Stands, StoodBefore};
+ghost use Rattle.office_runs.specs.Ran.{CanBeDone, Does, Ran, Shows, reads_input};
+ghost use Rattle.run_ends.specs.Ends.{Moved};
+ghost use Rattle.office_runs.specs.Rounds.{IsPolicyAmong, gives_at};
+ghost use Rattle.run_ends.specs.Statuses.{is_disk_fault, is_read_fault, is_write_fault};
+
+use crate::checks::{check_book, check_rows};
+use crate::fund::file_round;
+use crate::report::OfficeReport;
+use aid_edges::{Sink, Source};
+use disk_model::Disk;
+use fund_policy::{Policies, Rule};
+use generated_rows::YearForms;
+use generated_year::{GeneratedOffice, YearTally};
+use kept_office::FiledOffice;
+use kept_rounds::file_counted;
+use kept_session::{answer, file, found, write_report};
+use office_forms::{BookForms, DeskForms, QuoteRow};
+use office_words::{Command, command_of};
+use run_ends::{RunStop, end, ended_filing, ended_founding};
+use std::alloc::Global;
+
+// Does what a command says, up to how it ends.
+fn do_command<D: Disk, S: Source, K: Sink>(
+    alloc: Global,
+    command: Command,
+    policies: &Policies,
+    disk: D,
+    input: &mut S,
+    out: &mut K,
+) -> (Result<(), RunStop>, D)
+    requires policy { IsPolicyAmong (length policies.now.list.items) command }
+    ensures does { Does (gives_at policies.now.list.items (λ p. ⟦<Rule as Fn(u32, i32, u8) -> u32>⟧.post p.rule)) D.Disk disk result.1
+        (record { honest = S.honest input.old; before = S.left input.old; after = S.left input.new })
+        (record { honest = K.honest out.old; before = K.text out.old; after = K.text out.new }) command result.0 }
+    ensures unread { reads_input command ≡ false → input.new ≡ input.old }
+    ensures source { Moved (is_read_fault result.0) (S.faults input.old, S.faults input.new) }
+    ensures sink { Moved (is_write_fault result.0) (K.faults out.old, K.faults out.new) }
+    ensures disk { Moved (is_disk_fault result.0) (D.faults disk, D.faults result.1) }
+    ensures source_later { S.faults input.old ≤ S.faults input.new }
+    ensures sink_later { K.faults out.old ≤ K.faults out.new }
+    ensures disk_later { D.faults disk ≤ D.faults result.1 }
+    ensures source_honest { S.honest input.new ≡ S.honest input.old }
+    ensures sink_honest { K.honest out.new ≡ K.honest out.old }
+    ensures disk_honest { (D.tells result.1).honest ≡ (D.tells disk).honest }
+{
+    match command {
+        Command::Found => {
+            let (ended, disk) = found::<D, K, FiledOffice>(alloc, disk, b"founded\n", out);
+            (ended_founding(ended), disk)
+        }
+        Command::File => {
+            let (ended, disk) = file::<D, S, K, FiledOffice, DeskForms>(
+                alloc, disk, &DeskForms, input, out,
+            );
+            (ended_filing(ended), disk)
+        }
+        Command::Book(book) => {
+            let forms = BookForms { book };
+            let (ended, disk) = file::<D, S, K, FiledOffice, BookForms>(
+                alloc, disk, &forms, input, out,
+            );
+            (ended_filing(ended), disk)
+        }
+        Command::Quote(quote) => {
+            let row = QuoteRow::new(quote);
+            let (ended, disk) = answer::<D, K, FiledOffice, QuoteRow>(alloc, disk, row, out);
+            (ended_filing(ended), disk)
+        }
+        Command::Report(request) => {
+            let report = OfficeReport { request };
+            let (ended, disk) = write_report::<D, K, FiledOffice, OfficeReport>(
+                alloc, disk, &report, out,
+            );
+            (ended_filing(ended), disk)
+        }
+        Command::Fund(fund) => {
+            let policy = &policies.list[fund.policy];
+            let (ended, disk) = file_round(alloc, disk, fund, policy, out);
+            (ended_filing(ended), disk)
+        }
+        Command::Generate(generate) => {
+            let forms = YearForms {
+                students: generate.students,
+                seed: generate.seed,
+            };
+            let (ended, disk) = file_counted::<
+                D,
+                S,
+                K,
+                GeneratedOffice<FiledOffice>,
+                YearForms,
+                YearTally,
+            >(alloc, disk, &forms, YearTally::EMPTY, input, out);
+            (ended_filing(ended), disk)
+        }
+        Command::CheckRows => (check_rows(alloc, input, out), disk),
+        Command::CheckBook => (check_book(alloc, input, out), disk),
+    }
+}
+
+/// Does what the words say, and answers the status and the disk as it is then: `found` founds an office in the disk's
+/// file; `file` files the rows of the input, and `book` its text as a book; `quote` asks for one; `report` writes a
+/// report on the office, and files nothing; `fund` files the payments of a round of awards by the first of the policies that has
+/// its name; `generate` files a generated year, whose book is the input's text, and writes
+/// what it comes to; `check rows` and `check book` say what is wrong with the input, and make no
+/// call on the disk. The whole input is read before the
+/// journal is, and the line of a row is written before the next row is filed.
+///
+/// The status is 0 where all was done, 2 where the words are no row, 3 where a read failed, 4 where a write failed, 5
+/// where the disk failed, 6 where the file is none for the command, 7 where it is damaged, 8 where the input has more
+/// than `INPUT_LIMIT` bytes, and 9 where there is no memory. At each but 0 and 4 the last line of the text names the fault.
+pub fn run<D: Disk, S: Source, K: Sink>(
+    alloc: Global,
+    words: &Vec<String>,
+    disk: D,
+    input: &mut S,
+    out: &mut K,
+    policies: &Policies,
+) -> (u8, D)
+    // All that a run does, by its words and by how it ended: the text, the disk at every moment, the counts, and the status.
+    ensures ran { Ran (map (λ p. p.name) policies.now.list.items) (gives_at policies.now.list.items (λ p. ⟦<Rule as Fn(u32, i32, u8) -> u32>⟧.post p.rule)) D.Disk K.Sink
+        (record { source = (S.faults input.old, S.faults input.new); sink = (K.faults out.old, K.faults out.new); disk = (D.faults disk, D.faults result.1) })
+        (map string_bytes words.now.items) disk result.1
+        (record { honest = S.honest input.old; before = S.left input.old; after = S.left input.new }) out.old out.new result.0 }
+    // The input is read by a command that has one alone.
+    ensures unread { ((command : CommandData) → IsRow (map (λ p. p.name) policies.now.list.items) (map string_bytes words.now.items) command → reads_input command ≡ false) → input.new ≡ input.old }
+
+    // Whatever a run comes to, each image at each moment of it recovers the list before it, with what some rows in front of
+    // the input's add; where it was done, with what all of them add. In each such list no student stands above a limit.
+    ensures moments { (command : CommandData) (past : List Filing) → IsRow (map (λ p. p.name) policies.now.list.items) (map string_bytes words.now.items) command
+        → IsHonest (D.tells disk) → EachImage (D.tells disk) (λ file. Recovers file past)
+        → EachMoment (D.tells disk) (D.tells result.1)
+        (MayRecover (gives_at policies.now.list.items (λ p. ⟦<Rule as Fn(u32, i32, u8) -> u32>⟧.post p.rule)) command (record { honest = S.honest input.old; before = S.left input.old; after = S.left input.new }) past) }
+    ensures stands { (command : CommandData) (past : List Filing) → IsRow (map (λ p. p.name) policies.now.list.items) (map string_bytes words.now.items) command → result.0 ≡ 0
+        → IsHonest (D.tells disk) → StoodBefore command (D.tells disk).reads past
+        → Stands (gives_at policies.now.list.items (λ p. ⟦<Rule as Fn(u32, i32, u8) -> u32>⟧.post p.rule)) command (record { honest = S.honest input.old; before = S.left input.old; after = S.left input.new }) past (D.tells result.1) }
+    // The same of `file` alone, in the words of its rows.
+    ensures file_moments { (past : List Filing) → map string_bytes words.now.items ≡ codes "file" ∷ []
+        → IsHonest (D.tells disk) → EachImage (D.tells disk) (λ file. Recovers file past)
+        → EachMoment (D.tells disk) (D.tells result.1)
+        (RecoversOf office_scheme office_judging desk_texts desk_rows (record { honest = S.honest input.old; before = S.left input.old; after = S.left input.new }) past) }
+    ensures file_stands { (past : List Filing) → map string_bytes words.now.items ≡ codes "file" ∷ [] → result.0 ≡ 0
+        → IsHonest (D.tells disk) → Recovers (D.tells disk).reads past
+        → AllStand desk_texts desk_rows (record { honest = S.honest input.old; before = S.left input.old; after = S.left input.new }) past (D.tells result.1) }
+    ensures within { (file : List ℕ) (history : List Filing) → Recovers file history → IsWithinEveryLimit history }
+
+    // 3, 4 and 5 come only where the count of the source, the sink or the disk rose, and no fault is passed over.
+    ensures shows { Shows
+        (record { source = (S.faults input.old, S.faults input.new); sink = (K.faults out.old, K.faults out.new); disk = (D.faults disk, D.faults result.1) }) result.0 }
+
+    // Where no count rose, a command that can be done is done, if there is memory.
+    ensures complete { (command : CommandData) → IsRow (map (λ p. p.name) policies.now.list.items) (map string_bytes words.now.items) command
+        → CanBeDone command (S.honest input.old) (length (S.left input.old)) (D.tells disk) → ¬ (Rose (S.faults input.old) (S.faults input.new))
+        → ¬ (Rose (K.faults out.old) (K.faults out.new)) → ¬ (Rose (D.faults disk) (D.faults result.1))
+        → (result.0 ≡ 0) ⊎ (result.0 ≡ 9) }
+
+    ensures source_later { S.faults input.old ≤ S.faults input.new }
+    ensures sink_later { K.faults out.old ≤ K.faults out.new }
+    ensures disk_later { D.faults disk ≤ D.faults result.1 }
+    ensures source_honest { S.honest input.new ≡ S.honest input.old }
+    ensures sink_honest { K.honest out.new ≡ K.honest out.old }
+    ensures disk_honest { (D.tells result.1).honest ≡ (D.tells disk).honest }
+{
+    match command_of(words, policies) {
+        Some(command) => {
+            let (ended, disk) = do_command(alloc, command, policies, disk, input, out);
+            (end(ended, out), disk)
+        }
+        None => (end(Err(RunStop::Usage), out), disk),
+    }
+}

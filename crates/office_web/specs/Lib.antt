@@ -1,0 +1,3 @@
+pub mod RanWeb
+pub mod WebLaws
+pub mod WebTexts

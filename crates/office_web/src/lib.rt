@@ -1,0 +1,8 @@
+//! The web desk of the office: ports whose connections are served at once.
+#![tactic(auto)]
+
+mod web;
+mod web_laws;
+
+pub use web::{OfficeTexts, OfficeWebDesk, run_web};
+pub use web_laws::web_causes;
