@@ -1,5 +1,6 @@
 -- What rows tell once one of them is written.
 use Rattle.std.proofs.Common.{◌≡◌, ℕ, ◌+◌, refl, sym, ap, ◌∙◌, cond, Bool, true, false, ◌&&◌, List, ◌∷◌, length, Option, Some, None}
+use Rattle.std.specs.Prelude.{◌==◌}
 use Rattle.std.specs.Cmp.{both_tied, unsigned_tied}
 use Rattle.std.specs.List.{slice_get}
 use Rattle.std.specs.Ordering.{is_eq}
@@ -20,7 +21,7 @@ use Rattle.office_history.specs.Names.{place_cmp, school_year_cmp, year_cmp}
 use Rattle.office_core.specs.Index.{AreKeys, AreSchoolYears, AreYears, filing_cmp, filing_name, position_or, school_year_or, written_or, year_or}
 use Rattle.office_links.specs.Placed.{ArePlaces, place_or}
 use Rattle.office_rows.proofs.RowNames.{at_place, place-same}
-use Rattle.office_history.specs.declared.names.FilingName.{FilingName}
+use Rattle.office_core.specs.declared.entries.FilingNumber.{FilingNumber}
 use Rattle.office_history.specs.declared.names.StudentPlace.{StudentPlace}
 use Rattle.office_history.specs.declared.names.StudentSchoolYear.{StudentSchoolYear}
 use Rattle.office_history.specs.declared.names.StudentYear.{StudentYear}
@@ -79,11 +80,18 @@ first_written true before here none = sym (ap (λ (n : ℕ). first_of_two true n
 -- the order of filings' names tells where two keys are the same
 key-same : (a b : Key) → is_eq (filing_cmp (filing_name a) (filing_name b)) ≡ same_key b a
 key-same a b =
-    sym (both_tied _ _ _ _ (sym (unsigned_tied a.school b.school)) (sym (unsigned_tied a.number b.number)))
-    ∙ (λ i. nat_eq_equiv.symm a.school b.school i && nat_eq_equiv.symm a.number b.number i)
+    sym (both_tied _ _ _ _ (sym (unsigned_tied a.number b.number)) (sym (unsigned_tied a.school b.school)))
+    ∙ (λ i. nat_eq_equiv.symm a.number b.number i && nat_eq_equiv.symm a.school b.school i)
+    ∙ turned (b.number == a.number) (b.school == a.school)
+  where
+    turned : (m n : Bool) → (m && n) ≡ (n && m)
+    turned true true = refl
+    turned true false = refl
+    turned false true = refl
+    turned false false = refl
 
 -- the position of a new key's filing is written under its name
-pub keys_after : (past : List Filing) (f : Filing) (position : ℕ) (old new : List (FilingName × ℕ)) → position ≡ length past + 1 → key_at f.key past ≡ 0 →
+pub keys_after : (past : List Filing) (f : Filing) (position : ℕ) (old new : List (FilingNumber × ℕ)) → position ≡ length past + 1 → key_at f.key past ≡ 0 →
     IsWritten filing_cmp (filing_name f.key) position old new → AreKeys past old → AreKeys (f ∷ past) new
 keys_after past f position old new here none written told key =
     ap position_or (written (filing_name key))

@@ -27,7 +27,7 @@ use Rattle.office_core.specs.Register.{outcomes_of}
 use Rattle.office_core.specs.declared.entries.SchoolEntry.{SchoolEntry}
 use Rattle.office_core.specs.declared.entries.StudentEntry.{StudentEntry}
 use Rattle.office_links.specs.declared.links.Link.{Link}
-use Rattle.office_history.specs.declared.names.FilingName.{FilingName}
+use Rattle.office_core.specs.declared.entries.FilingNumber.{FilingNumber}
 use Rattle.office_history.specs.declared.names.StudentPlace.{StudentPlace}
 use Rattle.office_history.specs.declared.names.StudentSchoolYear.{StudentSchoolYear}
 use Rattle.office_history.specs.declared.names.StudentYear.{StudentYear}
@@ -35,11 +35,11 @@ use Rattle.office_core.specs.declared.written.Written.{Written}
 use Rattle.office_links.specs.Placed.{ArePlaces}
 
 -- the order of filings' names, and the name of a key
-abbrev pub filing_cmp : FilingName → FilingName → Ordering
-filing_cmp a b = ordering_then (nat_cmp a.school b.school) (nat_cmp a.number b.number)
+abbrev pub filing_cmp : FilingNumber → FilingNumber → Ordering
+filing_cmp a b = ordering_then (nat_cmp a.number b.number) (nat_cmp a.school b.school)
 
-abbrev pub filing_name : Key → FilingName
-filing_name key = record { school = key.school; number = key.number }
+abbrev pub filing_name : Key → FilingNumber
+filing_name key = record { number = key.number; school = key.school }
 
 -- the book that is filed
 abbrev pub book_filed : What → Option Book
@@ -80,7 +80,7 @@ abbrev pub student_entry : List Filing → ℕ → StudentEntry
 student_entry past student = record { row = student_row past student; newest = last_at (is_enrolled student) past }
 
 -- the rows of each table tell what is on file
-abbrev pub AreKeys : List Filing → List (FilingName × ℕ) → Type 0
+abbrev pub AreKeys : List Filing → List (FilingNumber × ℕ) → Type 0
 AreKeys past rows = (key : Key) → position_or (value_at filing_cmp (filing_name key) rows) ≡ key_at key past
 
 abbrev pub AreBooks : List Filing → List (ℕ × ℕ) → Type 0
@@ -116,7 +116,7 @@ pub record IsWrittenBy (past : List Filing) (f : Filing) (w : Written) : Type 0 
 
 -- the rows of an index
 pub record IndexRows : Type 0 where
-  pub keys : List (FilingName × ℕ)
+  pub keys : List (FilingNumber × ℕ)
   pub books : List (ℕ × ℕ)
   pub schools : List (ℕ × SchoolEntry)
   pub students : List (ℕ × StudentEntry)

@@ -6,6 +6,14 @@ ghost use Rattle.office_core.specs.Index.{position_or, school_or, school_year_or
 use aid_types::ByProgram;
 use office_history::{Account, PlaceRow, SchoolRow, SchoolYearRow, StudentRow, YearRow};
 
+/// What names a filing in the index: its number, and then its school. Numbers rise at each school, so a new name comes last or
+/// nearly so.
+#[derive(Clone, Copy, PartialEq, Eq, PartialOrd, Ord, Debug)]
+pub struct FilingNumber {
+    pub number: u64,
+    pub school: u32,
+}
+
 /// A school with the position of its newest term, 0 where it has none.
 #[derive(Clone, Copy, PartialEq, Eq, Debug)]
 pub struct SchoolEntry {

@@ -9,9 +9,9 @@ ghost use Rattle.office_rows.specs.After.{IsSchoolAfter, IsStudentAfter};
 ghost use Rattle.office_rows.specs.Changed.{student_changed};
 ghost use Rattle.office_core.specs.Index.{AreBooks, AreKeys, AreSchools, AreStudents, position_or, school_or, student_or, written_or};
 
-use crate::entries::{SchoolEntry, StudentEntry, position_told, school_told};
+use crate::entries::{FilingNumber, SchoolEntry, StudentEntry, position_told, school_told};
 use aid_filings::{Filing, What};
-use office_history::{FilingName, SchoolRow, StudentRow};
+use office_history::{SchoolRow, StudentRow};
 use sorted_rows::{Slots, Table};
 
 /// Writes a row, where one is to be written, and tells its slot; 0 where none is. `slot` is that of a row with its name, where
@@ -62,15 +62,15 @@ fn put_at<K: Ord + Copy, V: Copy>(
 }
 
 /// Writes the position of a filing under its key, which is new.
-pub(crate) fn write_key(keys: &mut Table<FilingName, u32>, filing: &Filing, position: u32)
+pub(crate) fn write_key(keys: &mut Table<FilingNumber, u32>, filing: &Filing, position: u32)
     requires room { 1 ≤ keys.old.room }
     ensures rows { (past : List Filed) → position ≡ length past + 1 → key_at filing.now.key past ≡ 0 → AreKeys past keys.old.rows → AreKeys (filing.now ∷ past) keys.new.rows }
     ensures room { keys.old.room ≤ keys.new.room + 1 }
     ensures count { length keys.new.rows ≤ length keys.old.rows + 1 }
 {
-    let name = FilingName {
-        school: filing.key.school.0,
+    let name = FilingNumber {
         number: filing.key.number,
+        school: filing.key.school.0,
     };
     keys.set(name, position);
 }

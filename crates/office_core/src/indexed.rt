@@ -11,8 +11,8 @@ ghost use Rattle.office_links.specs.Links.{before_in};
 
 use crate::bases::outcome_after;
 use crate::entries::{
-    SchoolEntry, StudentEntry, place_told, position_told, school_told, school_year_told,
-    student_told, year_told,
+    FilingNumber, SchoolEntry, StudentEntry, place_told, position_told, school_told,
+    school_year_told, student_told, year_told,
 };
 use crate::filed::{write, write_book, write_key, write_school, write_student};
 use crate::lookup::find;
@@ -22,7 +22,7 @@ use aid_filings::{CalendarFacts, Filing, What};
 use aid_replies::Outcome;
 use aid_types::{Key, Refusal, School, Student, Term, Year};
 use office_history::{
-    CalendarRow, FilingName, OnFile, PlaceRow, SchoolRow, SchoolYearRow, StudentPlace, StudentRow,
+    CalendarRow, OnFile, PlaceRow, SchoolRow, SchoolYearRow, StudentPlace, StudentRow,
     StudentSchoolYear, StudentYear, TermRow, YearRow,
 };
 use office_links::{Link, link_of, paid_beside, school_calendar, school_term, term_over};
@@ -40,7 +40,7 @@ pub struct Indexed {
     filings: Vec<Filing>,
     outcomes: Vec<Outcome>,
     links: Vec<Link>,
-    keys: Table<FilingName, u32>,
+    keys: Table<FilingNumber, u32>,
     books: Table<u16, u32>,
     schools: Slots<u32, SchoolEntry>,
     students: Slots<u64, StudentEntry>,
@@ -244,9 +244,9 @@ impl OnFile for Indexed {
     }
 
     fn key_at<L: Ledger>(&self, key: &Key, steps: &mut Steps<L>) -> u32 {
-        let name = FilingName {
-            school: key.school.0,
+        let name = FilingNumber {
             number: key.number,
+            school: key.school.0,
         };
         position_told(self.keys.get(&name, steps))
     }

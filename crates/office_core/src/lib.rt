@@ -11,7 +11,7 @@ mod office;
 mod own_entry;
 mod written;
 
-pub use entries::{SchoolEntry, StudentEntry};
+pub use entries::{FilingNumber, SchoolEntry, StudentEntry};
 pub use indexed::Indexed;
 pub use office::Office;
 pub use written::Written;

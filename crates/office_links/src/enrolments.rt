@@ -122,11 +122,12 @@ fn is_paid_beside<L: Ledger>(
     ensures cost { steps.new ≤ steps.old + 2 }
     ensures later { steps.old ≤ steps.new }
 {
-    if filing.key.school == school {
-        return false;
-    }
+    // Most places hold none, so the filing is looked at last.
     let row = places.look(link.slot, steps).1;
     if net_pell(&row.account) == 0 {
+        return false;
+    }
+    if filing.key.school == school {
         return false;
     }
     steps.tick();

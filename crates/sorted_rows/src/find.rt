@@ -1,10 +1,11 @@
 //! Rows found by key, with the looks counted or not.
-ghost use Rattle.std.specs.Prelude.{◌≡◌, ◌+◌, ◌-◌, ◌*◌, ◌^◌, ◌<◌, ◌≤◌, length, IfOk, IfErr};
+ghost use Rattle.std.specs.Prelude.{◌≡◌, ◌+◌, ◌-◌, ◌*◌, ◌^◌, ◌<◌, ◌≤◌, true, length, IfOk, IfErr};
 ghost use Rattle.std.specs.List.Sorted.{IsStrictlySortedBy};
 ghost use Rattle.std.specs.Map.{keys_of};
-ghost use Rattle.sorted_rows.specs.Places.{IsGap, IsHere, value_at};
+ghost use Rattle.sorted_rows.specs.Places.{IsAfterSmaller, IsGap, IsHere, value_at};
 
 use crate::search::search;
+use std::cmp::Ordering;
 use std::sync::ledger::{Blank, Ledger};
 use steps::Steps;
 
@@ -37,11 +38,13 @@ pub(crate) fn find_uncounted<K: Ord + Copy, V: Copy, L: Ledger>(
     requires some { 0 < blank.parts }
     ensures { result ≡ value_at K.cmp key.now rows.now }
 {
-    let mut steps: Steps<L> = Steps::new(blank);
-    find(rows, key, &mut steps)
+    match place_of::<K, V, L>(rows, key, blank) {
+        Ok(place) => Some(rows[place].1),
+        Err(_) => None,
+    }
 }
 
-/// The place of a key, where nobody counts the looks.
+/// The place of a key, where nobody counts the looks. A new key mostly comes after all others, so that is tried first.
 pub(crate) fn place_of<K: Ord, V, L: Ledger>(
     rows: &[(K, V)],
     key: &K,
@@ -53,6 +56,23 @@ pub(crate) fn place_of<K: Ord, V, L: Ledger>(
     ensures found { IfOk result (IsHere K.cmp key.now rows.now) }
     ensures gap { IfErr result (IsGap K.cmp key.now rows.now) }
 {
+    if is_last(rows, key) {
+        return Err(rows.len());
+    }
     let mut steps: Steps<L> = Steps::new(blank);
     search(rows, key, &mut steps)
+}
+
+/// Whether there is a last row, and the key comes after it.
+fn is_last<K: Ord, V>(rows: &[(K, V)], key: &K) -> bool
+    ensures { result ≡ true → IsAfterSmaller K.cmp key.now rows.now (length rows.now) }
+{
+    let count = rows.len();
+    if count == 0 {
+        return false;
+    }
+    match key.cmp(&rows[count - 1].0) {
+        Ordering::Greater => true,
+        _ => false,
+    }
 }

@@ -73,6 +73,14 @@ impl<K: Ord + Copy, V: Copy> Slots<K, V> {
         self.slots.get(key, steps)
     }
 
+    /// The slot of a key, where nobody counts the looks.
+    pub fn slot_at(&self, key: &K) -> Option<u32>
+        ensures found { IfSome result (IsHere K.cmp key.now self.now.rows) }
+        ensures none { result ≡ None ↔ value_at K.cmp key.now self.now.rows ≡ None }
+    {
+        self.slots.at(key)
+    }
+
     /// The row at a slot, where nobody counts the looks.
     pub fn row(&self, slot: u32) -> (K, V)
         requires { slot < length self.now.rows }
