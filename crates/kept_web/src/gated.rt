@@ -1,5 +1,8 @@
 //! A port in memory whose connections wait for a gate. Tests choose by it which of two ports is served first.
-ghost use Rattle.std.specs.Prelude.{◌≡◌};
+ghost use Rattle.std.specs.Prelude.{◌≡◌, ◌⊎◌, ◌↔◌, ◌≤◌, [], IfOk, OnOk, OnErr, IsErr, Contains};
+ghost use Rattle.aid_edges.specs.Faults.{Rose, next_count};
+ghost use Rattle.web_desk.specs.Kept.{wire_faults, wire_tells};
+ghost use Rattle.kept_web.specs.Ports.{HandsOut, held_tells};
 
 use crate::{MemoryPort, Port};
 use aid_edges::Failed;
@@ -84,7 +87,17 @@ impl<'g, G: Gate> Port for GatedPort<'g, G> {
 
     ghost faults = { λ p. p.faults };
 
-    fn next(&mut self) -> Result<GatedLink<'g, G>, Failed> {
+    fn next(&mut self) -> Result<GatedLink<'g, G>, Failed>
+        ensures unused { IfOk result (λ link. wire_faults link ≡ 0) }
+        ensures handed { IfOk result (λ link. HandsOut (held_tells self.old) (held_tells self.new) (wire_tells link)) }
+        ensures failed { OnErr result (held_tells self.new ≡ held_tells self.old) }
+        ensures later { self.old.faults ≤ self.new.faults }
+        ensures cause { OnErr result (Rose self.old.faults self.new.faults) }
+        ensures unmoved { OnOk result (self.new.faults ≡ self.old.faults) }
+        ensures fails { IsErr result ↔ (Contains self.old.failing self.new.calls ⊎ (self.old.waiting ≡ [])) }
+        ensures counted { self.new.calls ≡ next_count self.old.calls }
+        ensures failing { self.new.failing ≡ self.old.failing }
+    {
         let inner = self.inner.next()?;
         Ok(GatedLink {
             inner,

@@ -1,7 +1,9 @@
 //! A port in memory, which tells what becomes of its connections.
-ghost use Rattle.std.specs.Prelude.{◌≡◌, ◌+◌, ◌≤◌, ◌<◌, [], IfOk, length, reverse};
+ghost use Rattle.std.specs.Prelude.{◌≡◌, ◌⊎◌, ◌↔◌, ◌+◌, ◌≤◌, ◌<◌, [], IfOk, OnOk, OnErr, IsErr, Contains, length, reverse};
 ghost use Rattle.std.specs.List.{All};
-ghost use Rattle.kept_web.specs.Ports.{IsUnused};
+ghost use Rattle.aid_edges.specs.Faults.{Rose, next_count};
+ghost use Rattle.web_desk.specs.Kept.{wire_faults, wire_tells};
+ghost use Rattle.kept_web.specs.Ports.{HandsOut, IsUnused, held_tells};
 
 use crate::Port;
 use aid_edges::Failed;
@@ -74,6 +76,14 @@ impl MemoryPort {
     {
         &self.back
     }
+
+    // One fault more.
+    fn fail(&mut self) -> Failed
+        ensures { self.new ≡ record self.old { faults = next_count self.old.faults } }
+    {
+        self.faults = self.faults.saturating_add(1);
+        Failed
+    }
 }
 
 impl Port for MemoryPort {
@@ -85,16 +95,28 @@ impl Port for MemoryPort {
 
     ghost faults = { λ p. p.faults };
 
-    fn next(&mut self) -> Result<MemoryLink, Failed> {
+    fn next(&mut self) -> Result<MemoryLink, Failed>
+        ensures unused { IfOk result (λ link. wire_faults link ≡ 0) }
+        ensures handed { IfOk result (λ link. HandsOut (held_tells self.old) (held_tells self.new) (wire_tells link)) }
+        ensures failed { OnErr result (held_tells self.new ≡ held_tells self.old) }
+        ensures later { self.old.faults ≤ self.new.faults }
+        ensures cause { OnErr result (Rose self.old.faults self.new.faults) }
+        ensures unmoved { OnOk result (self.new.faults ≡ self.old.faults) }
+        ensures fails { IsErr result ↔ (Contains self.old.failing self.new.calls ⊎ (self.old.waiting ≡ [])) }
+        ensures counted { self.new.calls ≡ next_count self.old.calls }
+        ensures failing { self.new.failing ≡ self.old.failing }
+    {
         self.calls = self.calls.saturating_add(1);
-        if !self.failing.contains(&self.calls) {
-            if let Some(link) = self.links.pop() {
-                self.out += 1;
-                return Ok(link);
-            }
+        if self.failing.contains(&self.calls) {
+            return Err(self.fail());
         }
-        self.faults = self.faults.saturating_add(1);
-        Err(Failed)
+        match self.links.pop() {
+            Some(link) => {
+                self.out += 1;
+                Ok(link)
+            }
+            None => Err(self.fail()),
+        }
     }
 
     fn done(&mut self, link: MemoryLink) {

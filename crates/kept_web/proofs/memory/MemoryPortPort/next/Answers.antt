@@ -5,7 +5,7 @@ use Rattle.kept_web.proofs.Handing.{handed}
 use Rattle.kept_web.proofs.memory.MemoryPortPort.next.Goals as goal
 
 pub returns-in-Some-clause-handed : goal.returns-in-Some-clause-handed
-returns-in-Some-clause-handed c honest =
+returns-in-Some-clause-handed c =
     let unused : IsUnused c.in-Some.link = search rules in
     let parts : c.self.inside.links.items ≡ c.pop.new.self.items ++ c.in-Some.link ∷ [] = search rules in
     record {
