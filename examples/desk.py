@@ -14,12 +14,6 @@ import time
 PAGE = pathlib.Path(__file__).resolve().parent.parent / "docs" / "FILINGS.md"
 
 
-def fields_of(kind):
-    """The names and forms of a kind's columns behind its key, from the table of FILINGS.md."""
-    part = PAGE.read_text().split(f"\n## {kind}\n")[1].split("\n## ")[0]
-    return re.findall(r"^\| \d+ \| (\w+) \| .* \| ([^|,]*).*\|$", part, re.M)
-
-
 def value_of(form, text):
     """Days and programs are strings, all else is a whole number, and dollars and cents are told in cents."""
     if form == "a day" or form.startswith("one of"):
@@ -28,13 +22,14 @@ def value_of(form, text):
 
 
 def body_of(kind, _, number, *texts):
-    """The body of a row's filing."""
-    fields = fields_of(kind)
+    """The body of a row's filing, by the names and forms of its kind's columns in the table of FILINGS.md."""
+    table = PAGE.read_text().split(f"\n## {kind}\n")[1].split("\n## ")[0]
+    fields = re.findall(r"^\| \d+ \| (\w+) \| .* \| ([^|,]*).*\|$", table, re.M)
     body = {"kind": kind, "number": int(number)} | {name: value_of(form, text) for (name, form), text in zip(fields, texts)}
-    behind = texts[len(fields):]
-    if len(texts) < len(fields) or len(behind) != 2 * body.get("breaks", 0):
+    days = texts[len(fields):]
+    if len(texts) < len(fields) or len(days) != 2 * body.get("breaks", 0):
         raise ValueError("columns")
-    return json.dumps(body | ({"breaks": list(zip(behind[::2], behind[1::2]))} if kind == "calendar" else {}))
+    return json.dumps(body | ({"breaks": list(zip(days[::2], days[1::2]))} if kind == "calendar" else {}))
 
 
 def file(link, school, body):

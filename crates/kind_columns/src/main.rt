@@ -1,8 +1,10 @@
-//! Prints the page of filings: each kind with its purpose, example rows, and its columns or fields from the table of kinds.
+//! Prints the page of filings: each kind with its purpose, example rows and their bodies, and its columns or fields from the
+//! table of kinds.
 #![tactic(auto)]
 
 mod words;
 
+use aid_num::{read_cents, read_whole};
 use filing_kinds::{Field, Form, Kind, Limit, Part, key_parts, kind_at, program_words, table_row};
 use std::io;
 use words::{KEY_WORDS, KindWords, words_of};
@@ -35,6 +37,10 @@ fn print_front(rt: &impl Print) -> io::Result<()> {
     )?;
     println!(rt; "A year book is a text of its own, and stands at the end of this page.")?;
     println!(rt; "")?;
+    println!(rt;
+        "Below its purpose each kind has example rows, and below them the bodies of the same filings over HTTP ([HTTP.md](HTTP.md))."
+    )?;
+    println!(rt; "")?;
     println!(rt; "| column | name | what it is | form and range |")?;
     println!(rt; "|---|---|---|---|")?;
     println!(rt; "| 1 | kind | the name of the kind | one of those below |")?;
@@ -60,9 +66,78 @@ fn print_kind(rt: &impl Print, kind: Kind) -> io::Result<()> {
         println!(rt; "    {example}")?;
     }
     println!(rt; "")?;
+    for example in words.examples {
+        print_body(rt, row.name, row.parts, example)?;
+    }
+    println!(rt; "")?;
     println!(rt; "| column | name | what it is | form and range |")?;
     println!(rt; "|---|---|---|---|")?;
     print_columns(rt, row.parts, words)
+}
+
+// The body of an example row: its kind, its number and each field of the kind. The school isn't in it.
+fn print_body(rt: &impl Print, kind: &str, parts: &[Part], example: &str) -> io::Result<()> {
+    print!(rt;
+        "    {{\"kind\":\"{kind}\",\"number\":{}",
+        column_of(example, 3)
+    )?;
+    for (i, part) in parts.iter().enumerate() {
+        print!(rt; ",\"{}\":", part.field.name)?;
+        print_member(rt, part, example, i.saturating_add(4))?;
+    }
+    println!(rt; "}}")
+}
+
+// A column of a row, counted from 1.
+fn column_of(row: &str, number: usize) -> &str {
+    match row.split(',').nth(number.saturating_sub(1)) {
+        Some(text) => text,
+        None => "",
+    }
+}
+
+// The value of a field in a body.
+fn print_member(rt: &impl Print, part: &Part, example: &str, column: usize) -> io::Result<()> {
+    let text = column_of(example, column);
+    match part.field.form {
+        Form::Count => print_counted_rows(rt, part.later, example, column, text),
+        form => print_value(rt, form, text),
+    }
+}
+
+// The value of a column in a body: cents are a whole number there.
+fn print_value(rt: &impl Print, form: Form, text: &str) -> io::Result<()> {
+    match form {
+        Form::Day | Form::Program => print!(rt; "\"{text}\""),
+        Form::Cents => match read_cents(text.as_bytes()) {
+            Ok(cents) => print!(rt; "{cents}"),
+            Err(_) => Ok(()),
+        },
+        _ => print!(rt; "{text}"),
+    }
+}
+
+// The rows that a column counts, each as an array.
+fn print_counted_rows(
+    rt: &impl Print,
+    fields: &[Field],
+    example: &str,
+    count_at: usize,
+    count: &str,
+) -> io::Result<()> {
+    let rows = read_whole(count.as_bytes(), 0, 8).unwrap_or(0);
+    let mut column = count_at;
+    print!(rt; "[")?;
+    for row in 0..rows {
+        print!(rt; "{}", if row == 0 { "[" } else { ",[" })?;
+        for (i, field) in fields.iter().enumerate() {
+            column = column.saturating_add(1);
+            print!(rt; "{}", if i == 0 { "" } else { "," })?;
+            print_value(rt, field.form, column_of(example, column))?;
+        }
+        print!(rt; "]")?;
+    }
+    print!(rt; "]")
 }
 
 fn print_columns(rt: &impl Print, parts: &[Part], words: KindWords) -> io::Result<()> {
