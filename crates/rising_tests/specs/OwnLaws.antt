@@ -1,6 +1,6 @@
 -- The entry that a number may add is itself.
 use Rattle.std.proofs.Common.{◌≡◌, ℕ, refl, Bool, true, false, List, Some, None}
-use Rattle.std.specs.Prelude.{is_some, if◌then◌else◌, Option}
+use Rattle.std.specs.Prelude.{is_some, if◌then◌else◌}
 use Rattle.rising_tests.specs.Rising.{is_next, next_of}
 
 pub own_added : (past : List ℕ) (ask entry : ℕ) → next_of past ask ≡ Some entry → Some ask ≡ Some entry

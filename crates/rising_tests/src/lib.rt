@@ -1,4 +1,4 @@
-//! A kept list and a session over numbers that rise: what an office of another kind has to bring.
+//! A kept list, a session and a round over numbers that rise: what an office of another kind has to bring.
 #![tactic(auto)]
 
 ghost use Rattle.kept_session.specs.Sessions.{Session};
@@ -7,6 +7,8 @@ ghost use Rattle.rising_tests.specs.Rising.{byte_rows, rising_judging, rising_sc
 mod forms;
 mod own;
 mod rising;
+#[cfg(test)]
+mod rounds;
 #[cfg(test)]
 mod tests;
 
