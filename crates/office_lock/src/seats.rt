@@ -63,7 +63,8 @@ impl<T: Turned> Turns<T> {
         self.table.shared.load::<Look<T>>(seat, 1) == number
     }
 
-    // Waits until the seat is served: after some looks, between which the processor is left to others, it sleeps until a turn ends.
+    // Waits until the seat is served. After some looks, between which the processor is left to others, a seat whose turn isn't
+    // the next sleeps until a turn ends.
     fn wait<R: Wait>(&self, rt: &R, seat: &mut SeatOf<T>, number: u64)
         requires lock { seat.old.table_id ≡ self.now.id }
         requires waiting { IsWaiting number seat.old.me }
@@ -79,15 +80,17 @@ impl<T: Turned> Turns<T> {
                 looks += 1;
                 yield_now();
             } else {
-                self.sleep(rt, number);
+                self.rest(rt, number);
             }
         }
     }
 
-    // Sleeps until a turn ends, unless that number is served.
-    fn sleep<R: Wait>(&self, rt: &R, number: u64) {
+    // Leaves the processor to others: until a turn ends, where the turn with this number comes later than the next.
+    fn rest<R: Wait>(&self, rt: &R, number: u64) {
         let served = self.table.shared.peek(1);
-        if served != number {
+        if number.wrapping_sub(served) < 2 {
+            yield_now();
+        } else {
             self.table.shared.park(rt, 1, (served & LOW_WORD) as u32);
         }
     }
