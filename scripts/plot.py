@@ -4,6 +4,7 @@ Awards by Student Aid Index. Draws a picture where matplotlib is installed, and 
 
 usage: plot.py standing|awards YEAR [PICTURE] < REPORT      without PICTURE, standing-YEAR.png or awards-YEAR.png
 """
+import signal
 import sys
 from collections import Counter, defaultdict
 
@@ -115,6 +116,8 @@ def main(which, year, picture=None):
 
 
 if __name__ == "__main__":
+    # A reader that takes some of the lines alone, as head does, ends the program without a word.
+    signal.signal(signal.SIGPIPE, signal.SIG_DFL)
     if len(sys.argv) not in (3, 4) or sys.argv[1] not in KINDS or not sys.argv[2].isdigit():
         refuse("plot takes standing or awards, the year, and perhaps the picture's name")
     main(*sys.argv[1:])

@@ -4,6 +4,7 @@
 usage: show.py BOOK.toml [BEFORE.toml]      without the second, the specimen of examples/ is the book before
 """
 import os
+import signal
 import sys
 
 sys.dont_write_bytecode = True
@@ -91,6 +92,8 @@ def read(path):
 
 
 if __name__ == "__main__":
+    # A reader that takes some of the lines alone, as head does, ends the program without a word.
+    signal.signal(signal.SIGPIPE, signal.SIG_DFL)
     if len(sys.argv) not in (2, 3):
         sys.exit("usage: office show BOOK.toml [BEFORE.toml]")
     path = sys.argv[2] if sys.argv[2:] else SPECIMEN
