@@ -6,6 +6,10 @@ pub on_ok : {T E : Type 0} (r : Result T E) (P : Type 0) → is_err r ≡ false 
 on_ok (Ok v) P is on = on
 on_ok (Err e) P is on = absurd (let bad : ⊥ = cc in bad)
 
+pub on_err : {T E : Type 0} (r : Result T E) (P : Type 0) → is_err r ≡ true → OnErr r P → P
+on_err (Ok v) P is on = absurd (let bad : ⊥ = cc in bad)
+on_err (Err e) P is on = on
+
 pub if_err : {T E : Type 0} (r : Result T E) (P : Type 0) (Q : E → Type 0) → ((e : E) → P → Q e) → OnErr r P → IfErr r Q
 if_err (Ok v) P Q to on = tt
 if_err (Err e) P Q to on = to e on
@@ -41,3 +45,7 @@ ok_any (Err e) P is = tt
 pub err_any : {T E : Type 0} (r : Result T E) (Q : E → Type 0) → ((e : E) → Q e) → IfErr r Q
 err_any (Ok v) Q is = tt
 err_any (Err e) Q is = is e
+
+pub on_err_any : {T E : Type 0} (r : Result T E) (P : Type 0) → P → OnErr r P
+on_err_any (Ok v) P is = tt
+on_err_any (Err e) P is = is

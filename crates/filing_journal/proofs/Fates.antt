@@ -5,7 +5,7 @@ use Rattle.disk_model.specs.declared.disk.Disk.{Ghosts}
 use Rattle.filing_journal.specs.Stands.{Payloads, StandsFor, BeforeOrWith}
 use Rattle.filing_journal.specs.Journal.{Keeps, MayKeep}
 use Rattle.filing_journal.specs.declared.header.Header.{Header}
-use Rattle.filing_journal.specs.Lives.{PayloadFate, Uncertain, FatesAllow, JournalPlace, Left, Open, Pending, JournalLife, begun, founded, opened, crashed_opening, put, refused, undecided, crashed_put, settled, unsettled, crashed_settling, crashed, crashed_pending}
+use Rattle.filing_journal.specs.Lives.{PayloadFate, Uncertain, FatesAllow, JournalPlace, Left, Open, Pending, JournalLife, begun, founded, opened, crashed_opening, put, refused, undecided, crashed_put, lengthened, crashed_lengthening, settled, unsettled, crashed_settling, crashed, crashed_pending}
 
 -- what stands at a place of a life
 Holds : {D : Type 0} (disk : Ghosts D) (header : Header) (before : Payloads) → List PayloadFate → JournalPlace disk → Type 0
@@ -45,6 +45,12 @@ holds disk header before fates place (undecided older old new payload so_far kee
 holds disk header before fates place (crashed_put older old new payload file so_far moments left) =
     let (kept, may, keep) = holds disk header before older (Open old) so_far in
     uncertain header before kept older payload file may ((moments (before ++ kept) keep).each file left)
+holds disk header before fates place (lengthened older old new so_far keeps) =
+    let (kept, may, keep) = holds disk header before older (Open old) so_far in
+    (kept, may, keeps (before ++ kept) keep)
+holds disk header before fates place (crashed_lengthening older old new file so_far moments left) =
+    let (kept, may, keep) = holds disk header before older (Open old) so_far in
+    (kept, may, (moments (before ++ kept) keep).each file left)
 holds disk header before fates place (settled older old new payload so_far keeps) =
     let (kept, may, keep) = holds disk header before older (Pending old payload) so_far in
     (kept ++ payload ∷ [], (kept, may, refl), subst (λ (l : Payloads). Keeps disk header new l) (more before kept payload) (keeps (before ++ kept) keep))

@@ -8,7 +8,7 @@ use Rattle.filing_journal.specs.Stands.{Payloads, StandsFor, BeforeOrWith, WithG
 use Rattle.filing_journal.specs.Header.{header_bytes}
 use Rattle.filing_journal.specs.declared.header.Header.{Header}
 use Rattle.filing_journal.proofs.Headers.{length-front_of}
-use Rattle.filing_journal.proofs.Bytes.{torn_front, cut_front, overwrite_front, split_at, set_split, length-slice_set, length-take_le, torn_set, torn_length, overwrite_set, length-overwrite_end, same_front}
+use Rattle.filing_journal.proofs.Bytes.{torn_front, cut_front, overwrite_front, split_at, set_split, length-slice_set, length-take_le, torn_set, overwrite_set, length-overwrite_end, same_front}
 
 records-push : (h : Payloads) (p : List ℕ) → records (h ++ p ∷ []) ≡ records h ++ 1 ∷ body_of p
 records-push [] p = ap (λ (l : List ℕ). 1 ∷ l) (append-nil (body_of p))
@@ -125,10 +125,6 @@ staged_ends old new gate h p place ends kept x now =
     let at : gate + 1 ≡ length old.reads = omega (arith, place, ends) in
     ap length (kept.quiet x now ∙ kept.reads ∙ ap (λ (k : ℕ). overwrite k block old.reads) at) ∙ length-overwrite_end old.reads block
     ∙ (let size : length old.reads + length block ≡ gate_place (h ++ p ∷ []) + 1 = omega (arith, ends, length-append (body_of p) (0 ∷ []), gate_place-push h p) in size)
-
--- a torn write of the gate leaves the length of such a file
-pub gate_length : (header : Header) (d c : List ℕ) (h : Payloads) (p : List ℕ) → WithGateOpen header h p d → Torn (gate_place h) 1 d c → length c ≡ length d
-gate_length header d c h p s torn = torn_length d c (gate_place h) 1 (omega (arith, gate_inside header d h p s)) torn
 
 -- the file cut behind its gate
 pub cut_done : (header : Header) (d : List ℕ) (h : Payloads) → StandsFor header d h → StandsFor header (take (gate_place h + 1) d) h

@@ -9,3 +9,4 @@ pub mod Pieces
 pub mod States
 pub mod Steps
 pub mod Unique
+pub mod Written

@@ -2,6 +2,7 @@
 use Rattle.std.specs.Prelude.{◌≡◌, ℕ, List, length, Some, None, IsSome}
 use Rattle.disk_model.specs.Telling.{EachImage}
 use Rattle.disk_model.specs.declared.disk.Disk.{Ghosts}
+use Rattle.filing_journal.specs.Ahead.{IsAhead}
 use Rattle.filing_journal.specs.Stands.{Payloads, StandsFor, BeforeOrWith, WithGateOpen, gate_place}
 use Rattle.filing_journal.specs.declared.header.Header.{Header}
 use Rattle.filing_journal.specs.declared.journal.Journal.{Journal}
@@ -14,6 +15,14 @@ journal_disk journal = journal.disk
 abbrev pub journal_count : {D : Type 0} {disk : Ghosts D} → Journal D disk → ℕ
 journal_count journal = journal.count
 
+-- the payload that was written ahead, none where it has no bytes
+abbrev pub journal_ahead : {D : Type 0} {disk : Ghosts D} → Journal D disk → List ℕ
+journal_ahead journal = journal.ahead
+
+-- its file may be made longer
+abbrev pub MayLengthen : {D : Type 0} {disk : Ghosts D} → Journal D disk → Type 0
+MayLengthen journal = IsSome journal.lengthened
+
 -- nothing is undecided
 abbrev pub IsDecided : {D : Type 0} {disk : Ghosts D} → Journal D disk → Type 0
 IsDecided journal = journal.undecided ≡ None
@@ -22,9 +31,10 @@ IsDecided journal = journal.undecided ≡ None
 abbrev pub HasUndecided : {D : Type 0} {disk : Ghosts D} → Journal D disk → Type 0
 HasUndecided journal = IsSome journal.undecided
 
--- nothing is undecided: each image stands for the payloads
+-- nothing is undecided: each image stands for the payloads, and has behind them what was written ahead
 pub record Keeps {D : Type 0} (disk : Ghosts D) (header : Header) (journal : Journal D disk) (payloads : Payloads) : Type 0 where
   pub each : EachImage (disk.tells journal.disk) (λ file. StandsFor header file payloads)
+  pub ahead : IsAhead header (disk.tells journal.disk) payloads journal.ahead
   pub decided : journal.undecided ≡ None
   pub gate : journal.gate ≡ gate_place payloads
   pub count : journal.count ≡ length payloads

@@ -1,5 +1,6 @@
 pub use Rattle.disk_model.specs.Faults
 pub use Rattle.disk_model.specs.Telling
+pub mod Ahead
 pub mod Founded
 pub mod Head
 pub mod Header

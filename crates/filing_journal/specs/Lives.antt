@@ -61,6 +61,15 @@ pub data JournalLife {D : Type 0} (disk : Ghosts D) (header : Header) (before : 
       → ((h : Payloads) → Keeps disk header old h → EachMoment (disk.tells old.disk) (disk.tells new.disk) (BeforeOrWith header h payload))
       → (disk.tells new.disk).image_since (disk.tells old.disk).moment file
       → JournalLife disk header before (Uncertain payload ∷ fates) (Left file)
+  lengthened : (fates : List PayloadFate) (old new : Journal D disk)
+      → JournalLife disk header before fates (Open old)
+      → ((h : Payloads) → Keeps disk header old h → Keeps disk header new h)
+      → JournalLife disk header before fates (Open new)
+  crashed_lengthening : (fates : List PayloadFate) (old new : Journal D disk) (file : List ℕ)
+      → JournalLife disk header before fates (Open old)
+      → ((h : Payloads) → Keeps disk header old h → EachMoment (disk.tells old.disk) (disk.tells new.disk) (λ c. StandsFor header c h))
+      → (disk.tells new.disk).image_since (disk.tells old.disk).moment file
+      → JournalLife disk header before fates (Left file)
   settled : (fates : List PayloadFate) (old new : Journal D disk) (payload : List ℕ)
       → JournalLife disk header before fates (Pending old payload)
       → ((h : Payloads) → MayKeep disk header old h payload → Keeps disk header new (h ++ payload ∷ []))

@@ -1,5 +1,5 @@
 //! What no clause says of journals: the bytes of worked files, the answers at named files, and what faults and stops leave.
-ghost use Rattle.std.specs.Prelude.{◌≡◌, ◌<◌, [], IfOk};
+ghost use Rattle.std.specs.Prelude.{◌≡◌, ◌<◌, ◌≤◌, [], IfOk, length};
 ghost use Rattle.disk_model.specs.Telling.{IsHonest};
 ghost use Rattle.filing_journal.specs.Stands.{Payloads};
 ghost use Rattle.filing_journal.specs.Journal.{Keeps, IsDecided, journal_disk, journal_count};
@@ -32,6 +32,9 @@ const PRIOR: [u8; 25] = *b"\x04\0\0\0\0\x02\0\0\0\0\0\0\0\x89\x13\0\0\0\0\0\0\x7
 const BOTH: [u8; 71] =
     *b"\x01AIDPELL1\x01\0\0\0\0\0\0\x01\x13\0\0\0\x02\0\0\0\0\x01\0\0\0\0\0\0\0\x6e\0\0\0\x02\x0c\x01\x19\0\0\0\x04\0\0\0\0\x02\0\0\0\0\0\0\0\x89\x13\0\0\0\0\0\0\x70\x64\x08\0\0";
 
+// What a first put may write ahead: nothing, the payload that comes next, or another one of its length or not.
+const GUESSES: [&[u8]; 4] = [&[], &PRIOR, &SCHOOL, &[9; 25]];
+
 // How far a session came that founds a journal and puts both payloads.
 #[derive(Clone, Copy, Debug, PartialEq, Eq)]
 enum Went {
@@ -41,12 +44,15 @@ enum Went {
     Well,
 }
 
-fn session<D: Disk>(disk: D) -> (Went, D) {
+// Founds a journal, and puts both payloads. The first put writes the guess ahead.
+fn session<D: Disk>(disk: D, guess: &[u8]) -> (Went, D)
+    requires { length guess.now ≤ 8192 }
+{
     let mut journal = match found(disk, HEADER) {
         Ok(journal) => journal,
         Err((_, disk)) => return (Went::NotFounded, disk),
     };
-    match journal.put(&SCHOOL) {
+    match journal.put_ahead(&SCHOOL, guess) {
         Err(e) => (Went::First(e), journal.into_disk()),
         Ok(()) => match journal.put(&PRIOR) {
             Err(e) => (Went::Second(e), journal.into_disk()),
@@ -142,9 +148,11 @@ fn disk(
 fn writes_the_worked_files(rt: HostRuntime) -> Result<(), Fail> {
     let empty = founded(disk(rt.alloc(), &[], &[], None)?);
     assert_eq!(rt; empty.image(), EMPTY.as_slice());
-    let (went, both) = session(disk(rt.alloc(), b"junk", &[], None)?);
-    assert_eq!(rt; went, Went::Well);
-    assert_eq!(rt; both.image(), BOTH.as_slice());
+    for guess in GUESSES {
+        let (went, both) = session(disk(rt.alloc(), b"junk", &[], None)?, guess);
+        assert_eq!(rt; went, Went::Well);
+        assert_eq!(rt; both.image(), BOTH.as_slice());
+    }
     Ok(())
 }
 
@@ -210,8 +218,14 @@ const SEVENS: [(usize, Result<u64, OpenError>); 4] = [
 #[test]
 fn says_what_a_fault_left(rt: HostRuntime) -> Result<(), Fail> {
     for call in 1..18 {
-        let (went, _) = session(disk(rt.alloc(), b"junk", &[call], None)?);
+        let (went, _) = session(disk(rt.alloc(), b"junk", &[call], None)?, &[]);
         assert_eq!(rt; went, of_fault(call), "call {call} fails");
+        let (went, _) = session(disk(rt.alloc(), b"junk", &[call], None)?, &PRIOR);
+        assert_eq!(rt;
+            went,
+            of_fault_ahead(call),
+            "call {call} fails, with the second payload ahead"
+        );
     }
     Ok(())
 }
@@ -227,6 +241,79 @@ fn of_fault(call: u64) -> Went {
         13 | 14 => Went::Second(before),
         15 | 16 => Went::Second(either),
         _ => Went::Well,
+    }
+}
+
+// The same where the first put writes the second payload ahead, by one call more: the second put then takes two.
+fn of_fault_ahead(call: u64) -> Went {
+    let either = PutError::DiskFault { undecided: true };
+    match call {
+        1..=12 => of_fault(call),
+        13 => Went::First(either),
+        14 | 15 => Went::Second(either),
+        _ => Went::Well,
+    }
+}
+
+#[test]
+fn keeps_what_stood_where_it_stops_with_a_payload_ahead(rt: HostRuntime) -> Result<(), Fail> {
+    let mut room = Room::new(rt.alloc())?;
+    for guess in GUESSES {
+        for call in 9..18 {
+            for fill in [Fill::Unwritten, Fill::Written, Fill::With(1), Fill::With(7)] {
+                let stopping = disk(rt.alloc(), b"", &[], Some(DiskStop { call, fill }))?;
+                let (went, stopped) = session(stopping, guess);
+                let stood = read_of(rt.alloc(), stopped.image(), &mut room)?;
+                let (sure, more) = standing(went);
+                assert!(rt;
+                    stood == Ok(sure) || (more && stood == Ok(sure + 1)),
+                    "call {call}"
+                );
+            }
+        }
+    }
+    Ok(())
+}
+
+// Founds a journal, and puts a payload into a file that was made longer.
+fn session_lengthened<D: Disk>(disk: D) -> (Went, D) {
+    let mut journal = match found(disk, HEADER) {
+        Ok(journal) => journal,
+        Err((_, disk)) => return (Went::NotFounded, disk),
+    };
+    journal.allow_lengthening();
+    if journal.lengthen(SCHOOL.len()).is_err() {
+        return (
+            Went::First(PutError::DiskFault { undecided: false }),
+            journal.into_disk(),
+        );
+    }
+    match journal.put(&SCHOOL) {
+        Err(e) => (Went::First(e), journal.into_disk()),
+        Ok(()) => (Went::Well, journal.into_disk()),
+    }
+}
+
+#[test]
+fn lengthens_by_zeros(rt: HostRuntime) -> Result<(), Fail> {
+    let (went, left) = session_lengthened(disk(rt.alloc(), b"", &[], None)?);
+    assert_eq!(rt; went, Went::Well);
+    let image = left.image();
+    assert_eq!(rt; image.len(), 17 + 4096);
+    assert!(rt; image.starts_with(&BOTH[..40]));
+    assert!(rt; image.iter().skip(40).all(|byte| *byte == 0));
+    Ok(())
+}
+
+// How many payloads stand for sure where a session came so far, and whether one more may.
+fn standing(went: Went) -> (u64, bool)
+    ensures { result.0 ≤ 2 }
+{
+    match went {
+        Went::NotFounded => (0, false),
+        Went::First(PutError::DiskFault { undecided }) => (0, undecided),
+        Went::Second(PutError::DiskFault { undecided }) => (1, undecided),
+        Went::Well => (2, false),
     }
 }
 

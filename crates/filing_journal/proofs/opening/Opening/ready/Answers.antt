@@ -13,7 +13,7 @@ returns-in-Ok-clause-kept g c honest header h all =
     let kept : IsKept (take (c.args.self.gate + 1) old.reads) new = c.in-Ok.ensures.done honest in
     let at = c.at.ensures in
     let stands : (x : List ℕ) → new.image x → StandsFor header x h = λ x now. subst (λ l. StandsFor header l h) (sym (kept.quiet x now ∙ kept.reads ∙ ap (λ (k : ℕ). take (k + 1) old.reads) all.gate)) (cut_done header old.reads h all.stands) in
-    record { each = subst (λ d. (x : List ℕ) → (g.D.Disk.tells d).image x → StandsFor header x h) (sym at.disk) stands; decided = at.decided; gate = at.gate ∙ all.gate; count = at.count ∙ all.count }
+    record { each = subst (λ d. (x : List ℕ) → (g.D.Disk.tells d).image x → StandsFor header x h) (sym at.disk) stands; ahead = λ some. absurd (omega (arith, some, ap length at.ahead)); decided = at.decided; gate = at.gate ∙ all.gate; count = at.count ∙ all.count }
 
 pub returns-in-Ok-clause-quiet : goal.returns-in-Ok-clause-quiet
 returns-in-Ok-clause-quiet g c honest =

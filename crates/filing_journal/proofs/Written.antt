@@ -1,0 +1,207 @@
+-- What the images stand for when a gate is opened and the next payload is written ahead.
+use Rattle.std.proofs.Common.{◌≡◌, ◌⊎◌, inl, inr, ℕ, zero, suc, ◌+◌, ◌-◌, ◌<◌, ◌≤◌, List, [], ◌∷◌, ◌++◌, length, take, drop, refl, sym, ◌∙◌, ap, subst, arith, append_assoc, length-append, length-drop, take-append-drop}
+use Rattle.std.proofs.lemmas.List.{append-nil}
+use Rattle.std.specs.Prelude.{slice_set}
+use Rattle.disk_model.specs.Telling.{Telling, Torn, After, EachImage, EachMoment, IsKeptWrite, IsWrite, overwrite}
+use Rattle.disk_model.proofs.Moments.{torn_none, started, goes_on, weaken, join}
+use Rattle.filing_journal.specs.Ahead.{block_of, IsAhead, GateWrites, IsKeptGateWrites, with_gate_written}
+use Rattle.filing_journal.specs.Stands.{Payloads, StandsFor, WithGateOpen, gate_place, front_of, body_of}
+use Rattle.filing_journal.specs.declared.header.Header.{Header}
+use Rattle.filing_journal.proofs.Headers.{length-front_of}
+use Rattle.filing_journal.proofs.Bytes.{torn_length, torn_front, overwrite_front, length-take_le, length-slice_set}
+use Rattle.filing_journal.proofs.Gates.{gate_in, gate_torn, gate_written, gate_place-push, staged}
+
+-- a block of a payload that is one
+pub block_some : (p : List ℕ) → 1 ≤ length p → block_of p ≡ body_of p ++ 0 ∷ []
+block_some [] some = absurd (omega arith)
+block_some (b ∷ p) some = refl
+
+pub length-block_some : (p : List ℕ) → 1 ≤ length p → length p + 5 ≡ length (block_of p)
+length-block_some [] some = absurd (omega arith)
+length-block_some (b ∷ p) some = omega (arith, length-append (body_of (b ∷ p)) (0 ∷ []))
+
+pub length-block_of : (p : List ℕ) → length p ≤ 8192 → length (block_of p) ≤ 8197
+length-block_of [] le = omega arith
+length-block_of (b ∷ p) le = omega (arith, le, length-append (body_of (b ∷ p)) (0 ∷ []))
+
+-- a list without length has nothing
+pub nothing : (l : List ℕ) → length l ≡ 0 → l ≡ []
+nothing [] none = refl
+nothing (x ∷ l) none = absurd (omega (arith, none))
+
+-- what is written of a part that is all or nothing is no more than all
+pub length-block_part : (part p : List ℕ) → (part ≡ p) ⊎ (part ≡ []) → length (block_of part) ≤ length (block_of p)
+length-block_part part p (inl all) = omega (arith, ap (λ (l : List ℕ). length (block_of l)) all)
+length-block_part part p (inr none) = omega (arith, ap (λ (l : List ℕ). length (block_of l)) none)
+
+pub part_none : (part p : List ℕ) → (part ≡ p) ⊎ (part ≡ []) → p ≡ [] → part ≡ []
+part_none part p (inl all) is = all ∙ is
+part_none part p (inr none) is = none
+
+overwrite_none : (at : ℕ) (file : List ℕ) → overwrite at [] file ≡ file
+overwrite_none at file =
+    let same : at + 0 ≡ at = omega arith in
+    ap (λ (n : ℕ). take at file ++ [] ++ drop n file) same ∙ ap (λ (l : List ℕ). l ++ drop at file) (append-nil (take at file)) ∙ take-append-drop at file
+
+-- where no payload is written ahead, the gate alone is written
+pub opened_none : (gate behind : ℕ) (next file : List ℕ) → next ≡ [] → overwrite gate (1 ∷ []) file ≡ with_gate_written gate behind next file
+opened_none gate behind next file none =
+    sym (ap (λ (l : List ℕ). with_gate_written gate behind l file) none ∙ overwrite_none (behind + 1) (overwrite gate (1 ∷ []) file))
+
+-- a torn write makes a file no longer than its own end and the file's
+pub torn_within : (d c : List ℕ) (at n end : ℕ) → length d ≤ end → at + n ≤ end → Torn at n d c → length c ≤ end
+torn_within d c at n end le in_end torn = omega (arith, le, in_end, length-drop (at + n) c, length-drop (at + n) d, ap length torn.behind)
+
+take-set : (n : ℕ) (l : List ℕ) (k v : ℕ) → take n (slice_set l k v) ≡ slice_set (take n l) k v
+take-set zero l k v = refl
+take-set (suc n) [] k v = refl
+take-set (suc n) (x ∷ l) zero v = refl
+take-set (suc n) (x ∷ l) (suc k) v = ap (λ (m : List ℕ). x ∷ m) (take-set n l k v)
+
+drop-set : (n : ℕ) (l : List ℕ) (k v : ℕ) → k < n → drop n (slice_set l k v) ≡ drop n l
+drop-set zero l k v lt = absurd (omega arith)
+drop-set (suc n) [] k v lt = refl
+drop-set (suc n) (x ∷ l) zero v lt = refl
+drop-set (suc n) (x ∷ l) (suc k) v lt = drop-set n l k v (omega (arith, lt))
+
+-- a byte before a torn write may be set before it or behind it
+torn_set_before : (d c : List ℕ) (k v at n : ℕ) → k < at → Torn at n d c → Torn at n (slice_set d k v) (slice_set c k v)
+torn_set_before d c k v at n lt torn = record {
+  before = ap (λ (l : List ℕ). take (length l) (slice_set c k v)) (take-set at d k v)
+      ∙ ap (λ (m : ℕ). take m (slice_set c k v)) (length-slice_set (take at d) k v)
+      ∙ take-set (length (take at d)) c k v ∙ ap (λ (l : List ℕ). slice_set l k v) torn.before ∙ sym (take-set at d k v);
+  behind = drop-set (at + n) c k v (omega (arith, lt)) ∙ torn.behind ∙ sym (drop-set (at + n) d k v (omega (arith, lt)));
+  no_shorter = omega (arith, length-slice_set c k v, length-slice_set d k v, torn.no_shorter);
+}
+
+-- what is written anywhere behind the gate leaves what the file stands for
+pub behind_keeps : (header : Header) (d c : List ℕ) (h : Payloads) (at n : ℕ) → StandsFor header d h → gate_place h + 1 ≤ at → at ≤ length d → Torn at n d c → StandsFor header c h
+behind_keeps header d c h at n s le inside torn =
+    let k = at - (gate_place h + 1) in
+    let front = front_of header h ++ s.gate ∷ [] in
+    let xs = front ++ take k s.free in
+    let whole : d ≡ xs ++ drop k s.free = s.whole ∙ sym (append_assoc (front_of header h) (s.gate ∷ []) s.free)
+    ∙ ap (λ (l : List ℕ). front ++ l) (sym (take-append-drop k s.free)) ∙ sym (append_assoc front (take k s.free) (drop k s.free)) in
+    let size : length front ≡ gate_place h + 1 = omega (arith, length-front_of header h, length-append (front_of header h) (s.gate ∷ [])) in
+    let room : k ≤ length s.free = omega (arith, inside, size, ap length s.whole, length-append (front_of header h) (s.gate ∷ s.free), length-front_of header h) in
+    let place : at ≡ length xs = omega (arith, le, size, length-append front (take k s.free), length-take_le k s.free room) in
+    let is = torn_front xs (drop k s.free) c at n place (subst (λ (l : List ℕ). Torn at n l c) whole torn) in
+    record {
+      gate = s.gate;
+      free = take k s.free ++ drop at c;
+      closed = s.closed;
+      whole = is ∙ append_assoc front (take k s.free) (drop at c) ∙ append_assoc (front_of header h) (s.gate ∷ []) (take k s.free ++ drop at c);
+      sizes = s.sizes;
+    }
+
+-- a torn write behind a payload that stands behind the gate leaves that
+pub ahead_torn : (header : Header) (d c : List ℕ) (h : Payloads) (p : List ℕ) (n : ℕ) → WithGateOpen header h p d → Torn (gate_place (h ++ p ∷ []) + 1) n d c → WithGateOpen header h p c
+ahead_torn header d c h p n s torn =
+    let k = gate_place h in
+    let at = gate_place (h ++ p ∷ []) + 1 in
+    behind_keeps header (slice_set d k 1) (slice_set c k 1) (h ++ p ∷ []) at n s (omega arith)
+    (gate_in header (slice_set d k 1) (h ++ p ∷ []) s) (torn_set_before d c k 1 at n (omega (arith, gate_place-push h p)) torn)
+
+-- the file goes on behind the payload that stands behind the gate
+pub ahead_in : (header : Header) (d : List ℕ) (h : Payloads) (p : List ℕ) → WithGateOpen header h p d → gate_place (h ++ p ∷ []) + 1 ≤ length d
+ahead_in header d h p s = omega (arith, gate_in header (slice_set d (gate_place h) 1) (h ++ p ∷ []) s, length-slice_set d (gate_place h) 1)
+
+-- the two writes, torn or not, leave the payload behind its gate
+pub opening_torn : (header : Header) (d c : List ℕ) (h : Payloads) (p : List ℕ) (gate behind n : ℕ) → gate ≡ gate_place h → behind ≡ gate_place (h ++ p ∷ [])
+    → WithGateOpen header h p d → GateWrites gate behind n d c → WithGateOpen header h p c
+opening_torn header d c h p gate behind n place next s step =
+    let first = gate_torn header d step.0 h p s (subst (λ (k : ℕ). Torn k 1 d step.0) place step.1) in
+    ahead_torn header step.0 c h p n first (subst (λ (k : ℕ). Torn (k + 1) n step.0 c) next step.2)
+
+-- and make it no longer than its own end and that of the second write
+pub opening_within : (d c : List ℕ) (gate behind n end : ℕ) → gate < behind → length d ≤ end → behind + 1 + n ≤ end → GateWrites gate behind n d c → length c ≤ end
+opening_within d c gate behind n end lt le in_end step =
+    torn_within step.0 c (behind + 1) n end (torn_within d step.0 gate 1 end le (omega (arith, lt, in_end)) step.1) in_end step.2
+
+-- what is written behind the gate leaves what the file stands for
+overwrite_keeps : (header : Header) (d c : List ℕ) (h : Payloads) (block : List ℕ) → StandsFor header d h → c ≡ overwrite (gate_place h + 1) block d → StandsFor header c h
+overwrite_keeps header d c h block s is =
+    let front = front_of header h ++ s.gate ∷ [] in
+    let at = gate_place h + 1 in
+    let whole : d ≡ front ++ s.free = s.whole ∙ sym (append_assoc (front_of header h) (s.gate ∷ []) s.free) in
+    let place : at ≡ length front = omega (arith, length-front_of header h, length-append (front_of header h) (s.gate ∷ [])) in
+    let rest = block ++ drop (at + length block) (front ++ s.free) in
+    record {
+      gate = s.gate;
+      free = rest;
+      closed = s.closed;
+      whole = is ∙ ap (λ (l : List ℕ). overwrite at block l) whole ∙ overwrite_front front s.free block at place ∙ append_assoc (front_of header h) (s.gate ∷ []) rest;
+      sizes = s.sizes;
+    }
+
+-- once both writes are on the disk, the file stands for the payloads with it
+pub opened_stands : (header : Header) (d c : List ℕ) (h : Payloads) (p next : List ℕ) (gate behind : ℕ) → gate ≡ gate_place h → behind ≡ gate_place (h ++ p ∷ [])
+    → WithGateOpen header h p d → c ≡ with_gate_written gate behind next d → StandsFor header c (h ++ p ∷ [])
+opened_stands header d c h p next gate behind place after s is =
+    let m = overwrite gate (1 ∷ []) d in
+    overwrite_keeps header m c (h ++ p ∷ []) (block_of next) (gate_written header d m h p s (ap (λ (k : ℕ). overwrite k (1 ∷ []) d) place))
+    (is ∙ ap (λ (k : ℕ). overwrite (k + 1) (block_of next) m) after)
+
+-- and has the next one behind its gate
+pub opened_ahead : (header : Header) (d c : List ℕ) (h : Payloads) (p next : List ℕ) (gate behind : ℕ) → gate ≡ gate_place h → behind ≡ gate_place (h ++ p ∷ [])
+    → WithGateOpen header h p d → 1 ≤ length next → length next ≤ 8192 → c ≡ with_gate_written gate behind next d → WithGateOpen header (h ++ p ∷ []) next c
+opened_ahead header d c h p next gate behind place after s some fits is =
+    let m = overwrite gate (1 ∷ []) d in
+    staged header m c (h ++ p ∷ []) next (record { some = some; fits = fits }) (gate_written header d m h p s (ap (λ (k : ℕ). overwrite k (1 ∷ []) d) place))
+    (is ∙ ap (λ (k : ℕ). overwrite (k + 1) (block_of next) m) after ∙ ap (λ (l : List ℕ). overwrite (gate_place (h ++ p ∷ []) + 1) l m) (block_some next some))
+
+-- the first write alone, done or failed
+pub opening_begun : (old new : Telling) (gate behind n : ℕ) → ((c : List ℕ) → old.image_since old.moment c → old.image c) → IsWrite gate 1 old new → IsKeptGateWrites gate behind n old new
+opening_begun old new gate behind n only write = record {
+  images = λ c now. let from = write.images c now in (from.0, from.1, (c, from.2, torn_none (behind + 1) n c));
+  moments = goes_on old old new (After (GateWrites gate behind n) old.image)
+      (started old (After (GateWrites gate behind n) old.image) (λ c since. (c, only c since, (c, torn_none gate 1 c, torn_none (behind + 1) n c))))
+      write.time (λ c now. let from = write.images c now in (from.0, from.1, (c, from.2, torn_none (behind + 1) n c)));
+}
+
+-- both writes and the sync, done or failed
+pub opening_kept : (old mid new : Telling) (gate behind n : ℕ) → ((c : List ℕ) → old.image_since old.moment c → old.image c) → IsWrite gate 1 old mid → IsKeptWrite (behind + 1) n mid new
+    → IsKeptGateWrites gate behind n old new
+opening_kept old mid new gate behind n only first second =
+    let begun = opening_begun old mid gate behind n only first in
+    let both : (c : List ℕ) → After (Torn (behind + 1) n) mid.image c → After (GateWrites gate behind n) old.image c = λ c after.
+    let from = first.images after.0 after.1 in (from.0, from.1, (after.0, from.2, after.2)) in
+    record {
+      images = λ c now. both c (second.images c now);
+      moments = join old mid new (After (GateWrites gate behind n) old.image) begun.moments (weaken mid new (After (Torn (behind + 1) n) mid.image) (After (GateWrites gate behind n) old.image) both second.moments);
+    }
+
+-- what was written ahead, if anything, lies in the file with its closed gate
+pub ahead_inside : (header : Header) (d : List ℕ) (h : Payloads) (ahead : List ℕ) → StandsFor header d h → (1 ≤ length ahead → WithGateOpen header h ahead d)
+    → gate_place h + 1 + length (block_of ahead) ≤ length d
+ahead_inside header d h [] s stands = omega (arith, gate_in header d h s)
+ahead_inside header d h (b ∷ p) s stands = omega (arith, ahead_in header d h (b ∷ p) (stands (omega arith)), gate_place-push h (b ∷ p), length-block_some (b ∷ p) (omega arith))
+
+-- a write behind it, done or failed, leaves it and what the file stands for
+pub lengthened_stands : (header : Header) (old new : Telling) (h : Payloads) (ahead : List ℕ) (at n : ℕ) → at ≡ gate_place h + 1 + length (block_of ahead)
+    → EachImage old (λ file. StandsFor header file h) → IsAhead header old h ahead → IsWrite at n old new → EachImage new (λ file. StandsFor header file h)
+lengthened_stands header old new h ahead at n place each stands write c now =
+    let from = write.images c now in
+    behind_keeps header from.0 c h at n (each from.0 from.1) (omega (arith, place))
+    (omega (arith, place, ahead_inside header from.0 h ahead (each from.0 from.1) (λ some. stands some from.0 from.1))) from.2
+
+pub lengthened_ahead : (header : Header) (old new : Telling) (h : Payloads) (ahead : List ℕ) (at n : ℕ) → at ≡ gate_place h + 1 + length (block_of ahead)
+    → IsAhead header old h ahead → IsWrite at n old new → IsAhead header new h ahead
+lengthened_ahead header old new h ahead at n place stands write some c now =
+    let from = write.images c now in
+    let behind : at ≡ gate_place (h ++ ahead ∷ []) + 1 = omega (arith, place, gate_place-push h ahead, length-block_some ahead some) in
+    ahead_torn header from.0 c h ahead n (stands some from.0 from.1) (subst (λ (k : ℕ). Torn k n from.0 c) behind from.2)
+
+-- and so at every moment of it
+pub lengthened_moments : (header : Header) (old new : Telling) (h : Payloads) (ahead : List ℕ) (at n : ℕ) → ((c : List ℕ) → old.image_since old.moment c → old.image c)
+    → at ≡ gate_place h + 1 + length (block_of ahead) → EachImage old (λ file. StandsFor header file h) → IsAhead header old h ahead → IsWrite at n old new
+    → EachMoment old new (λ file. StandsFor header file h)
+lengthened_moments header old new h ahead at n only place each stands write =
+    goes_on old old new (λ file. StandsFor header file h) (started old (λ file. StandsFor header file h) (λ c since. each c (only c since)))
+    write.time (lengthened_stands header old new h ahead at n place each stands write)
+
+-- where no payload is written ahead, the file keeps its length
+pub opening_length : (d c : List ℕ) (gate behind n : ℕ) → n ≡ 0 → gate + 1 ≤ length d → behind + 1 ≤ length d → GateWrites gate behind n d c → length c ≡ length d
+opening_length d c gate behind n none inside room step =
+    let first : length step.0 ≡ length d = torn_length d step.0 gate 1 inside step.1 in
+    torn_length step.0 c (behind + 1) n (omega (arith, none, room, first)) step.2 ∙ first
