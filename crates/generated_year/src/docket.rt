@@ -164,6 +164,14 @@ impl<R: Docket<Entry = Filing, Ask = Ask, Verdict = Verdict>> Docket for Generat
         R::put(filing, room);
     }
 
+    fn foresee(ask: &YearAsk, room: &mut Room) {
+        match ask {
+            YearAsk::File(filing) => R::put(filing, room),
+            // What it pays is known once it is judged.
+            YearAsk::PayQuote(_) => room.clear(),
+        }
+    }
+
     fn take(alloc: Global, bytes: &[u8]) -> Result<Filing, TakeFault> {
         R::take(alloc, bytes)
     }

@@ -38,6 +38,27 @@ pub undecided_stands : {D Entry : Type 0} (disk : Ghosts D) (scheme : Scheme Ent
 undecided_stands disk scheme journal h spare None some whole honest = absurd (some refl)
 undecided_stands disk scheme journal h spare (Some e) some whole honest = (scheme.header, (payloads_of scheme.spelling h, (scheme.spelling e, whole.keeps honest)))
 
+-- a journal on the same disk that keeps the same
+pub same_whole : {D Entry : Type 0} (disk : Ghosts D) (scheme : Scheme Entry) (old new : Journal D disk) (h : List Entry) (spare : ℕ) (p : Option Entry) → journal_disk new ≡ journal_disk old
+    → ((header : Header) (before : Payloads) → Keeps disk header old before → Keeps disk header new before)
+    → ((header : Header) (before : Payloads) (payload : List ℕ) → MayKeep disk header old before payload → MayKeep disk header new before payload)
+    → journal_count new ≡ journal_count old → (IsDecided old → IsDecided new) → (HasUndecided old → HasUndecided new)
+    → IsWhole disk scheme old h spare p → IsWhole disk scheme new h spare p
+same_whole {D} disk scheme old new h spare None same keeps may count decided undecided whole = record {
+  count = count ∙ whole.count;
+  range = whole.range;
+  aside = decided whole.aside;
+  sound = subst (λ (d : D). IsHonest (disk.tells d) → IsSound scheme (disk.tells d) h None) (sym same) whole.sound;
+  keeps = λ honest. keeps scheme.header (payloads_of scheme.spelling h) (whole.keeps (subst (λ (d : D). IsHonest (disk.tells d)) same honest));
+}
+same_whole {D} disk scheme old new h spare (Some e) same keeps may count decided undecided whole = record {
+  count = count ∙ whole.count;
+  range = whole.range;
+  aside = (undecided whole.aside.0, whole.aside.1, whole.aside.2);
+  sound = subst (λ (d : D). IsHonest (disk.tells d) → IsSound scheme (disk.tells d) h (Some e)) (sym same) whole.sound;
+  keeps = λ honest. may scheme.header (payloads_of scheme.spelling h) (scheme.spelling e) (whole.keeps (subst (λ (d : D). IsHonest (disk.tells d)) same honest));
+}
+
 -- a put of this entry's spelling where nothing is undecided, and its journal after
 pub record IsPut {D Entry : Type 0} (disk : Ghosts D) (scheme : Scheme Entry) (journal new : Journal D disk) (h : List Entry) (spare : ℕ) (p : Option Entry) (e : Entry) (payload : List ℕ) : Type 0 where
   pub none : p ≡ None

@@ -7,6 +7,7 @@ ghost use Rattle.filing_journal.specs.Stands.{IsUnborn};
 ghost use Rattle.filing_journal.specs.Founded.{UnbornOrEmpty};
 
 use crate::reading::read_all;
+use crate::writing::lengthen_and_put;
 use crate::{Docket, Judged, ListReply};
 use disk_model::Disk;
 use filing_journal::{FoundError, Journal, OpenError, PutError};
@@ -36,6 +37,8 @@ pub struct KeptList<D: Disk, R: Docket> {
     // The entry that is undecided. One of the docket's spare places is its own.
     pending: Option<R::Entry>,
     room: Room,
+    // What the next ask may add.
+    ahead: Room,
 }
 
 impl<D: Disk, R: Docket> Model for KeptList<D, R> {
@@ -101,12 +104,16 @@ impl<D: Disk, R: Docket> KeptList<D, R> {
         let Ok(room) = Room::new(alloc) else {
             return Err((FoundFault::NoMemory, disk));
         };
+        let Ok(ahead) = Room::new(alloc) else {
+            return Err((FoundFault::NoMemory, disk));
+        };
         match filing_journal::found(disk, R::header()) {
             Ok(journal) => Ok(KeptList {
                 docket: R::new(alloc),
                 journal,
                 pending: None,
                 room,
+                ahead,
             }),
             Err((FoundError::Exists, disk)) => Err((FoundFault::Exists, disk)),
             Err((FoundError::NotJournal, disk)) => Err((FoundFault::NotJournal, disk)),
@@ -163,6 +170,9 @@ impl<D: Disk, R: Docket> KeptList<D, R> {
         let Ok(mut room) = Room::new(alloc) else {
             return Err((OpenError::NoMemory, disk));
         };
+        let Ok(ahead) = Room::new(alloc) else {
+            return Err((OpenError::NoMemory, disk));
+        };
         let mut opening = filing_journal::recover(disk, R::header())?;
         let mut docket = R::new(alloc);
         if let Err(error) = read_all(alloc, &mut opening, &mut docket, &mut room) {
@@ -174,6 +184,7 @@ impl<D: Disk, R: Docket> KeptList<D, R> {
             journal,
             pending: None,
             room,
+            ahead,
         })
     }
 
@@ -218,6 +229,29 @@ impl<D: Disk, R: Docket> KeptList<D, R> {
         ensures cause { IsTrue (is_fault result) → Rose (D.faults self.old.disk) (D.faults self.new.disk) }
         ensures unmoved { is_fault result ≡ false → D.faults self.new.disk ≡ D.faults self.old.disk }
     {
+        self.turn_ahead(ask, None)
+    }
+
+    /// The same turn. Where the ask that will likely follow is known, what it may add is written ahead by this turn's last
+    /// sync: if it is added so by the next turn, that takes one sync in place of two.
+    pub fn turn_ahead<'a>(
+        &'a mut self,
+        ask: R::Ask,
+        next: Option<&'a R::Ask>,
+    ) -> ListReply<R::Verdict>
+        ensures turn { Turns R.judging self.old.history self.old.pending ask result self.new.history self.new.pending }
+        ensures honest { (D.tells self.new.disk).honest ≡ (D.tells self.old.disk).honest }
+        ensures sound { IsHonest (D.tells self.old.disk) → IsSound R.scheme (D.tells self.new.disk) self.new.history self.new.pending }
+        ensures moments { IsHonest (D.tells self.old.disk) → EachMoment (D.tells self.old.disk) (D.tells self.new.disk)
+            (MayRecover R.scheme R.judging self.old.history self.old.pending ask) }
+        ensures no_memory { result ≡ ListReply.NoMemory → self.new ≡ self.old }
+        ensures memory { result ≡ ListReply.NoMemory → self.old.room ≡ 0 }
+        ensures room { self.old.room ≤ self.new.room + 1 }
+        ensures later { D.faults self.old.disk ≤ D.faults self.new.disk }
+        ensures cause { IsTrue (is_fault result) → Rose (D.faults self.old.disk) (D.faults self.new.disk) }
+        ensures unmoved { is_fault result ≡ false → D.faults self.new.disk ≡ D.faults self.old.disk }
+    {
+        self.look_ahead(next);
         if self.reserve(1).is_err() {
             return ListReply::NoMemory;
         }
@@ -227,6 +261,24 @@ impl<D: Disk, R: Docket> KeptList<D, R> {
             };
         }
         self.answer(ask)
+    }
+
+    /// From now on the disk's file is made longer ahead of its records, by zeros that stand for nothing. So a sync takes less
+    /// time, and the file doesn't end right behind its last record. Nothing is done yet.
+    pub fn allow_lengthening(&mut self)
+        ensures { self.new ≡ self.old }
+    {
+        self.journal.allow_lengthening();
+    }
+
+    // Puts what the next ask may add into its room, or empties that room.
+    fn look_ahead(&mut self, next: Option<&R::Ask>)
+        ensures { self.new ≡ self.old }
+    {
+        match next {
+            Some(ask) => R::foresee(ask, &mut self.ahead),
+            None => self.ahead.clear(),
+        }
     }
 
     // Settles what is undecided.
@@ -294,7 +346,7 @@ impl<D: Disk, R: Docket> KeptList<D, R> {
         ensures unmoved { is_fault result ≡ false → D.faults self.new.disk ≡ D.faults self.old.disk }
     {
         R::put(&entry, &mut self.room);
-        match self.journal.put(self.room.bytes()) {
+        match lengthen_and_put(&mut self.journal, self.room.bytes(), self.ahead.bytes()) {
             Ok(()) => {
                 self.docket.admit(entry);
                 ListReply::Answered { verdict, front }
@@ -335,6 +387,7 @@ impl<D: Disk, R: Docket> KeptList<D, R> {
             journal,
             pending: _,
             room: _,
+            ahead: _,
         } = self;
         journal.into_disk()
     }

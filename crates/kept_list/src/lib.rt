@@ -10,6 +10,7 @@ mod kept;
 mod laws;
 mod reading;
 mod reply;
+mod writing;
 
 pub use docket::{Docket, Judged, TakeFault};
 pub use filing_journal::OpenError;

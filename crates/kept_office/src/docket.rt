@@ -130,6 +130,13 @@ impl Docket for FiledOffice {
         filing_codec::put(filing, room);
     }
 
+    fn foresee(ask: &Ask, room: &mut Room) {
+        match ask {
+            Ask::File(filing) => filing_codec::put(filing, room),
+            _ => room.clear(),
+        }
+    }
+
     fn take(alloc: Global, bytes: &[u8]) -> Result<Filing, TakeFault> {
         match filing_codec::take(alloc, bytes) {
             Ok(filing) => Ok(filing),

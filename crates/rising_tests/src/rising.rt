@@ -112,6 +112,10 @@ impl Docket for Rising {
         room.append(&[*entry]);
     }
 
+    fn foresee(ask: &u8, room: &mut Room) {
+        Self::put(ask, room);
+    }
+
     fn take(_alloc: Global, bytes: &[u8]) -> Result<u8, TakeFault> {
         match bytes {
             [number] => Ok(*number),

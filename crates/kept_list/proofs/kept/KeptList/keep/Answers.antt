@@ -10,16 +10,16 @@ invariant_of-self-then-this g c =
     let i = c.self.inside in
     let h = g.R.Docket.history i.docket in
     let admitted : IsTrue (scheme.admits h c.args.entry) = subst (λ (k : Kept g.row.D.Denot g.row.R-Entry.Denot). IsTrue (scheme.admits k.history c.args.entry)) (sym c.self.view_is) c.requires.admitted in
-    let put : IsPut g.D.Disk scheme i.journal c.put-2.new.self h (g.R.Docket.spare i.docket) i.pending c.args.entry c.bytes.result.now = record {
+    let put : IsPut g.D.Disk scheme i.journal c.lengthen_and_put.new.journal h (g.R.Docket.spare i.docket) i.pending c.args.entry c.bytes.result.now = record {
       none = ap (λ k. k.pending) c.self.view_is ∙ c.requires.decided;
       whole = c.self.invariant;
-      same = c.put-2.ensures.honest;
+      same = c.lengthen_and_put.ensures.honest;
       spelled = c.bytes.ensures.held ∙ c.put.ensures.spelled;
       is_entry = c.put.ensures.in_range;
       admitted = admitted;
       legal = λ legal. g.met.R.Docket.admitted_legal h c.args.entry legal admitted;
     } in
-    left_whole g.D.Disk scheme g.met.D.Disk.reads_as_image g.met.R.Docket.legal_past i.journal c.put-2.new.self h (g.R.Docket.spare i.docket) i.pending c.args.entry c.bytes.result.now put
+    left_whole g.D.Disk scheme g.met.D.Disk.reads_as_image g.met.R.Docket.legal_past i.journal c.lengthen_and_put.new.journal h (g.R.Docket.spare i.docket) i.pending c.args.entry c.bytes.result.now put
     c.in-Err-DiskFault-true.ensures.count_err (search rules) (omega (arith, ap (λ k. k.room) c.self.view_is, c.requires.room))
     (λ honest keeps. c.in-Err-DiskFault-true.ensures.undecided honest scheme.header (payloads_of scheme.spelling h) keeps (search rules))
 
@@ -29,20 +29,20 @@ invariant_of-self-else-this g c =
     let i = c.self.inside in
     let h = g.R.Docket.history i.docket in
     let admitted : IsTrue (scheme.admits h c.args.entry) = subst (λ (k : Kept g.row.D.Denot g.row.R-Entry.Denot). IsTrue (scheme.admits k.history c.args.entry)) (sym c.self.view_is) c.requires.admitted in
-    let put : IsPut g.D.Disk scheme i.journal c.put-2.new.self h (g.R.Docket.spare i.docket) i.pending c.args.entry c.bytes.result.now = record {
+    let put : IsPut g.D.Disk scheme i.journal c.lengthen_and_put.new.journal h (g.R.Docket.spare i.docket) i.pending c.args.entry c.bytes.result.now = record {
       none = ap (λ k. k.pending) c.self.view_is ∙ c.requires.decided;
       whole = c.self.invariant;
-      same = c.put-2.ensures.honest;
+      same = c.lengthen_and_put.ensures.honest;
       spelled = c.bytes.ensures.held ∙ c.put.ensures.spelled;
       is_entry = c.put.ensures.in_range;
       admitted = admitted;
       legal = λ legal. g.met.R.Docket.admitted_legal h c.args.entry legal admitted;
     } in
-    rw put.none (refused_whole g.D.Disk scheme g.met.D.Disk.reads_as_image g.met.R.Docket.legal_past i.journal c.put-2.new.self h (g.R.Docket.spare i.docket) i.pending c.args.entry c.bytes.result.now put
+    rw put.none (refused_whole g.D.Disk scheme g.met.D.Disk.reads_as_image g.met.R.Docket.legal_past i.journal c.lengthen_and_put.new.journal h (g.R.Docket.spare i.docket) i.pending c.args.entry c.bytes.result.now put
     c.in-Err-DiskFault-false.ensures.count_err (search rules) (λ honest keeps. c.in-Err-DiskFault-false.ensures.before honest scheme.header (payloads_of scheme.spelling h) keeps (search rules)))
 
-pub put-requires-2-clause-stands : goal.put-requires-2-clause-stands
-put-requires-2-clause-stands g c honest =
+pub lengthen_and_put-requires-clause-stands : goal.lengthen_and_put-requires-clause-stands
+lengthen_and_put-requires-clause-stands g c honest =
     let scheme = g.R.Docket.scheme in
     let i = c.self.inside in
     let whole : IsWhole g.D.Disk scheme i.journal (g.R.Docket.history i.docket) (g.R.Docket.spare i.docket) None =
@@ -55,16 +55,16 @@ invariant_of-self g c =
     let i = c.self.inside in
     let h = g.R.Docket.history i.docket in
     let admitted : IsTrue (scheme.admits h c.args.entry) = subst (λ (k : Kept g.row.D.Denot g.row.R-Entry.Denot). IsTrue (scheme.admits k.history c.args.entry)) (sym c.self.view_is) c.requires.admitted in
-    let put : IsPut g.D.Disk scheme i.journal c.put-2.new.self h (g.R.Docket.spare i.docket) i.pending c.args.entry c.bytes.result.now = record {
+    let put : IsPut g.D.Disk scheme i.journal c.lengthen_and_put.new.journal h (g.R.Docket.spare i.docket) i.pending c.args.entry c.bytes.result.now = record {
       none = ap (λ k. k.pending) c.self.view_is ∙ c.requires.decided;
       whole = c.self.invariant;
-      same = c.put-2.ensures.honest;
+      same = c.lengthen_and_put.ensures.honest;
       spelled = c.bytes.ensures.held ∙ c.put.ensures.spelled;
       is_entry = c.put.ensures.in_range;
       admitted = admitted;
       legal = λ legal. g.met.R.Docket.admitted_legal h c.args.entry legal admitted;
     } in
-    rw put.none (kept_whole g.D.Disk scheme g.met.D.Disk.reads_as_image g.met.R.Docket.legal_past i.journal c.put-2.new.self h (g.R.Docket.spare i.docket) i.pending c.args.entry c.bytes.result.now put
+    rw put.none (kept_whole g.D.Disk scheme g.met.D.Disk.reads_as_image g.met.R.Docket.legal_past i.journal c.lengthen_and_put.new.journal h (g.R.Docket.spare i.docket) i.pending c.args.entry c.bytes.result.now put
     (g.R.Docket.history c.admit.new.self) (g.R.Docket.spare c.admit.new.self) c.admit.ensures.history c.admit.ensures.room
     c.in-Ok.ensures.count c.in-Ok.ensures.decided (λ honest keeps. c.in-Ok.ensures.kept honest scheme.header (payloads_of scheme.spelling h) keeps))
 
@@ -74,16 +74,16 @@ returns-in-Ok-clause-sound g c =
     let i = c.self.inside in
     let h = g.R.Docket.history i.docket in
     let admitted : IsTrue (scheme.admits h c.args.entry) = subst (λ (k : Kept g.row.D.Denot g.row.R-Entry.Denot). IsTrue (scheme.admits k.history c.args.entry)) (sym c.self.view_is) c.requires.admitted in
-    let put : IsPut g.D.Disk scheme i.journal c.put-2.new.self h (g.R.Docket.spare i.docket) i.pending c.args.entry c.bytes.result.now = record {
+    let put : IsPut g.D.Disk scheme i.journal c.lengthen_and_put.new.journal h (g.R.Docket.spare i.docket) i.pending c.args.entry c.bytes.result.now = record {
       none = ap (λ k. k.pending) c.self.view_is ∙ c.requires.decided;
       whole = c.self.invariant;
-      same = c.put-2.ensures.honest;
+      same = c.lengthen_and_put.ensures.honest;
       spelled = c.bytes.ensures.held ∙ c.put.ensures.spelled;
       is_entry = c.put.ensures.in_range;
       admitted = admitted;
       legal = λ legal. g.met.R.Docket.admitted_legal h c.args.entry legal admitted;
     } in
-    rw (← c.self.view_is, put.none) (λ honest. (kept_whole g.D.Disk scheme g.met.D.Disk.reads_as_image g.met.R.Docket.legal_past i.journal c.put-2.new.self h (g.R.Docket.spare i.docket) i.pending c.args.entry c.bytes.result.now put
+    rw (← c.self.view_is, put.none) (λ honest. (kept_whole g.D.Disk scheme g.met.D.Disk.reads_as_image g.met.R.Docket.legal_past i.journal c.lengthen_and_put.new.journal h (g.R.Docket.spare i.docket) i.pending c.args.entry c.bytes.result.now put
     (g.R.Docket.history c.admit.new.self) (g.R.Docket.spare c.admit.new.self) c.admit.ensures.history c.admit.ensures.room
     c.in-Ok.ensures.count c.in-Ok.ensures.decided (λ honest keeps. c.in-Ok.ensures.kept honest scheme.header (payloads_of scheme.spelling h) keeps)).sound (subst IsTrue (sym put.same) honest))
 
@@ -93,17 +93,17 @@ returns-in-Ok-clause-moments g c =
     let i = c.self.inside in
     let h = g.R.Docket.history i.docket in
     let admitted : IsTrue (scheme.admits h c.args.entry) = subst (λ (k : Kept g.row.D.Denot g.row.R-Entry.Denot). IsTrue (scheme.admits k.history c.args.entry)) (sym c.self.view_is) c.requires.admitted in
-    let put : IsPut g.D.Disk scheme i.journal c.put-2.new.self h (g.R.Docket.spare i.docket) i.pending c.args.entry c.bytes.result.now = record {
+    let put : IsPut g.D.Disk scheme i.journal c.lengthen_and_put.new.journal h (g.R.Docket.spare i.docket) i.pending c.args.entry c.bytes.result.now = record {
       none = ap (λ k. k.pending) c.self.view_is ∙ c.requires.decided;
       whole = c.self.invariant;
-      same = c.put-2.ensures.honest;
+      same = c.lengthen_and_put.ensures.honest;
       spelled = c.bytes.ensures.held ∙ c.put.ensures.spelled;
       is_entry = c.put.ensures.in_range;
       admitted = admitted;
       legal = λ legal. g.met.R.Docket.admitted_legal h c.args.entry legal admitted;
     } in
-    rw (← c.self.view_is) (λ honest. put_moments g.D.Disk scheme g.met.D.Disk.reads_as_image g.met.R.Docket.legal_past i.journal c.put-2.new.self h (g.R.Docket.spare i.docket) i.pending c.args.entry c.bytes.result.now put honest
-    (λ keeps. c.put-2.ensures.moments honest scheme.header (payloads_of scheme.spelling h) keeps))
+    rw (← c.self.view_is) (λ honest. put_moments g.D.Disk scheme g.met.D.Disk.reads_as_image g.met.R.Docket.legal_past i.journal c.lengthen_and_put.new.journal h (g.R.Docket.spare i.docket) i.pending c.args.entry c.bytes.result.now put honest
+    (λ keeps. c.lengthen_and_put.ensures.moments honest scheme.header (payloads_of scheme.spelling h) keeps))
 
 pub returns-in-Err-DiskFault-true-clause-moments : goal.returns-in-Err-DiskFault-true-clause-moments
 returns-in-Err-DiskFault-true-clause-moments g c =
@@ -111,17 +111,17 @@ returns-in-Err-DiskFault-true-clause-moments g c =
     let i = c.self.inside in
     let h = g.R.Docket.history i.docket in
     let admitted : IsTrue (scheme.admits h c.args.entry) = subst (λ (k : Kept g.row.D.Denot g.row.R-Entry.Denot). IsTrue (scheme.admits k.history c.args.entry)) (sym c.self.view_is) c.requires.admitted in
-    let put : IsPut g.D.Disk scheme i.journal c.put-2.new.self h (g.R.Docket.spare i.docket) i.pending c.args.entry c.bytes.result.now = record {
+    let put : IsPut g.D.Disk scheme i.journal c.lengthen_and_put.new.journal h (g.R.Docket.spare i.docket) i.pending c.args.entry c.bytes.result.now = record {
       none = ap (λ k. k.pending) c.self.view_is ∙ c.requires.decided;
       whole = c.self.invariant;
-      same = c.put-2.ensures.honest;
+      same = c.lengthen_and_put.ensures.honest;
       spelled = c.bytes.ensures.held ∙ c.put.ensures.spelled;
       is_entry = c.put.ensures.in_range;
       admitted = admitted;
       legal = λ legal. g.met.R.Docket.admitted_legal h c.args.entry legal admitted;
     } in
-    rw (← c.self.view_is) (λ honest. put_moments g.D.Disk scheme g.met.D.Disk.reads_as_image g.met.R.Docket.legal_past i.journal c.put-2.new.self h (g.R.Docket.spare i.docket) i.pending c.args.entry c.bytes.result.now put honest
-    (λ keeps. c.put-2.ensures.moments honest scheme.header (payloads_of scheme.spelling h) keeps))
+    rw (← c.self.view_is) (λ honest. put_moments g.D.Disk scheme g.met.D.Disk.reads_as_image g.met.R.Docket.legal_past i.journal c.lengthen_and_put.new.journal h (g.R.Docket.spare i.docket) i.pending c.args.entry c.bytes.result.now put honest
+    (λ keeps. c.lengthen_and_put.ensures.moments honest scheme.header (payloads_of scheme.spelling h) keeps))
 
 pub returns-in-Err-DiskFault-false-clause-moments : goal.returns-in-Err-DiskFault-false-clause-moments
 returns-in-Err-DiskFault-false-clause-moments g c =
@@ -129,17 +129,17 @@ returns-in-Err-DiskFault-false-clause-moments g c =
     let i = c.self.inside in
     let h = g.R.Docket.history i.docket in
     let admitted : IsTrue (scheme.admits h c.args.entry) = subst (λ (k : Kept g.row.D.Denot g.row.R-Entry.Denot). IsTrue (scheme.admits k.history c.args.entry)) (sym c.self.view_is) c.requires.admitted in
-    let put : IsPut g.D.Disk scheme i.journal c.put-2.new.self h (g.R.Docket.spare i.docket) i.pending c.args.entry c.bytes.result.now = record {
+    let put : IsPut g.D.Disk scheme i.journal c.lengthen_and_put.new.journal h (g.R.Docket.spare i.docket) i.pending c.args.entry c.bytes.result.now = record {
       none = ap (λ k. k.pending) c.self.view_is ∙ c.requires.decided;
       whole = c.self.invariant;
-      same = c.put-2.ensures.honest;
+      same = c.lengthen_and_put.ensures.honest;
       spelled = c.bytes.ensures.held ∙ c.put.ensures.spelled;
       is_entry = c.put.ensures.in_range;
       admitted = admitted;
       legal = λ legal. g.met.R.Docket.admitted_legal h c.args.entry legal admitted;
     } in
-    rw (← c.self.view_is) (λ honest. put_moments g.D.Disk scheme g.met.D.Disk.reads_as_image g.met.R.Docket.legal_past i.journal c.put-2.new.self h (g.R.Docket.spare i.docket) i.pending c.args.entry c.bytes.result.now put honest
-    (λ keeps. c.put-2.ensures.moments honest scheme.header (payloads_of scheme.spelling h) keeps))
+    rw (← c.self.view_is) (λ honest. put_moments g.D.Disk scheme g.met.D.Disk.reads_as_image g.met.R.Docket.legal_past i.journal c.lengthen_and_put.new.journal h (g.R.Docket.spare i.docket) i.pending c.args.entry c.bytes.result.now put honest
+    (λ keeps. c.lengthen_and_put.ensures.moments honest scheme.header (payloads_of scheme.spelling h) keeps))
 
 pub returns-in-Err-DiskFault-true-clause-sound : goal.returns-in-Err-DiskFault-true-clause-sound
 returns-in-Err-DiskFault-true-clause-sound g c =
@@ -147,16 +147,16 @@ returns-in-Err-DiskFault-true-clause-sound g c =
     let i = c.self.inside in
     let h = g.R.Docket.history i.docket in
     let admitted : IsTrue (scheme.admits h c.args.entry) = subst (λ (k : Kept g.row.D.Denot g.row.R-Entry.Denot). IsTrue (scheme.admits k.history c.args.entry)) (sym c.self.view_is) c.requires.admitted in
-    let put : IsPut g.D.Disk scheme i.journal c.put-2.new.self h (g.R.Docket.spare i.docket) i.pending c.args.entry c.bytes.result.now = record {
+    let put : IsPut g.D.Disk scheme i.journal c.lengthen_and_put.new.journal h (g.R.Docket.spare i.docket) i.pending c.args.entry c.bytes.result.now = record {
       none = ap (λ k. k.pending) c.self.view_is ∙ c.requires.decided;
       whole = c.self.invariant;
-      same = c.put-2.ensures.honest;
+      same = c.lengthen_and_put.ensures.honest;
       spelled = c.bytes.ensures.held ∙ c.put.ensures.spelled;
       is_entry = c.put.ensures.in_range;
       admitted = admitted;
       legal = λ legal. g.met.R.Docket.admitted_legal h c.args.entry legal admitted;
     } in
-    rw (← c.self.view_is) (λ honest. (left_whole g.D.Disk scheme g.met.D.Disk.reads_as_image g.met.R.Docket.legal_past i.journal c.put-2.new.self h (g.R.Docket.spare i.docket) i.pending c.args.entry c.bytes.result.now put
+    rw (← c.self.view_is) (λ honest. (left_whole g.D.Disk scheme g.met.D.Disk.reads_as_image g.met.R.Docket.legal_past i.journal c.lengthen_and_put.new.journal h (g.R.Docket.spare i.docket) i.pending c.args.entry c.bytes.result.now put
     c.in-Err-DiskFault-true.ensures.count_err (search rules) (omega (arith, ap (λ k. k.room) c.self.view_is, c.requires.room))
     (λ honest keeps. c.in-Err-DiskFault-true.ensures.undecided honest scheme.header (payloads_of scheme.spelling h) keeps (search rules))).sound (subst IsTrue (sym put.same) honest))
 
@@ -166,14 +166,14 @@ returns-in-Err-DiskFault-false-clause-sound g c =
     let i = c.self.inside in
     let h = g.R.Docket.history i.docket in
     let admitted : IsTrue (scheme.admits h c.args.entry) = subst (λ (k : Kept g.row.D.Denot g.row.R-Entry.Denot). IsTrue (scheme.admits k.history c.args.entry)) (sym c.self.view_is) c.requires.admitted in
-    let put : IsPut g.D.Disk scheme i.journal c.put-2.new.self h (g.R.Docket.spare i.docket) i.pending c.args.entry c.bytes.result.now = record {
+    let put : IsPut g.D.Disk scheme i.journal c.lengthen_and_put.new.journal h (g.R.Docket.spare i.docket) i.pending c.args.entry c.bytes.result.now = record {
       none = ap (λ k. k.pending) c.self.view_is ∙ c.requires.decided;
       whole = c.self.invariant;
-      same = c.put-2.ensures.honest;
+      same = c.lengthen_and_put.ensures.honest;
       spelled = c.bytes.ensures.held ∙ c.put.ensures.spelled;
       is_entry = c.put.ensures.in_range;
       admitted = admitted;
       legal = λ legal. g.met.R.Docket.admitted_legal h c.args.entry legal admitted;
     } in
-    rw (← c.self.view_is, put.none) (λ honest. (refused_whole g.D.Disk scheme g.met.D.Disk.reads_as_image g.met.R.Docket.legal_past i.journal c.put-2.new.self h (g.R.Docket.spare i.docket) i.pending c.args.entry c.bytes.result.now put
+    rw (← c.self.view_is, put.none) (λ honest. (refused_whole g.D.Disk scheme g.met.D.Disk.reads_as_image g.met.R.Docket.legal_past i.journal c.lengthen_and_put.new.journal h (g.R.Docket.spare i.docket) i.pending c.args.entry c.bytes.result.now put
     c.in-Err-DiskFault-false.ensures.count_err (search rules) (λ honest keeps. c.in-Err-DiskFault-false.ensures.before honest scheme.header (payloads_of scheme.spelling h) keeps (search rules))).sound (subst IsTrue (sym put.same) honest))

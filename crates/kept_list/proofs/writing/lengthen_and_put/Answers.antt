@@ -1,0 +1,40 @@
+use Rattle.std.proofs.Common.{IsTrue, inl, subst, sym}
+use Rattle.disk_model.proofs.Moments.{join, weaken}
+use Rattle.filing_journal.specs.Journal.{journal_disk}
+use Rattle.filing_journal.specs.Stands.{StandsFor, BeforeOrWith}
+use Rattle.kept_list.proofs.writing.lengthen_and_put.Goals as goal
+
+pub returns-then-is_err-clause-before : goal.returns-then-is_err-clause-before
+returns-then-is_err-clause-before g c honest header before keeps is = c.lengthen.ensures.kept honest header before keeps
+
+pub returns-then-is_err-clause-moments : goal.returns-then-is_err-clause-moments
+returns-then-is_err-clause-moments g c honest header before keeps =
+    weaken (g.D.Disk.tells (journal_disk c.args.journal.now)) (g.D.Disk.tells (journal_disk c.lengthen.new.self)) (λ file. StandsFor header file before) (BeforeOrWith header before c.args.payload.now)
+    (λ file stands. inl stands) (c.lengthen.ensures.moments honest header before keeps)
+
+pub put_ahead-requires-clause-stands : goal.put_ahead-requires-clause-stands
+put_ahead-requires-clause-stands g c honest =
+    let old = subst IsTrue c.lengthen.ensures.honest honest in
+    let (header, (before, keeps)) = c.requires.stands old in
+    (header, (before, c.lengthen.ensures.kept old header before keeps))
+
+pub returns-clause-kept : goal.returns-clause-kept
+returns-clause-kept g c honest header before keeps =
+    c.put_ahead.ensures.kept (subst IsTrue (sym c.lengthen.ensures.honest) honest) header before (c.lengthen.ensures.kept honest header before keeps)
+
+pub returns-clause-before : goal.returns-clause-before
+returns-clause-before g c honest header before keeps =
+    c.put_ahead.ensures.before (subst IsTrue (sym c.lengthen.ensures.honest) honest) header before (c.lengthen.ensures.kept honest header before keeps)
+
+pub returns-clause-undecided : goal.returns-clause-undecided
+returns-clause-undecided g c honest header before keeps =
+    c.put_ahead.ensures.undecided (subst IsTrue (sym c.lengthen.ensures.honest) honest) header before (c.lengthen.ensures.kept honest header before keeps)
+
+pub returns-clause-moments : goal.returns-clause-moments
+returns-clause-moments g c honest header before keeps =
+    let old = g.D.Disk.tells (journal_disk c.args.journal.now) in
+    let longer = g.D.Disk.tells (journal_disk c.lengthen.new.self) in
+    let put = BeforeOrWith header before c.args.payload.now in
+    join old longer (g.D.Disk.tells (journal_disk c.put_ahead.new.self)) put
+    (weaken old longer (λ file. StandsFor header file before) put (λ file stands. inl stands) (c.lengthen.ensures.moments honest header before keeps))
+    (c.put_ahead.ensures.moments (subst IsTrue (sym c.lengthen.ensures.honest) honest) header before (c.lengthen.ensures.kept honest header before keeps))
