@@ -14,6 +14,12 @@ def file_of(count):
     return bytes.fromhex(HEADER + "".join(RECORDS[:count]) + "00")
 
 
+def file_ahead(count):
+    """The same with the next row's record written ahead, behind a closed gate, where one follows."""
+    ahead = "".join(record[2:] + "00" for record in RECORDS[count : count + 1])
+    return file_of(count) + bytes.fromhex(ahead)
+
+
 def answers(count):
     """The text of the rows where the filings of so many of them stand already."""
     again = b"".join(b"%d %d again %d noted\n" % (row, count, row) for row in range(1, count + 1))

@@ -9,12 +9,13 @@ ghost use Rattle.kept_rounds.specs.Counted.{Counts};
 use crate::Tally;
 use disk_model::Disk;
 use kept_list::{Docket, KeptList, ListReply};
-use kept_session::{FileStop, Rows, SessionStop};
+use kept_session::{FileStop, Rows, SessionStop, ask_of};
 
-// Answers one ask, and counts its verdict.
+// Answers one ask, and counts its verdict. The ask behind it is told ahead, where it is known.
 fn count_one<D: Disk, R: Docket, L: Rows<R>, T: Tally<R>>(
     kept: &mut KeptList<D, R>,
     ask: R::Ask,
+    next: Option<&R::Ask>,
     tally: &mut T,
 ) -> Result<(), FileStop>
     requires decided { kept.old.pending ≡ None }
@@ -32,7 +33,7 @@ fn count_one<D: Disk, R: Docket, L: Rows<R>, T: Tally<R>>(
     ensures unmoved { OnOk result (D.faults kept.new.disk ≡ D.faults kept.old.disk) }
 {
     kept.sound();
-    match kept.turn(ask) {
+    match kept.turn_ahead(ask, next) {
         ListReply::Answered { verdict, front: _ } => {
             tally.count(&verdict);
             Ok(())
@@ -43,7 +44,7 @@ fn count_one<D: Disk, R: Docket, L: Rows<R>, T: Tally<R>>(
 }
 
 // Files the rows that are left, in order, up to one that is no ask, which it answers. Room for what they may add is made
-// before the first.
+// before the first. One row is read ahead, so that its turn may be prepared by the one before it.
 pub(crate) fn count_rows<D: Disk, R: Docket, L: Rows<R>, T: Tally<R>>(
     kept: &mut KeptList<D, R>,
     mut rows: L,
@@ -63,9 +64,13 @@ pub(crate) fn count_rows<D: Disk, R: Docket, L: Rows<R>, T: Tally<R>>(
     if kept.reserve(rows.at_most().min(most)).is_err() {
         return Err(FileStop::NoMemory);
     }
+    let mut next = rows.next();
     loop {
-        match rows.next() {
-            Ok(Some(Ok(ask))) => count_one::<D, R, L, T>(kept, ask, tally)?,
+        match next {
+            Ok(Some(Ok(ask))) => {
+                next = rows.next();
+                count_one::<D, R, L, T>(kept, ask, ask_of(&next), tally)?;
+            }
             Ok(Some(Err(error))) => return Ok(Some(error)),
             Ok(None) => return Ok(None),
             Err(_) => return Err(FileStop::NoMemory),

@@ -1,5 +1,6 @@
 -- How far the rows of a session were filed.
-use Rattle.std.proofs.Common.{◌≡◌, ℕ, ◌+◌, Bool, IsTrue, List, [], ◌∷◌, ◌++◌, length, map, Result, Ok, Err, refl, sym, ◌∙◌, ap, subst, arith, append_assoc}
+use Rattle.std.proofs.Common.{◌≡◌, ℕ, ◌+◌, ◌<◌, Bool, IsTrue, List, [], ◌∷◌, ◌++◌, length, map, Option, Some, None, Result, Ok, Err, refl, sym, ◌∙◌, ap, subst, arith, append_assoc}
+use Rattle.std.specs.Prelude.{IfOk, MatchOption}
 use Rattle.std.specs.Result.{IsErrAnd}
 use Rattle.std.proofs.lemmas.List.{append-nil, length_push, map-append}
 use Rattle.disk_model.specs.declared.disk.Disk.{Ghosts}
@@ -22,6 +23,23 @@ at_err {T} {E} (Err e) x P is p = subst (λ (y : E). P (Err y)) (sym is) p
 pub split_push : {A B : Type 0} (f : A → B) (total left rest : List B) (front : List A) (row : A) → total ≡ map f front ++ left → left ≡ f row ∷ rest → total ≡ map f (front ++ row ∷ []) ++ rest
 split_push f total left rest front row split next =
     split ∙ ap (λ (l : List _). map f front ++ l) next ∙ sym (append_assoc (map f front) (f row ∷ []) rest) ∙ ap (λ (l : List _). l ++ rest) (sym (map-append f front (row ∷ [])))
+
+-- a row was read ahead: what was left before is that row and what is left behind it, or nothing; where there was no memory, it may be anything
+abbrev pub IsReadAhead : {Row E Meaning : Type 0} → (Row → Meaning) → Result (Option Row) E → List Meaning → List Meaning → Type 0
+IsReadAhead said read left behind = IfOk read (λ next. MatchOption next ((left ≡ []) × (behind ≡ [])) (λ row. left ≡ said row ∷ behind))
+
+-- how many rows are known to be left: the one that was read ahead, and those behind it
+pub rows_ahead : {Row E : Type 0} → Result (Option Row) E → ℕ → ℕ
+rows_ahead (Ok (Some row)) behind = behind + 1
+rows_ahead (Ok None) behind = 0
+rows_ahead (Err e) behind = 0
+
+-- a row that was read ahead is taken, and the next one is read
+pub fewer_ahead : {Row E Meaning : Type 0} (said : Row → Meaning) (held read : Result (Option Row) E) (row : Row) (left behind : List Meaning) → held ≡ Ok (Some row) → IsReadAhead said read left behind → rows_ahead read (length behind) < rows_ahead held (length left)
+unfolding rows_ahead
+fewer_ahead said held (Ok (Some next)) row left behind is ahead = rw is (omega (arith, ap length ahead))
+fewer_ahead said held (Ok None) row left behind is ahead = rw is (omega arith)
+fewer_ahead said held (Err e) row left behind is ahead = rw is (omega arith)
 
 -- of the rows that were left those in front were filed, and these are left
 pub record HasFiled {D Entry Ask Verdict Error : Type 0} (disk : Ghosts D) (scheme : Scheme Entry) (judging : Judging Entry Ask Verdict) (texts : Texts Ask Verdict Error) (total left : List texts.Meaning) (past now : List Entry) (old new : D) (output : Output) (number : ℕ) : Type 0 where

@@ -6,7 +6,7 @@ ghost use Rattle.kept_session.specs.Texts.{after_row, row_line};
 ghost use Rattle.kept_session.specs.Links.{IsLink};
 ghost use Rattle.kept_session.specs.Sessions.{StopsRow, Takes, is_disk_fault};
 
-use crate::{FileStop, Rows, SessionStop};
+use crate::{FileStop, Rows, SessionStop, ask_of};
 use aid_edges::{Sink, write_whole};
 use disk_model::Disk;
 use kept_list::{Docket, KeptList, ListReply};
@@ -15,11 +15,12 @@ use std::alloc::Global;
 /// The greatest length of the line that answers a row.
 const LINE: usize = 160;
 
-// Answers one ask, and puts its line in place of what the vector holds.
+// Answers one ask, and puts its line in place of what the vector holds. The ask behind it is told ahead, where it is known.
 fn file_one<D: Disk, R: Docket, L: Rows<R>>(
     kept: &mut KeptList<D, R>,
     number: u32,
     ask: R::Ask,
+    next: Option<&R::Ask>,
     line: &mut Vec<u8>,
 ) -> Result<(), FileStop>
     requires decided { kept.old.pending ≡ None }
@@ -38,7 +39,7 @@ fn file_one<D: Disk, R: Docket, L: Rows<R>>(
     if line.reserve(LINE).is_err() {
         return Err(FileStop::NoMemory);
     }
-    match kept.turn(ask) {
+    match kept.turn_ahead(ask, next) {
         ListReply::Answered { verdict, front } => {
             let _ = L::put_answer(number, front, &verdict, line);
             Ok(())
@@ -53,6 +54,7 @@ fn file_row<D: Disk, R: Docket, L: Rows<R>>(
     kept: &mut KeptList<D, R>,
     number: u32,
     row: Result<R::Ask, L::Error>,
+    next: Option<&R::Ask>,
     line: &mut Vec<u8>,
 ) -> Result<(), FileStop>
     requires decided { kept.old.pending ≡ None }
@@ -67,7 +69,7 @@ fn file_row<D: Disk, R: Docket, L: Rows<R>>(
     ensures unmoved { OnOk result (D.faults kept.new.disk ≡ D.faults kept.old.disk) }
 {
     match row {
-        Ok(ask) => file_one::<D, R, L>(kept, number, ask, line),
+        Ok(ask) => file_one::<D, R, L>(kept, number, ask, next, line),
         Err(error) => {
             kept.sound();
             line.clear();
@@ -80,7 +82,8 @@ fn file_row<D: Disk, R: Docket, L: Rows<R>>(
 }
 
 /// Files the rows that are left, in order, into an open list. Each row's line is written before the next row is filed.
-/// Room for what they may add is made before the first.
+/// Room for what they may add is made before the first. One row is read ahead, so that its turn may be prepared by the one
+/// before it.
 pub fn file_rows<D: Disk, K: Sink, R: Docket, L: Rows<R>>(
     alloc: Global,
     kept: &mut KeptList<D, R>,
@@ -109,14 +112,16 @@ pub fn file_rows<D: Disk, K: Sink, R: Docket, L: Rows<R>>(
     }
     let mut line = Vec::new(alloc);
     let mut number = 0;
+    let mut next = rows.next();
     loop {
-        let row = match rows.next() {
+        let row = match next {
             Ok(Some(row)) => row,
             Ok(None) => return Ok(()),
             Err(_) => return Err(FileStop::NoMemory),
         };
+        next = rows.next();
         number += 1;
-        file_row::<D, R, L>(kept, number, row, &mut line)?;
+        file_row::<D, R, L>(kept, number, row, ask_of(&next), &mut line)?;
         if write_whole(out, &line).is_err() {
             return Err(FileStop::Write);
         }

@@ -20,6 +20,6 @@ pub use founding::found;
 pub use laws::{all_stands, answered_stands, each_moment, each_moment_of_session};
 pub use opening::open;
 pub use reporting::{Report, write_report};
-pub use rows::Rows;
+pub use rows::{Rows, ask_of};
 pub use session::{INPUT_LIMIT, answer, file, read_rows};
 pub use stop::{FileStop, FoundStop, ReadStop, SessionStop};

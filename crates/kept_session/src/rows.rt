@@ -1,5 +1,5 @@
 // Rows that come one at a time, and the lines that answer them.
-ghost use Rattle.std.specs.Prelude.{◌≡◌, ◌+◌, ◌≤◌, ◌∷◌, ◌++◌, [], ℕ, List, IsOk, IfOk, OnOk, OnErr, MatchOption, length, vec_capacity, vec_len};
+ghost use Rattle.std.specs.Prelude.{◌≡◌, ◌+◌, ◌≤◌, ◌∷◌, ◌++◌, [], ℕ, List, Ok, IsOk, IfOk, OnOk, OnErr, Some, IsSome, IfSome, MatchOption, length, vec_capacity, vec_len};
 ghost use Rattle.kept_session.specs.Texts.{Texts};
 
 use kept_list::Docket;
@@ -49,4 +49,15 @@ pub trait Rows<R: Docket>: Drop {
     fn put_error(error: &Self::Error, out: &mut Vec<u8>) -> Result<(), AllocError>
         ensures ok { OnOk result (out.new.items ≡ out.old.items ++ texts.error_line error.now) }
         ensures err { OnErr result (out.new.items ≡ out.old.items) };
+}
+
+/// The ask of a row that was read ahead, where it is one.
+pub fn ask_of<T, E>(read: &Result<Option<Result<T, E>>, AllocError>) -> Option<&T>
+    ensures some { IfSome result (λ ask. read.now ≡ Ok (Some (Ok ask.now))) }
+    ensures none { (ask : T) → read.now ≡ Ok (Some (Ok ask)) → IsSome result }
+{
+    match read {
+        Ok(Some(Ok(ask))) => Some(ask),
+        _ => None,
+    }
 }

@@ -175,16 +175,15 @@ fn answers_by_the_bytes(rt: HostRuntime) -> Result<(), Fail> {
 #[test]
 fn disk_faults_end_a_run(rt: HostRuntime) -> Result<(), Fail> {
     let alloc = rt.alloc();
-    // The first filing is put by two calls, kept by two more, and so is the second.
-    let rows: [(u64, &[u8]); 8] = [
+    // The first filing is put by two calls; three more open its gate, write the second ahead and keep both; two open the second's.
+    let rows: [(u64, &[u8]); 7] = [
         (5, b"fault disk none\n"),
         (6, b"fault disk none\n"),
         (7, b"fault disk 3\n"),
         (8, b"fault disk 3\n"),
-        (9, b"1 2 accepted 3 noted\nfault disk none\n"),
-        (10, b"1 2 accepted 3 noted\nfault disk none\n"),
+        (9, b"fault disk 3\n"),
+        (10, b"1 2 accepted 3 noted\nfault disk 4\n"),
         (11, b"1 2 accepted 3 noted\nfault disk 4\n"),
-        (12, b"1 2 accepted 3 noted\nfault disk 4\n"),
     ];
     let input = b"prior,0,7,5007,1\nprior,0,8,5008,1\n".as_slice();
     for (call, text) in rows {
@@ -236,7 +235,7 @@ fn write_faults_end_a_run(rt: HostRuntime) -> Result<(), Fail> {
         ("check book", EMPTY, 1, b"", 17),
         ("generate 7 1", EMPTY, 1, b"", 17),
         ("fund 110 2025 1 600 level 50", EMPTY, 1, b"", 17),
-        ("file", EMPTY, 1, b"", 41),
+        ("file", EMPTY, 1, b"", 71),
         ("file", EMPTY, 2, b"1 0 accepted 1 noted\n", 71),
         ("found", b"", 1, b"", 17),
         ("none", b"", 1, b"", 0),

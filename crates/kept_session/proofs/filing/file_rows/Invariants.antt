@@ -1,10 +1,12 @@
-use Rattle.std.proofs.Common.{◌≡◌, None, length}
-use Rattle.kept_session.proofs.Filed.{HasFiled}
+use Rattle.std.proofs.Common.{◌≡◌, List, None, length}
+use Rattle.kept_session.proofs.Filed.{HasFiled, IsReadAhead, rows_ahead}
 use Rattle.kept_session.proofs.filing.file_rows.Given as goal
 
-abbrev pub invariant-loop-row : goal.invariant-loop-row
-invariant-loop-row g l = record {
-  filed : HasFiled g.D.Disk g.R.Docket.scheme g.R.Docket.judging g.L.Rows.texts (g.L.Rows.left l.fn.rows) (g.L.Rows.left l.rows) l.fn.kept.history l.kept.history l.fn.kept.disk l.kept.disk
+abbrev pub invariant-loop-next : goal.invariant-loop-next
+invariant-loop-next g l = record {
+  left : List g.L.Rows.texts.Meaning;
+  ahead : IsReadAhead g.L.Rows.texts.said l.next left (g.L.Rows.left l.rows);
+  filed : HasFiled g.D.Disk g.R.Docket.scheme g.R.Docket.judging g.L.Rows.texts (g.L.Rows.left l.fn.rows) left l.fn.kept.history l.kept.history l.fn.kept.disk l.kept.disk
       (record { honest = g.K.Sink.honest l.fn.out; before = g.K.Sink.text l.fn.out; after = g.K.Sink.text l.out }) l.number;
   decided : l.kept.pending ≡ None;
   disk_unmoved : g.D.Disk.faults l.kept.disk ≡ g.D.Disk.faults l.fn.kept.disk;
@@ -13,5 +15,5 @@ invariant-loop-row g l = record {
   sink_honest : g.K.Sink.honest l.out ≡ g.K.Sink.honest l.fn.out;
 }
 
-abbrev pub decreases-loop-row : goal.decreases-loop-row
-decreases-loop-row g l = length (g.L.Rows.left l.rows)
+abbrev pub decreases-loop-next : goal.decreases-loop-next
+decreases-loop-next g l = rows_ahead l.next (length (g.L.Rows.left l.rows))

@@ -1,4 +1,4 @@
-use Rattle.std.proofs.Common.{◌≡◌, List, ◌++◌, ◌∙◌, ap, refl, subst, sym, ℕ}
+use Rattle.std.proofs.Common.{List, ◌++◌, ◌∙◌, ap, refl, subst, ℕ}
 use Rattle.std.proofs.lemmas.List.{append-nil}
 use Rattle.aid_edges.specs.Whole.{IsCutShort}
 use Rattle.kept_session.specs.Reports.{unopened, told, unwritten, starved}
