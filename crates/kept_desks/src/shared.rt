@@ -85,8 +85,9 @@ fn note<R: OwnDocket>(
 }
 
 impl<D: Disk, R: OwnDocket> SharedList<D, R> {
-    /// Shares a list of which nothing is undecided.
-    pub fn new(alloc: Global, kept: KeptList<D, R>) -> SharedList<D, R>
+    /// Shares a list of which nothing is undecided. Its file is made longer ahead of its records, since of a turn it isn't known
+    /// what comes next.
+    pub fn new(alloc: Global, mut kept: KeptList<D, R>) -> SharedList<D, R>
         requires { kept.pending ≡ None }
         ensures disk { result.disk ≡ kept.disk }
         ensures history { result.history ≡ kept.history }
@@ -95,6 +96,7 @@ impl<D: Disk, R: OwnDocket> SharedList<D, R> {
         ensures log { result.log ≡ [] }
         ensures waiting { result.waiting ≡ None }
     {
+        kept.allow_lengthening();
         SharedList {
             kept,
             log: Vec::new(alloc),
