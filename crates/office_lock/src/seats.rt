@@ -11,8 +11,11 @@ use std::marker::Brand;
 use std::sync::Wait;
 use std::thread::yield_now;
 
-// How often a seat that waits looks before it sleeps: a short turn ends in that time.
-const LOOKS_AWAKE: u32 = 200;
+// How often a seat that waits looks before it leaves the processor to others: where one more seat files, its turn may end in that time.
+const LOOKS_BUSY: u32 = 100;
+
+// How often it looks before it sleeps: a short turn ends in that time.
+const LOOKS_AWAKE: u32 = 300;
 
 // The part of a number that a sleeping seat is told by.
 const LOW_WORD: u64 = 0xffff_ffff;
@@ -63,8 +66,8 @@ impl<T: Turned> Turns<T> {
         self.table.shared.load::<Look<T>>(seat, 1) == number
     }
 
-    // Waits until the seat is served. After some looks, between which the processor is left to others, a seat whose turn isn't
-    // the next sleeps until a turn ends.
+    // Waits until the seat is served. After some looks, and some more between which the processor is left to others, a seat
+    // whose turn isn't the next sleeps until a turn ends.
     fn wait<R: Wait>(&self, rt: &R, seat: &mut SeatOf<T>, number: u64)
         requires lock { seat.old.table_id ≡ self.now.id }
         requires waiting { IsWaiting number seat.old.me }
@@ -78,7 +81,9 @@ impl<T: Turned> Turns<T> {
             }
             if looks < LOOKS_AWAKE {
                 looks += 1;
-                yield_now();
+                if looks > LOOKS_BUSY {
+                    yield_now();
+                }
             } else {
                 self.rest(rt, number);
             }
