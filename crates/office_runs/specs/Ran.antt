@@ -33,8 +33,8 @@ use Rattle.office_words.specs.declared.command.ReportRequest.{ReportRequest}
 use Rattle.office_forms.specs.Asks.{book_rows, book_texts, desk_rows, desk_texts, quote_rows, quote_texts}
 use Rattle.office_runs.specs.Texts.{no_verdicts, report_text}
 use Rattle.office_runs.specs.Rounds.{PolicyAnswers, fund_plans, round_texts}
-use Rattle.run_ends.specs.Ends.{Ends, IsShort, Moved}
-use Rattle.run_ends.specs.Statuses.{ended_check, ended_file, ended_found, is_disk_fault, is_read_fault}
+use Rattle.run_ends.specs.Ends.{Ends, EndsWith, IsShort, Moved}
+use Rattle.run_ends.specs.Statuses.{ended_check, ended_file, ended_found, is_disk_fault, is_read_fault, session_line, session_status}
 use Rattle.run_ends.specs.declared.stop.RunStop.{RunStop}
 use Rattle.run_ends.specs.declared.stop.RunStop.TheVariants as stops
 
@@ -129,6 +129,15 @@ pub data Ran {D K : Type 0} (names : List (List ℕ)) (gives : PolicyAnswers) (d
       → Does gives disk old new input (written sink out at) command ended → sink.honest at ≡ sink.honest out
       → HasCause counts ended status → Ends sink at out' ended status
       → Ran names gives disk sink counts words old new input out out' status
+
+-- A run of `file` over a disk and a sink: a session over the rows of the input, and behind what it writes, where it stopped, the line of the stop.
+pub record FileRan {D K : Type 0} (disk : Ghosts D) (sink : SinkGhosts K) (old new : D) (input : Input) (out out' : K) (status : ℕ) : Type 0 where
+  pub at : K
+  pub ended : Result Unit SessionStop
+  pub session : Session disk office_scheme office_judging desk_texts desk_rows 16777216 old new input (written sink out at) ended
+  pub honest : sink.honest at ≡ sink.honest out
+  pub done : ended ≡ Ok tt → (out' ≡ at) × (status ≡ 0)
+  pub early : (stop : SessionStop) → ended ≡ Err stop → EndsWith sink (session_line stop) (session_status stop) at out' status
 
 -- whether a command reads the input
 abbrev pub reads_input : Command → Bool

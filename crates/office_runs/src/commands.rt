@@ -12,7 +12,7 @@ ghost use Rattle.kept_office.specs.Turns.{office_judging};
 ghost use Rattle.kept_session.specs.Links.{RecoversOf};
 ghost use Rattle.office_forms.specs.Asks.{desk_rows, desk_texts};
 ghost use Rattle.office_runs.specs.Moments.{AllStand, MayRecover, Stands, StoodBefore};
-ghost use Rattle.office_runs.specs.Ran.{CanBeDone, Does, Ran, Shows, reads_input};
+ghost use Rattle.office_runs.specs.Ran.{CanBeDone, Does, FileRan, Ran, Shows, reads_input};
 ghost use Rattle.run_ends.specs.Ends.{Moved};
 ghost use Rattle.office_runs.specs.Rounds.{IsPolicyAmong, gives_at};
 ghost use Rattle.run_ends.specs.Statuses.{is_disk_fault, is_read_fault, is_write_fault};
@@ -156,6 +156,9 @@ pub fn run<D: Disk, S: Source, K: Sink>(
     ensures file_stands { (past : List Filing) → map string_bytes words.now.items ≡ codes "file" ∷ [] → result.0 ≡ 0
         → IsHonest (D.tells disk) → Recovers (D.tells disk).reads past
         → AllStand desk_texts desk_rows (record { honest = S.honest input.old; before = S.left input.old; after = S.left input.new }) past (D.tells result.1) }
+    // What it acknowledges, at every end: the rows that were filed, a line for each, and how it ended.
+    ensures file_ran { map string_bytes words.now.items ≡ codes "file" ∷ [] → FileRan D.Disk K.Sink disk result.1
+        (record { honest = S.honest input.old; before = S.left input.old; after = S.left input.new }) out.old out.new result.0 }
     ensures within { (file : List ℕ) (history : List Filing) → Recovers file history → IsWithinEveryLimit history }
 
     // 3, 4 and 5 come only where the count of the source, the sink or the disk rose, and no fault is passed over.

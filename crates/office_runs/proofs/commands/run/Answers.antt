@@ -7,7 +7,7 @@ use Rattle.run_ends.specs.declared.stop.RunStop.TheVariants as stops
 use Rattle.office_runs.proofs.Complete.{complete}
 use Rattle.run_ends.proofs.EndLaws.{done_at, ends_honest, ends_later, sink_moved, stood}
 use Rattle.office_runs.proofs.Images.{moments_by, stands_by}
-use Rattle.office_runs.proofs.Shown.{run_shows}
+use Rattle.office_runs.proofs.Shown.{file_ran, run_shows}
 use Rattle.office_runs.proofs.commands.run.Goals as goal
 
 pub returns-in-Some-clause-ran : goal.returns-in-Some-clause-ran
@@ -49,6 +49,15 @@ returns-in-Some-clause-file_moments g c past words honest each = returns-in-Some
 
 pub returns-in-Some-clause-file_stands : goal.returns-in-Some-clause-file_stands
 returns-in-Some-clause-file_stands g c past words well honest stood = returns-in-Some-clause-stands g c File past (words, tt) well honest stood
+
+pub returns-in-Some-clause-file_ran : goal.returns-in-Some-clause-file_ran
+returns-in-Some-clause-file_ran g c words =
+    let done = c.do_command-ended in
+    let is = c.in-Some.ensures.only File (ap (map (string_bytes {Z = Global})) c.deref.ensures.value ∙ words, tt) in
+    let same : c.in-Some.command ≡ File = cc in
+    file_ran g.D.Disk g.K.Sink c.args.disk done.result.1
+    (record { honest = g.S.Source.honest c.args.input.now; before = g.S.Source.left c.args.input.now; after = g.S.Source.left done.new.input })
+    c.args.out.now done.new.out c.end.new.out c.in-Some.command done.result.0 c.end.result same done.ensures.does done.ensures.sink_honest c.end.ensures
 
 pub returns-in-Some-clause-within : goal.returns-in-Some-clause-within
 returns-in-Some-clause-within g c file history is = legal_within history is.legal
@@ -93,6 +102,10 @@ returns-in-None-clause-moments g c command past words honest each =
 
 pub returns-in-None-clause-file_moments : goal.returns-in-None-clause-file_moments
 returns-in-None-clause-file_moments g c past words honest each = returns-in-None-clause-moments g c File past (words, tt) honest each
+
+pub returns-in-None-clause-file_ran : goal.returns-in-None-clause-file_ran
+returns-in-None-clause-file_ran g c words =
+    absurd (c.in-None.ensures.none refl File (ap (map (string_bytes {Z = Global})) c.deref.ensures.value ∙ words, tt))
 
 pub returns-in-None-clause-complete : goal.returns-in-None-clause-complete
 returns-in-None-clause-complete g c command words can no_source no_sink no_disk =
