@@ -1,6 +1,6 @@
 //! Reads rows from standard input as a plain Rust program would, without rules and without proofs. `check` prints for each
 //! row whether its fields are numbers, days, amounts and words in its kind's order; `append FILE` besides appends the
-//! numbers of each row to a file by a write, a gate and two syncs, as a journal does.
+//! numbers of each row to a file, as a journal does: one sync keeps a record's gate and the next record.
 use std::fs::File;
 use std::io::{self, BufWriter, Read, Write};
 use std::os::unix::fs::FileExt;
@@ -78,19 +78,26 @@ fn numbers(row: &str) -> Result<Vec<i64>, usize> {
     Ok(numbers)
 }
 
-/// Appends numbers behind a closed gate, and opens the gate.
-fn append(file: &File, place: u64, numbers: &[i64]) -> io::Result<u64> {
+/// Opens the gate of the record before, where there is one, and appends numbers behind a closed gate.
+fn append(file: &File, closed: Option<u64>, place: u64, numbers: &[i64]) -> io::Result<u64> {
     let size = 8 * numbers.len() as u32;
     let mut bytes = size.to_le_bytes().to_vec();
     for number in numbers {
         bytes.extend_from_slice(&number.to_le_bytes());
     }
     bytes.push(0);
+    open(file, closed)?;
     file.write_all_at(&bytes, place + 1)?;
     file.sync_data()?;
-    file.write_all_at(&[1], place)?;
-    file.sync_data()?;
     Ok(place + 5 + u64::from(size))
+}
+
+/// Opens a gate, where one is closed.
+fn open(file: &File, closed: Option<u64>) -> io::Result<()> {
+    match closed {
+        Some(place) => file.write_all_at(&[1], place),
+        None => Ok(()),
+    }
 }
 
 fn main() -> io::Result<()> {
@@ -103,17 +110,21 @@ fn main() -> io::Result<()> {
     let mut text = String::new();
     io::stdin().read_to_string(&mut text)?;
     let mut out = BufWriter::with_capacity(0, io::stdout());
-    let mut place = 16;
+    let (mut closed, mut place) = (None, 16);
     for (index, row) in text.lines().enumerate() {
         match numbers(row) {
             Ok(numbers) => {
                 if let Some(file) = &file {
-                    place = append(file, place, &numbers)?;
+                    (closed, place) = (Some(place), append(file, closed, place, &numbers)?);
                 }
                 out.write_all(format!("{} fine\n", index + 1).as_bytes())?;
             }
             Err(field) => out.write_all(format!("{} error {}\n", index + 1, field).as_bytes())?,
         }
+    }
+    if let Some(file) = &file {
+        open(file, closed)?;
+        file.sync_data()?;
     }
     out.flush()
 }

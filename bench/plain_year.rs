@@ -17,11 +17,13 @@ use std::os::unix::fs::FileExt;
 
 const PROGRAMS: [&str; 6] = ["unsub", "sub", "plus", "pell", "fseog", "teach"];
 
-// A desk whose admitted filings are appended to a journal, each by a write, a gate and two syncs.
+// A desk whose admitted filings are appended to a journal: one sync keeps a record's gate and the next record.
 struct KeptDesk {
     desk: PlainDesk,
     file: File,
     gate: u64,
+    // The gate of the last record, which isn't opened yet.
+    closed: Option<u64>,
     book: Vec<u8>,
     record: Vec<u8>,
     failed: io::Result<()>,
@@ -32,12 +34,24 @@ impl KeptDesk {
         let size = self.record.len() as u32 - 4;
         self.record[..4].copy_from_slice(&size.to_le_bytes());
         self.record.push(0);
+        self.open()?;
         self.file.write_all_at(&self.record, self.gate + 1)?;
         self.file.sync_data()?;
-        self.file.write_all_at(&[1], self.gate)?;
-        self.file.sync_data()?;
+        self.closed = Some(self.gate);
         self.gate += self.record.len() as u64;
         Ok(())
+    }
+
+    fn open(&mut self) -> io::Result<()> {
+        match self.closed.take() {
+            Some(gate) => self.file.write_all_at(&[1], gate),
+            None => Ok(()),
+        }
+    }
+
+    fn finish(&mut self) -> io::Result<()> {
+        self.open()?;
+        self.file.sync_data()
     }
 }
 
@@ -66,8 +80,9 @@ fn generate(seed: u64, students: u32, book: &str, journal: &str) -> io::Result<(
     let file = OpenOptions::new().read(true).write(true).open(journal)?;
     let desk = PlainDesk::default();
     let book = fs::read(book)?;
-    let mut kept = KeptDesk { desk, file, gate: 16, book, record: Vec::new(), failed: Ok(()) };
+    let mut kept = KeptDesk { desk, file, gate: 16, closed: None, book, record: Vec::new(), failed: Ok(()) };
     file_year(&mut kept, seed, students);
+    kept.finish()?;
     kept.failed?;
     print!("{}", kept.desk);
     Ok(())
