@@ -1,7 +1,7 @@
 // The office over ordered maps in plain Rust, over a journal's file as the program keeps one.
 //
-// usage: plain_year generate SEED STUDENTS BOOK JOURNAL    files a generated year as `generate` does, the same bytes by the same writes
-//                                                          and syncs, and prints what it comes to; BOOK has the book's payload
+// usage: plain_year generate SEED STUDENTS BOOK JOURNAL    files a generated year as `generate` does, the same bytes with one sync a
+//                                                          filing, and prints what it comes to; BOOK has the book's payload
 //        plain_year awards YEAR JOURNAL                    opens a journal, judging what it has, and prints `report awards YEAR`
 
 mod plain;
