@@ -5,7 +5,7 @@ ghost use Rattle.filing_journal.specs.Ahead.{block_of};
 use std::marker::Model;
 
 /// The greatest length of a payload that is written ahead.
-const MOST_AHEAD: usize = 256;
+const MOST_AHEAD: usize = 512;
 
 /// A payload that stands behind the closed gate before it is put, or none. A contract sees its bytes: none where it is none.
 #[derive(Drop)]
@@ -21,7 +21,7 @@ impl Model for Ahead {
 
     ghost view = { λ ahead. take ahead.size ahead.block };
 
-    ghost invariant = { λ ahead. ahead.size ≤ 256 };
+    ghost invariant = { λ ahead. ahead.size ≤ 512 };
 }
 
 impl Ahead {
@@ -46,7 +46,7 @@ impl Ahead {
     // How many bytes it takes behind the closed gate, with the closed gate behind it.
     pub(crate) fn block_size(&self) -> u64
         ensures size { result ≡ length (block_of self.now) }
-        ensures few { result ≤ 261 }
+        ensures few { result ≤ 517 }
     {
         if self.size == 0 {
             0

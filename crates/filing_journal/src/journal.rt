@@ -233,7 +233,7 @@ impl<D: Disk> Journal<D> {
     }
 
     /// The same put. `next`, where it isn't empty, is the payload that will likely be put after it: where it has at most
-    /// 256 bytes it is written ahead, behind a closed gate, by the same sync that keeps this one's gate. A put of a payload that
+    /// 512 bytes it is written ahead, behind a closed gate, by the same sync that keeps this one's gate. A put of a payload that
     /// was written ahead takes this one sync. It takes no memory.
     pub fn put_ahead(&mut self, payload: &[u8], next: &[u8]) -> Result<(), PutError>
         requires decided { IsDecided self.old }
@@ -369,7 +369,7 @@ impl<D: Disk> Journal<D> {
     // Opens the gate of the undecided payload, and writes another one ahead, where there is one.
     fn open(&mut self, next: &[u8]) -> Result<(), PutError>
         requires undecided { HasUndecided self.old }
-        requires next { length next.now ≤ 256 }
+        requires next { length next.now ≤ 512 }
         requires stands { IsHonest (D.tells (journal_disk self.old))
             → (header : Header) × ((before : Payloads) × ((payload : List ℕ) × MayKeep D.Disk header self.old before payload)) }
         ensures honest { (D.tells (journal_disk self.new)).honest ≡ (D.tells (journal_disk self.old)).honest }
