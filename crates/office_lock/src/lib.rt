@@ -3,6 +3,7 @@
 #![tactic(auto)]
 
 mod seats;
+mod sleepers;
 mod turned;
 mod turns;
 mod view;

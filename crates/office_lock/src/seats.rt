@@ -1,5 +1,5 @@
 // The steps of the seats of a lock's table, one after the other as its calls need them.
-ghost use Rattle.std.specs.Prelude.{◌≡◌, ◌<◌, ◌≤◌, ◌%◌, ◌^◌, [], ◌∷◌, ℕ, Some, None, MatchBool};
+ghost use Rattle.std.specs.Prelude.{◌≡◌, ◌<◌, ◌≤◌, ◌%◌, ◌^◌, ◌==◌, [], ◌∷◌, ℕ, Some, None, MatchBool};
 ghost use Rattle.office_lock.specs.Turning.{faults_in};
 ghost use Rattle.office_lock.specs.Passes.{IsOlder, TakesTurn};
 ghost use Rattle.office_lock.specs.Views.{newcomer, bringer, begun, known, with_less, with_part, with_other, with_longer};
@@ -11,14 +11,18 @@ use std::marker::Brand;
 use std::sync::Wait;
 use std::thread::yield_now;
 
-// How often a seat that waits looks before it leaves the processor to others: where one more seat files, its turn may end in that time.
+// How often a seat looks whether the lock is free before it draws a number: so often in all, and so often at first without leaving
+// the processor to others.
+const LOOKS_BEFORE_DRAWING: u32 = 200;
+
+const LOOKS_AT_FIRST: u32 = 20;
+
+// How often a seat whose turn is the next looks before it leaves the processor to others between looks: a short turn ends in
+// that time.
 const LOOKS_BUSY: u32 = 100;
 
-// How often it looks before it sleeps: a short turn ends in that time.
-const LOOKS_AWAKE: u32 = 300;
-
-// The part of a number that a sleeping seat is told by.
-const LOW_WORD: u64 = 0xffff_ffff;
+// How often a seat whose turn comes later looks before it sleeps.
+const LOOKS_BEFORE_SLEEP: u32 = 20;
 
 impl<T: Turned> Turns<T> {
     // Brings the state into the slot.
@@ -45,6 +49,19 @@ impl<T: Turned> Turns<T> {
         self.table.shared.load::<Bring<T>>(seat, 0);
     }
 
+    // Waits a while for the lock to be free. A number that a seat has drawn whose thread doesn't run holds up all behind it, so
+    // where threads are more than processors few numbers should be out. The wait ends, so each seat draws in the end.
+    fn approach(&self) {
+        for looks in 0..LOOKS_BEFORE_DRAWING {
+            if self.table.shared.peek(0) == self.table.shared.peek(1) {
+                break;
+            }
+            if looks >= LOOKS_AT_FIRST {
+                yield_now();
+            }
+        }
+    }
+
     // Draws a number.
     fn draw(&self, seat: &mut SeatOf<T>) -> u64
         requires lock { seat.old.table_id ≡ self.now.id }
@@ -57,17 +74,17 @@ impl<T: Turned> Turns<T> {
     }
 
     // Looks at the number that is served, and takes the state into the seat where it is this seat's.
-    fn look(&self, seat: &mut SeatOf<T>, number: u64) -> bool
+    fn look(&self, seat: &mut SeatOf<T>, number: u64) -> u64
         requires lock { seat.old.table_id ≡ self.now.id }
         requires waiting { IsWaiting number seat.old.me }
         ensures lock { seat.new.table_id ≡ seat.old.table_id }
-        ensures served { MatchBool result (IsServedAfter T.stand seat.old.me seat.new.me) (seat.new.me ≡ seat.old.me) }
+        ensures served { MatchBool (result == number) (IsServedAfter T.stand seat.old.me seat.new.me) (seat.new.me ≡ seat.old.me) }
     {
-        self.table.shared.load::<Look<T>>(seat, 1) == number
+        self.table.shared.load::<Look<T>>(seat, 1)
     }
 
-    // Waits until the seat is served. After some looks, and some more between which the processor is left to others, a seat
-    // whose turn isn't the next sleeps until a turn ends.
+    // Waits until the seat is served. While its turn isn't the next, it sleeps after some looks. The seat whose turn is the
+    // next stays awake, since a turn is short beside a waking.
     fn wait<R: Wait>(&self, rt: &R, seat: &mut SeatOf<T>, number: u64)
         requires lock { seat.old.table_id ≡ self.now.id }
         requires waiting { IsWaiting number seat.old.me }
@@ -76,27 +93,34 @@ impl<T: Turned> Turns<T> {
     {
         let mut looks = 0;
         for _ in rt.forever() {
-            if self.look(seat, number) {
+            let served = self.look(seat, number);
+            if served == number {
                 break;
             }
-            if looks < LOOKS_AWAKE {
-                looks += 1;
-                if looks > LOOKS_BUSY {
+            if number.wrapping_sub(served) == 1 {
+                if looks < LOOKS_BUSY {
+                    looks += 1;
+                } else {
                     yield_now();
                 }
+            } else if looks < LOOKS_BEFORE_SLEEP {
+                looks += 1;
             } else {
                 self.rest(rt, number);
+                looks = 0;
             }
         }
     }
 
-    // Leaves the processor to others: until a turn ends, where the turn with this number comes later than the next.
+    // Sleeps, where the turn with this number comes later than the next, until it is the next. No wake is lost: the seat tells
+    // that it is about to sleep and then looks once more, and the turn before the next one counts on and then asks whether it
+    // sleeps. All threads see these steps in one order, so the seat finds the new number, or the turn finds it asleep or
+    // about to be.
     fn rest<R: Wait>(&self, rt: &R, number: u64) {
+        self.sleepers.announce(number);
         let served = self.table.shared.peek(1);
-        if number.wrapping_sub(served) < 2 {
-            yield_now();
-        } else {
-            self.table.shared.park(rt, 1, (served & LOW_WORD) as u32);
+        if number.wrapping_sub(served) >= 2 {
+            self.sleepers.sleep(rt, number);
         }
     }
 
@@ -119,7 +143,8 @@ impl<T: Turned> Turns<T> {
         reply
     }
 
-    // Ends the turn, and wakes the seats that sleep.
+    // Ends the turn, and wakes the seat whose turn is the next from now on. The one that is served now is awake: it was woken
+    // when its turn became the next, or hasn't slept.
     fn end<N: Ending>(&self, seat: &mut SeatOf<T>, reply: &T::Reply)
         requires picked { N.faults ≡ faults_in (T.says reply.now) }
         requires lock { seat.old.table_id ≡ self.now.id }
@@ -127,8 +152,8 @@ impl<T: Turned> Turns<T> {
         ensures lock { seat.new.table_id ≡ seat.old.table_id }
         ensures ended { HasEnded T.stand (faults_in (T.says reply.now)) seat.old.me seat.new.me }
     {
-        self.table.shared.fetch_add::<End<T, N>>(seat, 1, 1);
-        self.table.shared.wake_all(1);
+        let number = self.table.shared.fetch_add::<End<T, N>>(seat, 1, 1);
+        self.sleepers.wake(number.wrapping_add(2));
     }
 
     // A whole turn of a seat.
@@ -141,6 +166,7 @@ impl<T: Turned> Turns<T> {
         ensures share { seat.new.me.0.allowance ≡ seat.old.me.0.allowance }
         ensures turned { TakesTurn (T.own ask) (T.says result) (λ before after. T.meets before ask result after) (known self.now.id seat.old.me.0) (known self.now.id seat.new.me.0) }
     {
+        self.approach();
         let number = self.draw(seat);
         self.wait(rt, seat, number);
         let reply = self.serve(seat, ask);

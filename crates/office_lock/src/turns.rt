@@ -3,6 +3,7 @@ ghost use Rattle.std.specs.Prelude.{◌≡◌, ◌⊎◌, ◌<◌, ◌≤◌, �
 ghost use Rattle.office_lock.specs.Passes.{IsOlder, TakesTurn, Closes};
 
 use crate::Turned;
+use crate::sleepers::Sleepers;
 use crate::view::{Ticketed, View};
 use atomic_table::{Badge, Table};
 use std::alloc::{AllocError, Global};
@@ -32,6 +33,7 @@ impl<E> Model for Pass<E> {
 /// it is, and for how many passes.
 pub struct Turns<T: Turned> {
     pub(crate) table: Table<Option<T>, View<T::Entry>, u32, Ticketed<T>, Global>,
+    pub(crate) sleepers: Sleepers,
 }
 
 impl<T: Turned> Model for Turns<T> {
@@ -68,10 +70,13 @@ impl<T: Turned> Turns<T> {
         }) }
         ensures state { IfErr result (λ e. e.1 ≡ state) }
     {
+        let Ok(sleepers) = Sleepers::new(alloc) else {
+            return Err((AllocError, state));
+        };
         match Table::vacant(alloc, &[0, 0], 1, &passes) {
             Err(error) => Err((error, state)),
             Ok((table, mut seat)) => {
-                let turns = Turns { table };
+                let turns = Turns { table, sleepers };
                 turns.bring(&mut seat, state);
                 Ok((
                     turns,
@@ -162,7 +167,7 @@ impl<T: Turned> Turns<T> {
         requires all { pass.allowance ≡ self.passes }
         ensures { Closes pass (T.stand result) }
     {
-        let Turns { table } = self;
+        let Turns { table, sleepers: _ } = self;
         let Pass { badge } = pass;
         let mut closed = table.close_with(badge.into_seat());
         let state = closed.take(0);
