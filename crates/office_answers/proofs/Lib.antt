@@ -1,3 +1,4 @@
+pub mod ApplicationLemmas
 pub mod Brought
 pub mod Entries
 pub mod Judged

@@ -1,21 +1,22 @@
 -- What the outcome of a filing is worked out from, told of a history.
-use Rattle.std.specs.Prelude.{◌≡◌, ℕ, List}
-use Rattle.std.specs.Option.{option_copied}
+use Rattle.std.specs.Prelude.{◌≡◌, ℕ, List, None, Some}
 use Rattle.aid_types.specs.declared.application.Application.{Application as Applied}
 use Rattle.aid_filings.specs.declared.filing.Amount.{Amount}
 use Rattle.aid_filings.specs.declared.filing.Filing.{Filing}
 use Rattle.aid_filings.specs.declared.filing.What.{What}
 use Rattle.aid_filings.specs.declared.filing.What.TheVariants.{Apply, Pay, Withdraw}
 use Rattle.aid_filings.specs.declared.filing.WithdrawFacts.{WithdrawFacts}
-use Rattle.office_history.specs.Past.{application, the_book, the_term}
+use Rattle.office_history.specs.Answer.{indexed}
+use Rattle.office_history.specs.Award.{unfit_under}
+use Rattle.office_history.specs.Past.{the_book, the_term}
 use Rattle.office_history.specs.Rows.{account_row, student_row, year_row}
 use Rattle.office_answers.specs.declared.gathered.Basis.{Basis}
 use Rattle.office_answers.specs.declared.gathered.Basis.TheVariants.{Application, Payment, Withdrawal}
 
--- the book of an application's year, and the student's application in force
+-- what an application brings under the book of its year, where it isn't out of range for it
 abbrev pub IsOfApplication : List Filing → Applied → Basis → Type 0
-IsOfApplication past a (Application book before) =
-    (option_copied book ≡ the_book past a.year) × (before ≡ application past a.student a.year)
+IsOfApplication past a (Application brought) =
+    unfit_under (the_book past a.year) a ≡ None → brought ≡ indexed (the_book past a.year) (Some a)
 IsOfApplication past a _ = ⊥
 
 -- the year and the student of a payment

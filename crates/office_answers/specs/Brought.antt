@@ -1,14 +1,28 @@
--- What a payment and a withdrawal bring, on the filings before them.
-use Rattle.std.specs.Prelude.{◌≡◌, ℕ, ◌+◌, ◌*◌, ◌≤◌, ◌==◌, List, sum, if◌then◌else◌}
+-- What an application brings under a book, and what a payment and a withdrawal bring on the filings before them.
+use Rattle.std.specs.Prelude.{◌≡◌, ℕ, ◌+◌, ◌*◌, ◌≤◌, ◌==◌, List, sum, Option, Some, None, if◌then◌else◌}
+use Rattle.aid_books.specs.declared.book.Book.{Book}
+use Rattle.aid_types.specs.declared.application.Application.{Application}
+use Rattle.aid_types.specs.declared.award.Refusal.{Refusal}
 use Rattle.aid_types.specs.Programs.{rank}
 use Rattle.aid_filings.specs.declared.filing.Amount.{Amount}
 use Rattle.aid_filings.specs.declared.filing.Filing.{Filing}
 use Rattle.aid_replies.specs.declared.reply.Outcome.{Outcome}
-use Rattle.aid_replies.specs.declared.reply.Outcome.TheVariants.{Paid, Returned}
+use Rattle.aid_replies.specs.declared.reply.Outcome.TheVariants.{Indexed, Noted, Paid, Returned}
 use Rattle.lifetime_ledger.specs.Used.{use_of}
 use Rattle.withdrawal_returns.specs.declared.Lines.{Lines}
+use Rattle.office_history.specs.Answer.{indexed}
 use Rattle.office_history.specs.Award.{scheduled}
 use Rattle.office_history.specs.Net.{in_year, net, used, used_else}
+
+-- what an application brings: its formula, final index and award, and nothing where it is out of range for the book
+abbrev pub brought_by : Option Refusal → Option Book → Application → Outcome
+brought_by None book a = indexed book (Some a)
+brought_by (Some refusal) book a = Noted
+
+-- the Scheduled Award in dollars that an outcome tells, 0 where it tells none
+abbrev pub awarded : Outcome → ℕ
+awarded (Indexed formula sai way scheduled) = scheduled
+awarded _ = 0
 
 -- the year's net of a payment's program with it
 abbrev pub net_with : List Filing → Amount → ℕ

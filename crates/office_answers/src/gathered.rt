@@ -1,49 +1,47 @@
 //! What is read of the filings so far to judge a filing: the facts that its rules are tried on, and what its outcome is
 //! worked out from. Each kind asks each row once.
 ghost use Rattle.std.specs.Prelude.{◌≡◌, ◌+◌, ◌-◌, ◌*◌, ◌≤◌, Some, None, slice_index};
-ghost use Rattle.std.specs.Option.{option_copied};
 ghost use Rattle.aid_types.specs.Programs.{rank as rank_of};
 ghost use Rattle.aid_filings.specs.Students.{student_of};
 ghost use Rattle.aid_filings.specs.declared.filing.What.TheVariants.{Book as BookFiled, School as SchoolFiled, Calendar, Prior, Apply, Enrol, Originate, Withdraw, Repay, Adjust};
 ghost use Rattle.filing_rules.specs.InRange.{AreFactsInRange};
-ghost use Rattle.office_history.specs.Award.{award_under, unfit_under};
-ghost use Rattle.office_history.specs.FactsOf.{award_filed as award_filed_of, facts_of, if_fit, no_facts, payment_facts as payment_facts_of, transaction_of};
+ghost use Rattle.office_history.specs.FactsOf.{facts_of, no_facts, payment_facts as payment_facts_of, transaction_of};
 ghost use Rattle.office_history.specs.Net.{used_else as used_else_of};
 ghost use Rattle.office_answers.specs.Basis.{IsBasis, IsBasisOf};
 ghost use Rattle.office_history.specs.Rows.{student_row, year_row};
 ghost use Rattle.office_answers.specs.Walked.{walked};
 
-use aid_books::{Book, BoxedBook};
+use crate::applications::{award_in, brought_under, unfit};
+use aid_books::BoxedBook;
 use aid_filings::{
     Amount, CalendarFacts, EnrolFacts, Filing, OriginateFacts, PriorFacts, SchoolFacts, What,
     WithdrawFacts,
 };
-use aid_types::{Application, Key, Program, Refusal, School, Student, Term, Year};
+use aid_replies::Outcome;
+use aid_types::{Application, Key, Program, School, Student, Term, Year};
 use filing_rules::Facts;
 use lifetime_ledger::use_of;
 use office_history::{
-    Account, OnFile, PlaceRow, SchoolRow, SchoolYearRow, StudentRow, TermRow, YearRow, award,
+    Account, OnFile, PlaceRow, SchoolRow, SchoolYearRow, StudentRow, TermRow, YearRow,
 };
-use sai_index::fits;
 use std::sync::ledger::Ledger;
 use steps::Steps;
 
 /// The facts that the rules of a filing's kind read, and what its outcome is worked out from.
 #[derive(Clone, Copy)]
-pub struct Gathered<'a> {
+pub struct Gathered {
     pub facts: Facts,
-    pub basis: Basis<'a>,
+    pub basis: Basis,
 }
 
 /// What the outcome of a filing is worked out from.
 #[derive(Clone, Copy)]
-pub enum Basis<'a> {
+pub enum Basis {
     /// Nothing: the filing is only noted.
     Nothing,
-    /// The book of an application's year, and the student's application in force before it.
+    /// What an application brings under the book of its year, where it isn't out of range for it.
     Application {
-        book: Option<&'a Book>,
-        before: Option<Application>,
+        brought: Outcome,
     },
     /// The year and the student of a payment, before it.
     Payment {
@@ -58,11 +56,7 @@ pub enum Basis<'a> {
 }
 
 /// What is read of the filings so far to judge a filing.
-pub fn gather<'a, P: OnFile, L: Ledger>(
-    past: &'a P,
-    filing: &Filing,
-    steps: &mut Steps<L>,
-) -> Gathered<'a>
+pub fn gather<P: OnFile, L: Ledger>(past: &P, filing: &Filing, steps: &mut Steps<L>) -> Gathered
     ensures facts { result.facts ≡ facts_of (P.history past.now) filing.now.key filing.now.what }
     ensures in_range { AreFactsInRange result.facts }
     ensures basis { IsBasis (P.history past.now) filing.now result.basis }
@@ -91,11 +85,7 @@ pub fn payment_facts<P: OnFile, L: Ledger>(
     of_payment(past, school, student, year, number, program, steps).facts
 }
 
-fn gather_of_kind<'a, P: OnFile, L: Ledger>(
-    past: &'a P,
-    filing: &Filing,
-    steps: &mut Steps<L>,
-) -> Gathered<'a>
+fn gather_of_kind<P: OnFile, L: Ledger>(past: &P, filing: &Filing, steps: &mut Steps<L>) -> Gathered
     ensures facts { result.facts ≡ facts_of (P.history past.now) filing.now.key filing.now.what }
     ensures basis { IsBasis (P.history past.now) filing.now result.basis }
     ensures cost { steps.new ≤ steps.old + 5 * P.looks past.now + 4 * walked (P.history past.now) filing.now.key.school (student_of filing.now.what) }
@@ -121,7 +111,7 @@ fn gather_of_kind<'a, P: OnFile, L: Ledger>(
 }
 
 // Facts of a filing that is only noted.
-fn noted<'a>(facts: Facts) -> Gathered<'a>
+fn noted(facts: Facts) -> Gathered
     ensures { result.facts ≡ facts }
 {
     Gathered {
@@ -213,12 +203,12 @@ fn prior_facts<P: OnFile, L: Ledger>(
 }
 
 // What an application reads.
-fn of_application<'a, P: OnFile, L: Ledger>(
-    past: &'a P,
+fn of_application<P: OnFile, L: Ledger>(
+    past: &P,
     key: &Key,
     filed: &Application,
     steps: &mut Steps<L>,
-) -> Gathered<'a>
+) -> Gathered
     ensures facts { result.facts ≡ facts_of (P.history past.now) key.now (Apply filed.now) }
     ensures basis { IsBasisOf (P.history past.now) key.now.school (Apply filed.now) result.basis }
     ensures cost { steps.new ≤ steps.old + 5 * P.looks past.now + 4 * walked (P.history past.now) key.now.school (Some filed.now.student) }
@@ -227,7 +217,9 @@ fn of_application<'a, P: OnFile, L: Ledger>(
     let book_at = past.book_at(filed.year, steps);
     let book = past.book(filed.year, steps);
     let year = past.year(filed.student, filed.year, steps);
-    let next_scheduled = award_filed(book, filed);
+    let unfit = unfit(book, filed);
+    let brought = brought_under(book, filed, &unfit);
+    let next_scheduled = award_in(&brought);
     let (student, term_over) = past.over(next_scheduled, filed.student, filed.year, steps);
     let facts = Facts {
         book_at,
@@ -235,38 +227,14 @@ fn of_application<'a, P: OnFile, L: Ledger>(
         pell_year: year.nets.at(Program::Pell),
         pell_main: year.main,
         used_else: used_else(past, filed.student, filed.year, &student, &year),
-        unfit: unfit(book, filed),
+        unfit,
         next_scheduled,
         term_over,
         ..desk_facts(past.front(), &school)
     };
     Gathered {
         facts,
-        basis: Basis::Application {
-            book,
-            before: year.application,
-        },
-    }
-}
-
-// Why an application is out of range for the year's book.
-fn unfit(book: Option<&Book>, filed: &Application) -> Option<Refusal>
-    ensures { result ≡ unfit_under (option_copied book.entry) filed.now }
-{
-    match book {
-        Some(book) => fits(book, filed),
-        None => None,
-    }
-}
-
-// The Scheduled Award that an application gives under the year's book, 0 where it is out of range.
-fn award_filed(book: Option<&Book>, filed: &Application) -> u32
-    ensures value { result ≡ if_fit (unfit_under (option_copied book.entry) filed.now) (award_under (option_copied book.entry) (Some filed.now)) }
-    ensures at_most { result ≤ 100000 }
-{
-    match book {
-        Some(book) if fits(book, filed).is_none() => award(book, filed),
-        _ => 0,
+        basis: Basis::Application { brought },
     }
 }
 
@@ -393,15 +361,15 @@ fn aid_facts(
 }
 
 // What a payment reads.
-fn of_payment<'a, P: OnFile, L: Ledger>(
-    past: &'a P,
+fn of_payment<P: OnFile, L: Ledger>(
+    past: &P,
     school: School,
     student: Student,
     year: Year,
     number: u8,
     program: Program,
     steps: &mut Steps<L>,
-) -> Gathered<'a>
+) -> Gathered
     ensures facts { result.facts ≡ payment_facts_of (P.history past.now) school student year number (rank_of program) }
     ensures basis { result.basis ≡ Basis.Payment (year_row (P.history past.now) student year) (student_row (P.history past.now) student) }
     ensures cost { steps.new ≤ steps.old + 5 * P.looks past.now + 4 * walked (P.history past.now) school (Some student) }
@@ -431,12 +399,12 @@ fn of_payment<'a, P: OnFile, L: Ledger>(
 }
 
 // What a withdrawal reads.
-fn of_withdrawal<'a, P: OnFile, L: Ledger>(
-    past: &'a P,
+fn of_withdrawal<P: OnFile, L: Ledger>(
+    past: &P,
     key: &Key,
     w: &WithdrawFacts,
     steps: &mut Steps<L>,
-) -> Gathered<'a>
+) -> Gathered
     ensures facts { result.facts ≡ facts_of (P.history past.now) key.now (Withdraw w.now) }
     ensures basis { IsBasisOf (P.history past.now) key.now.school (Withdraw w.now) result.basis }
     ensures cost { steps.new ≤ steps.old + 5 * P.looks past.now + 4 * walked (P.history past.now) key.now.school (Some w.now.student) }

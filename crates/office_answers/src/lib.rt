@@ -2,6 +2,7 @@
 //! where a student stands.
 #![tactic(auto)]
 
+mod applications;
 mod entry;
 mod gathered;
 mod sheets;
@@ -9,6 +10,7 @@ mod standings;
 mod uncounted;
 mod verdicts;
 
+pub use applications::{award_in, indexed_under};
 pub use entry::{adjusted, entry_of, paid, repaid, returned};
 pub use gathered::{Basis, Gathered, gather, payment_facts};
 pub use sheets::sheet;

@@ -1,13 +1,14 @@
 //! The verdict on a filing, and with what it is admitted, over whatever keeps what is on file.
 ghost use Rattle.std.specs.Prelude.{◌≡◌, ◌+◌, ◌*◌, ◌≤◌, ◌∷◌, None, Some, List};
-ghost use Rattle.std.specs.Option.{option_copied};
 ghost use Rattle.aid_filings.specs.declared.filing.Filing.{Filing as Filed};
 ghost use Rattle.aid_filings.specs.Students.{student_of};
 ghost use Rattle.aid_replies.specs.declared.reply.Verdict.TheVariants.{Refused};
 ghost use Rattle.aid_types.specs.Ranges.{EachIsCents, IsBetween};
-ghost use Rattle.office_history.specs.Answer.{IsLegal, answer_of, breaks, indexed, indexed_by, is_admit, judged, outcome_of};
+ghost use Rattle.aid_types.specs.declared.application.Application.{Application as Applied};
+ghost use Rattle.office_history.specs.Answer.{IsLegal, answer_of, breaks, indexed, is_admit, judged, outcome_of};
+ghost use Rattle.office_history.specs.Award.{unfit_under};
 ghost use Rattle.office_history.specs.Net.{sheet as sheet_after};
-ghost use Rattle.office_history.specs.Past.{application as application_in_force, higher, key_at, the_book, the_term};
+ghost use Rattle.office_history.specs.Past.{key_at, the_book, the_term};
 ghost use Rattle.office_history.specs.Sheets.{CanBeWorkedOut};
 ghost use Rattle.office_answers.specs.Basis.{IsBasis, IsOfApplication, IsOfPayment, IsOfWithdrawal};
 ghost use Rattle.office_answers.specs.Brought.{IsWithPayment, paid_with, returned_by};
@@ -16,14 +17,12 @@ ghost use Rattle.office_answers.specs.Walked.{walked};
 
 use crate::gathered::{Basis, gather, used_else};
 use crate::sheets::sheet;
-use aid_books::Book;
 use aid_filings::{Amount, Filing, What, WithdrawFacts};
 use aid_replies::{Outcome, Verdict};
-use aid_types::{Application, Key, Program, Refusal, Term};
+use aid_types::{Key, Program, Refusal, Term};
 use filing_rules::broken;
 use lifetime_ledger::use_of;
-use office_history::{Account, OnFile, StudentRow, YearRow, decision};
-use sai_index::formula_of;
+use office_history::{Account, OnFile, StudentRow, YearRow};
 use std::sync::ledger::Ledger;
 use steps::Steps;
 use withdrawal_returns::Lines;
@@ -93,7 +92,7 @@ pub fn outcome<P: OnFile>(past: &P, filing: &Filing, basis: &Basis) -> Outcome
     ensures { result ≡ outcome_of (P.history past.now) filing.now }
 {
     match &filing.what {
-        What::Apply(filed) => outcome_of_application(filed, basis),
+        What::Apply(_) => outcome_of_application(basis),
         What::Pay(amount) => outcome_of_payment(past, amount, basis),
         What::Withdraw(withdrawal) => {
             outcome_of_withdrawal(past, &filing.key, withdrawal, basis)
@@ -102,45 +101,14 @@ pub fn outcome<P: OnFile>(past: &P, filing: &Filing, basis: &Basis) -> Outcome
     }
 }
 
-// An application's award under the year's book, or that of the application in force with a higher transaction.
-fn outcome_of_application(filed: &Application, basis: &Basis) -> Outcome
-    ensures { (past : List Filed) → IsOfApplication past filed.now basis.now
-        → result ≡ indexed (the_book past filed.now.year) (higher (Some filed.now) (application_in_force past filed.now.student filed.now.year)) }
+// What an application brings that isn't out of range for its year's book.
+fn outcome_of_application(basis: &Basis) -> Outcome
+    ensures { (past : List Filed) (filed : Applied) → IsOfApplication past filed basis.now
+        → unfit_under (the_book past filed.year) filed ≡ None → result ≡ indexed (the_book past filed.year) (Some filed) }
 {
     match basis {
-        Basis::Application { book, before } => indexed_under(*book, &higher_of(*filed, *before)),
+        Basis::Application { brought } => *brought,
         _ => Outcome::Noted,
-    }
-}
-
-// The one of two applications with the higher transaction.
-fn higher_of(filed: Application, before: Option<Application>) -> Application
-    ensures { Some result ≡ higher (Some filed) before }
-{
-    match before {
-        Some(before) if before.transaction >= filed.transaction => before,
-        _ => filed,
-    }
-}
-
-fn indexed_under(book: Option<&Book>, application: &Application) -> Outcome
-    ensures { result ≡ indexed (option_copied book.entry) (Some application.now) }
-{
-    match book {
-        Some(book) => indexed_by_book(book, application),
-        None => Outcome::Noted,
-    }
-}
-
-fn indexed_by_book(book: &Book, application: &Application) -> Outcome
-    ensures { result ≡ indexed_by book.now application.now }
-{
-    let decision = decision(book, application);
-    Outcome::Indexed {
-        formula: formula_of(book, application),
-        sai: decision.sai,
-        way: decision.way,
-        scheduled: decision.scheduled,
     }
 }
 

@@ -1,5 +1,5 @@
 -- The rows of an index tell what is on file with a filing more.
-use Rattle.std.proofs.Common.{◌≡◌, ℕ, ◌+◌, ◌-◌, ◌<◌, ◌≤◌, ap, subst, sym, ◌∙◌, arith, List, [], ◌∷◌, ◌++◌, length, reverse, Some}
+use Rattle.std.proofs.Common.{◌≡◌, ℕ, ◌+◌, ◌-◌, ◌<◌, ◌≤◌, subst, sym, arith, List, [], ◌∷◌, ◌++◌, length, reverse, Some}
 use Rattle.aid_filings.specs.declared.filing.EnrolFacts.{EnrolFacts}
 use Rattle.aid_filings.specs.declared.filing.Filing.{Filing}
 use Rattle.aid_filings.specs.declared.filing.What.TheVariants.{Enrol}
@@ -76,8 +76,7 @@ pub linkable : (past : List Filing) (f : Filing) (w : Written) (old new : List (
 linkable past f w old new newest slot school term legal written stays there before placed = record {
   legal = legal;
   stays = stays;
-  term_before = λ c is. before ∙ ap (before_in past f.key.school) is;
-  enrolment_before = λ e is. before ∙ ap (before_in past f.key.school) is;
+  before = before;
   placed = λ e is.
       let row = written.enrolled e is in
       let here = there (place_name f.key.school e) row.0 row.1 in

@@ -11,5 +11,6 @@ mod RowsFound
 mod RowsWritten
 mod StandingLemmas
 mod Unpaid
-pub mod Found
+pub mod EnrolledFirst
+mod Found
 pub mod OnRecord

@@ -22,7 +22,7 @@ use Rattle.office_history.specs.declared.rows.StudentRow.{StudentRow}
 use Rattle.office_rows.specs.After.{IsPlaceAfter, IsSchoolAfter, IsSchoolYearAfter, IsStudentAfter, IsYearAfter}
 use Rattle.office_rows.specs.Changed.{place_changed, school_year_changed, student_changed, year_changed}
 use Rattle.office_history.specs.Names.{school_year_cmp, year_cmp, place_name}
-use Rattle.office_links.specs.Links.{AreLinked, is_enrolled, is_term_of, last_at}
+use Rattle.office_links.specs.Links.{AreLinked, newest_place, newest_term}
 use Rattle.office_core.specs.Register.{outcomes_of}
 use Rattle.office_core.specs.declared.entries.SchoolEntry.{SchoolEntry}
 use Rattle.office_core.specs.declared.entries.StudentEntry.{StudentEntry}
@@ -72,12 +72,12 @@ abbrev pub written_or : {K V : Type 0} → (K → K → Ordering) → Option (K 
 written_or cmp None name before = before
 written_or cmp (Some row) name before = cond (is_eq (cmp row.0 name)) (Some row.1) before
 
--- a school with its newest term, and a student with the newest enrolment
+-- a school with its newest term, and a student with the newest enrolment that is the first in its term at the school
 abbrev pub school_entry : List Filing → ℕ → SchoolEntry
-school_entry past code = record { row = school_row past code; newest = last_at (is_term_of code) past }
+school_entry past code = record { row = school_row past code; newest = newest_term past code }
 
 abbrev pub student_entry : List Filing → ℕ → StudentEntry
-student_entry past student = record { row = student_row past student; newest = last_at (is_enrolled student) past }
+student_entry past student = record { row = student_row past student; newest = newest_place past student }
 
 -- the rows of each table tell what is on file
 abbrev pub AreKeys : List Filing → List (FilingNumber × ℕ) → Type 0

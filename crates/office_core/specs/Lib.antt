@@ -1,4 +1,3 @@
-pub mod Awarded
 pub mod Digits
 pub mod Index
 pub mod Register

@@ -6,7 +6,7 @@ ghost use Rattle.office_rows.specs.Changed.{IsPlaceBefore, IsStudentBefore, IsYe
 
 use aid_filings::{Filing, What};
 use aid_replies::Outcome;
-use office_answers::{Basis, outcome};
+use office_answers::{Basis, indexed_under, outcome};
 use office_history::{OnFile, PlaceRow, StudentRow, YearRow};
 use office_rows::{book_of, term_of};
 
@@ -28,13 +28,13 @@ pub(crate) fn outcome_after<P: OnFile>(
 }
 
 // What the outcome is worked out from.
-fn basis_of<'a, P: OnFile>(
-    past: &'a P,
+fn basis_of<P: OnFile>(
+    past: &P,
     filing: &Filing,
     place: &PlaceRow,
     year: &YearRow,
     student: &StudentRow,
-) -> Basis<'a>
+) -> Basis
     requires place { IsPlaceBefore (P.history past.now) filing.now place.now }
     requires year { IsYearBefore (P.history past.now) filing.now year.now }
     requires student { IsStudentBefore (P.history past.now) filing.now student.now }
@@ -42,8 +42,7 @@ fn basis_of<'a, P: OnFile>(
 {
     match &filing.what {
         What::Apply(filed) => Basis::Application {
-            book: book_of(past, filed.year),
-            before: year.application,
+            brought: indexed_under(book_of(past, filed.year), filed),
         },
         What::Pay(_) => Basis::Payment {
             year: *year,

@@ -21,7 +21,7 @@ pub struct SchoolEntry {
     pub newest: u32,
 }
 
-/// A student with the position of the newest enrolment, 0 where there is none.
+/// A student with the position of the newest enrolment that is the first in its term at the school, 0 where there is none.
 #[derive(Clone, Copy, PartialEq, Eq, Debug)]
 pub struct StudentEntry {
     pub row: StudentRow,
@@ -67,24 +67,30 @@ pub(crate) fn student_told(row: Option<StudentEntry>) -> StudentEntry
 pub(crate) fn place_told(row: Option<PlaceRow>) -> PlaceRow
     ensures { result ≡ place_or row }
 {
-    row.unwrap_or(PlaceRow {
-        credits: 0,
-        withdrawn_at: 0,
-        could: ByProgram::EMPTY,
-        account: Account::EMPTY,
-    })
+    match row {
+        Some(row) => row,
+        None => PlaceRow {
+            credits: 0,
+            withdrawn_at: 0,
+            could: ByProgram::EMPTY,
+            account: Account::EMPTY,
+        },
+    }
 }
 
 /// The year that a row tells, nothing where there is no row.
 pub(crate) fn year_told(row: Option<YearRow>) -> YearRow
     ensures { result ≡ year_or row }
 {
-    row.unwrap_or(YearRow {
-        application: None,
-        scheduled: 0,
-        nets: ByProgram::EMPTY,
-        main: 0,
-    })
+    match row {
+        Some(row) => row,
+        None => YearRow {
+            application: None,
+            scheduled: 0,
+            nets: ByProgram::EMPTY,
+            main: 0,
+        },
+    }
 }
 
 /// The school's year that a row tells, nothing where there is no row.

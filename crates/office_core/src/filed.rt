@@ -3,15 +3,16 @@ ghost use Rattle.std.specs.Prelude.{◌≡◌, ◌+◌, ◌<◌, ◌≤◌, ◌�
 ghost use Rattle.std.specs.Ordering.{is_eq, nat_cmp};
 ghost use Rattle.sorted_rows.specs.Places.{AreStaying, IsHere, IsWritten, value_at};
 ghost use Rattle.aid_filings.specs.declared.filing.Filing.{Filing as Filed};
+ghost use Rattle.office_history.specs.Answer.{IsLegal};
 ghost use Rattle.office_history.specs.Past.{first_of_two, key_at};
 ghost use Rattle.office_history.specs.declared.rows.StudentRow.{StudentRow as OfStudent};
 ghost use Rattle.office_rows.specs.After.{IsSchoolAfter, IsStudentAfter};
-ghost use Rattle.office_rows.specs.Changed.{student_changed};
+ghost use Rattle.office_rows.specs.Changed.{IsPlaceBefore, student_changed};
 ghost use Rattle.office_core.specs.Index.{AreBooks, AreKeys, AreSchools, AreStudents, position_or, school_or, student_or, written_or};
 
 use crate::entries::{FilingNumber, SchoolEntry, StudentEntry, position_told, school_told};
 use aid_filings::{Filing, What};
-use office_history::{SchoolRow, StudentRow};
+use office_history::{PlaceRow, SchoolRow, StudentRow};
 use sorted_rows::{Slots, Table};
 
 /// Writes a row, where one is to be written, and tells its slot; 0 where none is. `slot` is that of a row with its name, where
@@ -146,13 +147,15 @@ fn write_newest_term(schools: &mut Slots<u32, SchoolEntry>, code: u32, newest: u
     schools.put(code, SchoolEntry { row, newest });
 }
 
-/// Writes a student's row where one is to be written, or the position of an enrolment as the student's newest. `slot` is that
-/// of the student's row, where there is one, and `before` what is told of the student.
+/// Writes a student's row where one is to be written, or the position of an enrolment that is the first in its place as the
+/// student's newest. `slot` is that of the student's row, where there is one, `before` what is told of the student, and `place`
+/// the row of the place of an enrolment, which is the first where no credits are in force.
 pub(crate) fn write_student(
     students: &mut Slots<u64, StudentEntry>,
     slot: Option<u32>,
     before: &StudentEntry,
     filing: &Filing,
+    place: &PlaceRow,
     written: Option<(u64, StudentRow)>,
     position: u32,
 )
@@ -161,13 +164,15 @@ pub(crate) fn write_student(
     requires named { (student : ℕ) (row : OfStudent) → written ≡ Some (student, row) → student_changed filing.now.what ≡ Some student }
     requires room { 1 ≤ students.old.room }
     requires few { length students.old.rows < 4294967295 }
-    ensures rows { (past : List Filed) → position ≡ length past + 1 → IsStudentAfter past filing.now written → AreStudents past students.old.rows → AreStudents (filing.now ∷ past) students.new.rows }
+    ensures rows { (past : List Filed) → IsLegal past → position ≡ length past + 1 → IsPlaceBefore past filing.now place.now → IsStudentAfter past filing.now written → AreStudents past students.old.rows → AreStudents (filing.now ∷ past) students.new.rows }
     ensures room { students.old.room ≤ students.new.room + 1 }
     ensures count { length students.new.rows ≤ length students.old.rows + 1 }
 {
     match (&filing.what, written) {
         (What::Enrol(enrolment), _) => {
-            write_newest_enrolment(students, slot, before, enrolment.student.0, position)
+            if place.credits == 0 {
+                write_newest_enrolment(students, slot, before, enrolment.student.0, position);
+            }
         }
         (_, Some((student, row))) => write_student_row(students, slot, before, student, row),
         (_, None) => {}

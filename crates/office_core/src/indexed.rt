@@ -5,6 +5,7 @@ ghost use Rattle.aid_filings.specs.declared.filing.EnrolFacts.{EnrolFacts as Enr
 ghost use Rattle.aid_filings.specs.declared.filing.What.TheVariants.{Enrol};
 ghost use Rattle.office_history.specs.Answer.{IsLegal, outcome_of};
 ghost use Rattle.office_history.specs.FactsOf.{school_at, term_at};
+ghost use Rattle.office_rows.specs.Changed.{IsPlaceBefore};
 ghost use Rattle.office_core.specs.Digits.{digits_of};
 ghost use Rattle.office_core.specs.Index.{book_filed, school_entry, student_entry};
 ghost use Rattle.office_links.specs.Links.{before_in};
@@ -146,7 +147,7 @@ impl Indexed {
         let cost = school_year_told(cost);
         let student = student_told(student);
         let outcome = outcome_after(self, &filing, &place, &year, &student.row);
-        let before = self.newest_before(&filing, &student);
+        let before = self.newest_before(&filing, &place, &student);
         let (school_at, term_at) = self.term_of(&filing);
         let written = rows_after(self, &filing, &outcome, &place, &year, &cost, &student.row);
         let slot = write(&mut self.places, place_slot, &written.place);
@@ -158,6 +159,7 @@ impl Indexed {
             student_slot,
             &student,
             &filing,
+            &place,
             written.student,
             position,
         );
@@ -171,15 +173,23 @@ impl Indexed {
         outcome
     }
 
-    // The position of the term before a term that is filed, of the same school, or of the enrolment before an enrolment, of
-    // the same student; 0 where there is none. `student` is the student of an enrolment.
-    fn newest_before(&self, filing: &Filing, student: &StudentEntry) -> u32
-        requires { (e : Enrolment) → filing.now.what ≡ Enrol e → student.now ≡ student_entry self.now.history e.student }
+    // The position of the term before a term that is filed, of the same school, or of the first enrolment before an enrolment
+    // that is the first in its place, of the same student; 0 where there is none. `place` and `student` are those of an
+    // enrolment, which is the first where no credits are in force.
+    fn newest_before(&self, filing: &Filing, place: &PlaceRow, student: &StudentEntry) -> u32
+        requires place { IsPlaceBefore self.now.history filing.now place.now }
+        requires student { (e : Enrolment) → filing.now.what ≡ Enrol e → student.now ≡ student_entry self.now.history e.student }
         ensures { result ≡ before_in self.now.history filing.now.key.school filing.now.what }
     {
         match &filing.what {
             What::Calendar(_) => school_told(self.schools.at(&filing.key.school.0)).newest,
-            What::Enrol(_) => student.newest,
+            What::Enrol(_) => {
+                if place.credits == 0 {
+                    student.newest
+                } else {
+                    0
+                }
+            }
             _ => 0,
         }
     }
@@ -211,7 +221,7 @@ impl Indexed {
         school_told(self.schools.get(&code, steps))
     }
 
-    // A student and the newest enrolment.
+    // A student and the newest enrolment that is the first in its place.
     fn student_entry<L: Ledger>(&self, student: Student, steps: &mut Steps<L>) -> StudentEntry
         ensures value { result ≡ student_entry self.now.history student }
         ensures cost { steps.new ≤ steps.old + 2 * digits_of (length self.now.history) }

@@ -1,13 +1,14 @@
 //! The rows that a filing writes.
 ghost use Rattle.std.specs.Prelude.{◌≡◌, ◌∷◌};
 ghost use Rattle.office_history.specs.Answer.{IsLegal, outcome_of};
-ghost use Rattle.office_core.specs.Awarded.{awarded};
+ghost use Rattle.office_answers.specs.Brought.{awarded};
 ghost use Rattle.office_rows.specs.Changed.{IsPlaceBefore, IsSchoolYearBefore, IsStudentBefore, IsYearBefore};
 ghost use Rattle.office_core.specs.Index.{IsWrittenBy};
 
 use crate::own_entry::own_entry;
 use aid_filings::Filing;
 use aid_replies::Outcome;
+use office_answers::award_in;
 use office_history::{
     OnFile, PlaceRow, SchoolRow, SchoolYearRow, StudentPlace, StudentRow, StudentSchoolYear,
     StudentYear, YearRow,
@@ -50,15 +51,5 @@ pub(crate) fn rows_after<P: OnFile>(
         place: place_after(past, filing, place, &moved),
         year: year_written,
         school_year: school_year_after(past, filing, school_year, &moved),
-    }
-}
-
-// The Scheduled Award in dollars that an outcome tells, 0 where it tells none.
-fn award_in(outcome: &Outcome) -> u32
-    ensures { result ≡ awarded outcome.now }
-{
-    match outcome {
-        Outcome::Indexed { scheduled, .. } => *scheduled,
-        _ => 0,
     }
 }

@@ -1,5 +1,5 @@
--- A term that holds net Pell of a student is one of the student's enrolments, and an enrolment's term that does is on file. So
--- what the enrolments tell is what the terms on file tell.
+-- A term that holds net Pell of a student has a first enrolment of the student, and an enrolment's term that does is on file. So
+-- what the first enrolments tell is what the terms on file tell.
 use Rattle.std.proofs.Common.{◌≡◌, ℕ, zero, suc, ◌+◌, ◌<◌, ◌≤◌, refl, sym, ap, subst, ◌∙◌, arith, Bool, true, false, not, ◌&&◌, ◌||◌, ◌⊎◌, inl, inr, List, [], ◌∷◌, length, Option, Some, None, eqb-true, eq-eqb, ltb-true}
 use Rattle.std.specs.Prelude.{◌==◌, nat_lt}
 use Rattle.std.specs.List.{Contains, list_any}
@@ -8,7 +8,6 @@ use Rattle.std.proofs.lemmas.Bool.Decides.{nat_tests}
 use Rattle.std.proofs.lemmas.List.Elements.{All-contains, All-contains_itself, All-weaker}
 use Rattle.aid_filings.specs.Calendars.{term_of}
 use Rattle.aid_filings.specs.declared.filing.CalendarFacts.{CalendarFacts}
-use Rattle.aid_filings.specs.declared.filing.EnrolFacts.{EnrolFacts}
 use Rattle.aid_filings.specs.declared.filing.Filing.{Filing}
 use Rattle.aid_filings.specs.declared.filing.What.{What}
 use Rattle.aid_filings.specs.declared.filing.What.TheVariants.{Book, School, Calendar, Prior, Apply, Enrol, Originate, Pay, Withdraw, Repay, Adjust}
@@ -30,7 +29,9 @@ use Rattle.office_history.proofs.LeastNumbers.{code_tells, told_least, told_none
 use Rattle.office_history.proofs.LeastTerms.{nothing_found}
 use Rattle.office_history.proofs.TermsOnFile.{coded_terms, over_found}
 use Rattle.office_links.specs.Enrolments.{comes_before, first_over, if_own, is_beside, is_beside_in, is_term_beside, least_school, over_in, over_of, refusal_of, shares, term_over_in}
+use Rattle.office_links.specs.Links.{first_enrolments}
 use Rattle.office_links.specs.declared.enrolments.Over.{Over}
+use Rattle.office_links.proofs.EnrolmentsFirst.{IsFirstEnrolled, first_enrolled}
 use Rattle.office_links.proofs.EnrolmentsLeast.{AreCoded, CodeFound, FirstFound, IsAtMost, IsNotBefore, code_below, code_found, first_below, first_found}
 
 -- a term on file of a school, a year and a number
@@ -117,33 +118,19 @@ at_place : {X : Type 0} (F : ℕ → ℕ → ℕ → X) (s y n t z m : ℕ) → 
 at_place F s y n t z m a b c = ap (λ (x : ℕ). F x y n) a ∙ ap (λ (x : ℕ). F t x n) b ∙ ap (λ (x : ℕ). F t z x) c
 
 module _ (past : List Filing) (legal : IsLegal past) (student : ℕ) where
-  -- the enrolment of a term on file that holds net Pell
-  pub record Enrolled (school year number : ℕ) : Type 0 where
-    pub key : Key
-    pub facts : EnrolFacts
-    pub stands : Contains past (record { key = key; what = Enrol facts })
-    pub own : (facts.student == student) ≡ true
-    pub own_school : key.school ≡ school
-    pub own_year : facts.year ≡ year
-    pub own_number : facts.term ≡ number
+  -- the student's first enrolments, of which each term that holds net Pell has one
+  abbrev firsts : List Filing
+  firsts = first_enrolments past student
 
-  enrolled : (school year number : ℕ) → 0 < pell_term past school student year number → Enrolled school year number
+  enrolled : (school year number : ℕ) → 0 < pell_term past school student year number → IsFirstEnrolled student school year number past
   enrolled school year number pos =
       let e = paid_enrolled past legal (pell_cell school student year number) (omega arith) in
-      record {
-        key = e.key;
-        facts = e.facts;
-        stands = e.stands;
-        own = eq-eqb e.facts.student student e.student;
-        own_school = e.school;
-        own_year = e.year;
-        own_number = e.term;
-      }
+      first_enrolled student school year number past e.key e.facts e.stands e.student e.school e.year e.term
 
   module _ (school : ℕ) (this : Term) where
     -- a term beside this one is enrolled in
     beside_enrolled : (t : OnFile) → Contains (terms_on_file past) t → is_paid_beside past school student (Some this) t ≡ true →
-        CodeFound (is_beside past school student this) past t.school
+        CodeFound (is_beside past school student this) firsts t.school
     beside_enrolled t there passes =
         let a = and_parts (not (t.school == school)) _ passes in
         let b = and_parts (shares_day this t.term) (nat_lt 0 (pell_term past t.school student t.year t.term.number)) a.1 in
@@ -152,8 +139,8 @@ module _ (past : List Filing) (legal : IsLegal past) (student : ℕ) where
         let here : is_term_beside past school student this t.school t.year t.term.number ≡ true =
         both (not (t.school == school)) _ a.0 (both (nat_lt 0 (pell_term past t.school student t.year t.term.number)) _ b.1 shared) in
         let moved : is_term_beside past school student this e.key.school e.facts.year e.facts.term ≡ is_term_beside past school student this t.school t.year t.term.number =
-        at_place (is_term_beside past school student this) e.key.school e.facts.year e.facts.term t.school t.year t.term.number e.own_school e.own_year e.own_number in
-        (record { key = e.key; what = Enrol e.facts }, e.stands, both (e.facts.student == student) _ e.own (moved ∙ here), e.own_school)
+        at_place (is_term_beside past school student this) e.key.school e.facts.year e.facts.term t.school t.year t.term.number e.own_school e.own_year e.own_term in
+        (record { key = e.key; what = Enrol e.facts }, e.stands, both (e.facts.student == student) _ (eq-eqb e.facts.student student e.own_student) (moved ∙ here), e.own_school)
 
     -- and an enrolment beside it is in a term on file
     pub record Beside (code : ℕ) : Type 0 where
@@ -197,24 +184,24 @@ module _ (past : List Filing) (legal : IsLegal past) (student : ℕ) where
         go key (Repay b) h = absurd cc
         go key (Adjust b) h = absurd cc
 
-    coded : AreCoded (is_beside past school student this) past
+    coded : AreCoded (is_beside past school student this) firsts
     coded f there passes =
         let b = beside_stands f passes in
         let pos : 0 < b.term.school = All-contains (λ t. 0 < t.school) (terms_on_file past) b.term (coded_terms past legal) b.among in
         subst (λ (n : ℕ). 0 < n) b.own_school pos
 
     -- the least code of the terms is that of the enrolments
-    pub code_beside : least_school (is_beside past school student this) past 0 ≡ least_code (is_paid_beside past school student (Some this)) (terms_on_file past)
-    code_beside = go (least_school (is_beside past school student this) past 0) refl
+    pub code_beside : least_school (is_beside past school student this) (first_enrolments past student) 0 ≡ least_code (is_paid_beside past school student (Some this)) (terms_on_file past)
+    code_beside = go (least_school (is_beside past school student this) firsts 0) refl
       where
-        below : (n : ℕ) → least_school (is_beside past school student this) past 0 ≡ n → (t : OnFile) → Contains (terms_on_file past) t →
+        below : (n : ℕ) → least_school (is_beside past school student this) firsts 0 ≡ n → (t : OnFile) → Contains (terms_on_file past) t →
             is_paid_beside past school student (Some this) t ≡ true → IsAtMost t.school n
         below n e t there passes =
             let w = beside_enrolled t there passes in
-            let most : IsAtMost w.0.key.school (least_school (is_beside past school student this) past 0) = code_below (is_beside past school student this) past 0 coded w.0 w.1 w.2 in
-            subst (IsAtMost t.school) e (subst (λ (c : ℕ). IsAtMost c (least_school (is_beside past school student this) past 0)) w.3 most)
+            let most : IsAtMost w.0.key.school (least_school (is_beside past school student this) firsts 0) = code_below (is_beside past school student this) firsts 0 coded w.0 w.1 w.2 in
+            subst (IsAtMost t.school) e (subst (λ (c : ℕ). IsAtMost c (least_school (is_beside past school student this) firsts 0)) w.3 most)
 
-        none : least_school (is_beside past school student this) past 0 ≡ 0 → NonePasses (is_paid_beside past school student (Some this)) (terms_on_file past)
+        none : least_school (is_beside past school student this) firsts 0 ≡ 0 → NonePasses (is_paid_beside past school student (Some this)) (terms_on_file past)
         none e =
             All-weaker (Contains (terms_on_file past)) (λ t. is_paid_beside past school student (Some this) t ≡ false)
             (λ t there. fails t there (is_paid_beside past school student (Some this) t) refl) (terms_on_file past) (All-contains_itself (terms_on_file past))
@@ -223,9 +210,9 @@ module _ (past : List Filing) (legal : IsLegal past) (student : ℕ) where
             fails t there false d = refl
             fails t there true d = absurd (omega (arith, (below 0 e t there d).0))
 
-        some : (n : ℕ) → 0 < n → least_school (is_beside past school student this) past 0 ≡ n →
+        some : (n : ℕ) → 0 < n → least_school (is_beside past school student this) firsts 0 ≡ n →
             IsLeastNumber (λ t. t.school) (is_paid_beside past school student (Some this)) (terms_on_file past) n
-        some n pos e = found (code_found (is_beside past school student this) past 0)
+        some n pos e = found (code_found (is_beside past school student this) firsts 0)
           where
             least : (t : OnFile) → t.school ≡ n → (u : OnFile) → Contains (terms_on_file past) u → is_paid_beside past school student (Some this) u ≡ true → nat_lt u.school t.school ≡ false
             least t own u there passes = not_less u.school t.school (let m = (below n e u there passes).1 in omega arith)
@@ -233,7 +220,7 @@ module _ (past : List Filing) (legal : IsLegal past) (student : ℕ) where
                 not_less : (a b : ℕ) → b ≤ a → nat_lt a b ≡ false
                 not_less a b h = grind (arith, nat_tests)
 
-            found : (least_school (is_beside past school student this) past 0 ≡ 0) ⊎ CodeFound (is_beside past school student this) past (least_school (is_beside past school student this) past 0) →
+            found : (least_school (is_beside past school student this) firsts 0 ≡ 0) ⊎ CodeFound (is_beside past school student this) firsts (least_school (is_beside past school student this) firsts 0) →
                 IsLeastNumber (λ t. t.school) (is_paid_beside past school student (Some this)) (terms_on_file past) n
             found (inl first) = absurd (omega arith)
             found (inr w) =
@@ -251,7 +238,7 @@ module _ (past : List Filing) (legal : IsLegal past) (student : ℕ) where
                   own = own;
                 }
 
-        go : (n : ℕ) → least_school (is_beside past school student this) past 0 ≡ n → n ≡ least_code (is_paid_beside past school student (Some this)) (terms_on_file past)
+        go : (n : ℕ) → least_school (is_beside past school student this) firsts 0 ≡ n → n ≡ least_code (is_paid_beside past school student (Some this)) (terms_on_file past)
         go zero e = sym ((told_none (λ t. t.school) (is_paid_beside past school student (Some this)) (terms_on_file past) _ (code_tells (is_paid_beside past school student (Some this)) (terms_on_file past) (coded_terms past legal))).1 (none e))
         go (suc n) e =
             sym ((told_least (λ t. t.school) (is_paid_beside past school student (Some this)) (terms_on_file past) _ (suc n)
@@ -284,15 +271,16 @@ module _ (past : List Filing) (legal : IsLegal past) (student : ℕ) where
     given_some false a o e = absurd cc
 
     -- a term over the award is enrolled in
-    over_enrolled : (t : OnFile) → is_over past award student year t ≡ true → FirstFound (over_of past award student year) past (Some (told_of t))
+    over_enrolled : (t : OnFile) → is_over past award student year t ≡ true → FirstFound (over_of past award student year) firsts (Some (told_of t))
     over_enrolled t passes =
         let a = and_parts (t.year == year) _ passes in
         let more = ltb-true (payment_at past award t.school student year t.term.number) (pell_term past t.school student year t.term.number) a.1 in
         let e = enrolled t.school year t.term.number (omega arith) in (
           record { key = e.key; what = Enrol e.facts },
           e.stands,
-          owned (e.facts.student == student && e.facts.year == year) _ (both (e.facts.student == student) _ e.own (eq-eqb e.facts.year year e.own_year))
-              ∙ at_place (λ (x z n : ℕ). term_over_in past award student x z n) e.key.school year e.facts.term t.school year t.term.number e.own_school refl e.own_number
+          owned (e.facts.student == student && e.facts.year == year) _
+              (both (e.facts.student == student) _ (eq-eqb e.facts.student student e.own_student) (eq-eqb e.facts.year year e.own_year))
+              ∙ at_place (λ (x z n : ℕ). term_over_in past award student x z n) e.key.school year e.facts.term t.school year t.term.number e.own_school refl e.own_term
               ∙ given_true _ (told_of t) a.1,
         )
 
@@ -347,12 +335,12 @@ module _ (past : List Filing) (legal : IsLegal past) (student : ℕ) where
         go key (Adjust b) h = absurd cc
 
     -- no term over the award comes before the first that the enrolments tell
-    below : (o : Option Over) → first_over (over_of past award student year) past None ≡ o → (t : OnFile) → is_over past award student year t ≡ true → IsNotBefore (told_of t) o
+    below : (o : Option Over) → first_over (over_of past award student year) firsts None ≡ o → (t : OnFile) → is_over past award student year t ≡ true → IsNotBefore (told_of t) o
     below o e t passes =
         let w = over_enrolled t passes in
-        subst (IsNotBefore (told_of t)) e (first_below (over_of past award student year) past None w.0 (told_of t) w.1 w.2)
+        subst (IsNotBefore (told_of t)) e (first_below (over_of past award student year) firsts None w.0 (told_of t) w.1 w.2)
 
-    none_over : first_over (over_of past award student year) past None ≡ None → NonePasses (is_over past award student year) (terms_on_file past)
+    none_over : first_over (over_of past award student year) firsts None ≡ None → NonePasses (is_over past award student year) (terms_on_file past)
     none_over e =
         All-weaker (Contains (terms_on_file past)) (λ t. is_over past award student year t ≡ false)
         (λ t there. fails t (is_over past award student year t) refl) (terms_on_file past) (All-contains_itself (terms_on_file past))
@@ -361,8 +349,8 @@ module _ (past : List Filing) (legal : IsLegal past) (student : ℕ) where
         fails t false d = refl
         fails t true d = absurd (below None e t d)
 
-    some_over : (a : Over) → first_over (over_of past award student year) past None ≡ Some a → term_over past award student year ≡ refusal_of (Some a)
-    some_over a e = found (first_found (over_of past award student year) past None)
+    some_over : (a : Over) → first_over (over_of past award student year) firsts None ≡ Some a → term_over past award student year ≡ refusal_of (Some a)
+    some_over a e = found (first_found (over_of past award student year) firsts None)
       where
         told : (s : OverTerm a) → term_over past award student year ≡ refusal_of (Some a)
         told s =
@@ -377,16 +365,16 @@ module _ (past : List Filing) (legal : IsLegal past) (student : ℕ) where
             }))
             ∙ ap (λ (x : Over). refusal_of (Some x)) (sym s.own)
 
-        found : (first_over (over_of past award student year) past None ≡ None) ⊎ FirstFound (over_of past award student year) past (first_over (over_of past award student year) past None) →
+        found : (first_over (over_of past award student year) firsts None ≡ None) ⊎ FirstFound (over_of past award student year) firsts (first_over (over_of past award student year) firsts None) →
             term_over past award student year ≡ refusal_of (Some a)
         found (inl none) = let bad : ◌≡◌ {A = Option Over} (Some a) None = sym e ∙ none in absurd cc
         found (inr w) = told (over_stands w.0 a (w.2 ∙ e))
 
     -- the first term over an award is that of the enrolments
-    pub over_told : refusal_of (first_over (over_of past award student year) past None) ≡ term_over past award student year
-    over_told = go (first_over (over_of past award student year) past None) refl
+    pub over_told : refusal_of (first_over (over_of past award student year) (first_enrolments past student) None) ≡ term_over past award student year
+    over_told = go (first_over (over_of past award student year) firsts None) refl
       where
-        go : (o : Option Over) → first_over (over_of past award student year) past None ≡ o → refusal_of o ≡ term_over past award student year
+        go : (o : Option Over) → first_over (over_of past award student year) firsts None ≡ o → refusal_of o ≡ term_over past award student year
         go None e =
             sym (ap (told_over past award student year) (nothing_found (is_over past award student year) (terms_on_file past) (none_over e)))
         go (Some a) e = sym (some_over a e)

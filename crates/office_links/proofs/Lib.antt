@@ -1,3 +1,4 @@
+pub mod EnrolmentsFirst
 mod EnrolmentsLeast
 mod EnrolmentsRows
 mod EnrolmentsTerms

@@ -1,45 +1,38 @@
 -- Chains: the link of a filing that passes a test leads to the one before it that passes.
 use Rattle.std.proofs.Common.{◌≡◌, ℕ, ◌+◌, ◌-◌, ◌<◌, ◌≤◌, refl, sym, ap, subst, ◌∙◌, arith, cond, Bool, true, false, List, [], ◌∷◌, ◌++◌, length, map, reverse, get_or, append_assoc, length-append, eqb-true}
-use Rattle.std.specs.Prelude.{◌==◌, count_by}
-use Rattle.std.specs.List.{filter}
+use Rattle.std.specs.Prelude.{◌==◌}
 use Rattle.std.proofs.Math.Seq.{get_or-append_seam}
 use Rattle.std.proofs.lemmas.List.{get_or-map, get_or_append_left, length-map, length-reverse, reverse-reverse}
-use Rattle.std.proofs.lemmas.List.Sums.{sum_by-cons}
+use Rattle.std.proofs.lemmas.Bool.{and_parts}
 use Rattle.aid_types.specs.declared.number.Key.{Key}
 use Rattle.aid_filings.specs.declared.filing.Filing.{Filing}
 use Rattle.aid_filings.specs.declared.filing.What.{What}
 use Rattle.aid_filings.specs.declared.filing.What.TheVariants.{Book, School, Calendar, Prior, Apply, Enrol, Originate, Pay, Withdraw, Repay, Adjust}
 use Rattle.office_history.proofs.Oldest.{reverse-middle}
-use Rattle.office_links.specs.Links.{before_in, befores_of, is_enrolled, is_term_of, last_at}
+use Rattle.office_links.specs.Links.{before_in, befores_of, is_first, is_first_in, is_first_of, is_term_of, last_at, newest_place, newest_term, passing}
 use Rattle.office_links.specs.declared.links.Link.{Link}
 
+-- none of the newer filings passes, each after those before it
+abbrev pub NonePass : (List Filing → Filing → Bool) → List Filing → List Filing → Type 0
+NonePass p [] older = Unit {0}
+NonePass p (f ∷ newer) older = (p (newer ++ older) f ≡ false) × NonePass p newer older
+
 -- the newest filing of a history that passes, with the newer ones, of which none passes, and the older ones
-pub record Newest (p : Filing → Bool) (past : List Filing) : Type 0 where
+pub record Newest (p : List Filing → Filing → Bool) (past : List Filing) : Type 0 where
   pub filing : Filing
   pub newer : List Filing
   pub older : List Filing
   pub split : past ≡ newer ++ filing ∷ older
   pub place : length older + 1 ≡ last_at p past
-  pub passes : p filing ≡ true
-  pub none : filter p newer ≡ []
-  pub rest : filter p past ≡ filing ∷ filter p older
-  pub count : count_by p past ≡ count_by p older + 1
+  pub passes : p older filing ≡ true
+  pub none : NonePass p newer (filing ∷ older)
 
-module _ (p : Filing → Bool) where
-  counted : (f : Filing) (past : List Filing) (b : Bool) → p f ≡ b → count_by p (f ∷ past) ≡ count_by p past + cond b 1 0
-  counted f past b e =
-      sum_by-cons (λ g. cond (p g) 1 0) f past
-      ∙ ap (λ (x : Bool). cond x 1 0 + count_by p past) e
-      ∙ swapped (cond b 1 0) (count_by p past)
-    where
-      swapped : (m n : ℕ) → m + n ≡ n + m
-      swapped m n = omega arith
-
+module _ (p : List Filing → Filing → Bool) where
   pub newest : (past : List Filing) → 0 < last_at p past → Newest p past
   newest [] h = absurd (omega arith)
-  newest (f ∷ past) h = go (p f) refl h (newest past)
+  newest (f ∷ past) h = go (p past f) refl h (newest past)
     where
-      go : (b : Bool) → p f ≡ b → 0 < cond b (length past + 1) (last_at p past) → (0 < last_at p past → Newest p past) → Newest p (f ∷ past)
+      go : (b : Bool) → p past f ≡ b → 0 < cond b (length past + 1) (last_at p past) → (0 < last_at p past → Newest p past) → Newest p (f ∷ past)
       go true e h ih = record {
         filing = f;
         newer = [];
@@ -47,13 +40,10 @@ module _ (p : Filing → Bool) where
         split = refl;
         place = rw e refl;
         passes = e;
-        none = refl;
-        rest = rw e refl;
-        count = counted f past true e;
+        none = tt;
       }
       go false e h ih =
           let w = ih h in
-          let fewer : count_by p (f ∷ past) ≡ count_by p past + 0 = counted f past false e in
           record {
             filing = w.filing;
             newer = f ∷ w.newer;
@@ -61,33 +51,22 @@ module _ (p : Filing → Bool) where
             split = ap (λ (l : List Filing). f ∷ l) w.split;
             place = rw e w.place;
             passes = w.passes;
-            none = rw e w.none;
-            rest = rw e w.rest;
-            count = let old = w.count in omega arith;
+            none = (sym (ap (λ (l : List Filing). p l f) w.split) ∙ e, w.none);
           }
-
-  -- where there is none, none passes
-  pub no_newest : (past : List Filing) → last_at p past ≡ 0 → filter p past ≡ []
-  no_newest [] h = refl
-  no_newest (f ∷ past) h = go (p f) refl h (no_newest past)
-    where
-      go : (b : Bool) → p f ≡ b → cond b (length past + 1) (last_at p past) ≡ 0 → (last_at p past ≡ 0 → filter p past ≡ []) → filter p (f ∷ past) ≡ []
-      go true e h ih = absurd (omega arith)
-      go false e h ih = rw e (ih h)
 
   pub last_within : (past : List Filing) → last_at p past ≤ length past
   last_within [] = omega arith
-  last_within (f ∷ past) = go (p f) (last_within past)
+  last_within (f ∷ past) = go (p past f) (last_within past)
     where
       go : (b : Bool) → last_at p past ≤ length past → cond b (length past + 1) (last_at p past) ≤ length (f ∷ past)
       go true ih = omega arith
       go false ih = omega arith
 
 -- the link of a filing that passes tells where the one before it stands
-abbrev pub Tells : (Filing → Bool) → Type 0
-Tells p = (older : List Filing) (f : Filing) → p f ≡ true → before_in older f.key.school f.what ≡ last_at p older
+abbrev pub Tells : (List Filing → Filing → Bool) → Type 0
+Tells p = (older : List Filing) (f : Filing) → p older f ≡ true → before_in older f.key.school f.what ≡ last_at p older
 
-pub terms_tell : (school : ℕ) → Tells (is_term_of school)
+pub terms_tell : (school : ℕ) → Tells (λ older. is_term_of school)
 terms_tell school older f h = go f.key f.what h
   where
     of_school : (key : Key) (b : Bool) → (key.school == school) ≡ b → cond b true false ≡ true → key.school ≡ school
@@ -98,8 +77,8 @@ terms_tell school older f h = go f.key f.what h
     other true h = cc
     other false h = cc
 
-    go : (key : Key) (w : What) → is_term_of school (record { key = key; what = w }) ≡ true → before_in older key.school w ≡ last_at (is_term_of school) older
-    go key (Calendar c) h = ap (λ (s : ℕ). last_at (is_term_of s) older) (of_school key (key.school == school) refl h)
+    go : (key : Key) (w : What) → is_term_of school (record { key = key; what = w }) ≡ true → before_in older key.school w ≡ newest_term older school
+    go key (Calendar c) h = ap (newest_term older) (of_school key (key.school == school) refl h)
     go key (Book b) h = absurd (other (key.school == school) h)
     go key (School s) h = absurd (other (key.school == school) h)
     go key (Prior b) h = absurd (other (key.school == school) h)
@@ -111,11 +90,17 @@ terms_tell school older f h = go f.key f.what h
     go key (Repay b) h = absurd (other (key.school == school) h)
     go key (Adjust b) h = absurd (other (key.school == school) h)
 
-pub enrolments_tell : (student : ℕ) → Tells (is_enrolled student)
+pub enrolments_tell : (student : ℕ) → Tells (is_first_of student)
 enrolments_tell student older f h = go f.key f.what h
   where
-    go : (key : Key) (w : What) → is_enrolled student (record { key = key; what = w }) ≡ true → before_in older key.school w ≡ last_at (is_enrolled student) older
-    go key (Enrol e) h = ap (λ (s : ℕ). last_at (is_enrolled s) older) (eqb-true e.student student h)
+    own : (b : Bool) (n m : ℕ) → n ≡ m → b ≡ true → cond b n 0 ≡ m
+    own true n m e h = e
+    own false n m e h = absurd cc
+
+    go : (key : Key) (w : What) → is_first_in student older key.school w ≡ true → before_in older key.school w ≡ newest_place older student
+    go key (Enrol e) h =
+        let parts = and_parts (e.student == student) (is_first older key.school e) h in
+        own (is_first older key.school e) _ _ (ap (newest_place older) (eqb-true e.student student parts.0)) parts.1
     go key (Book b) h = absurd cc
     go key (School s) h = absurd cc
     go key (Calendar b) h = absurd cc
@@ -152,21 +137,19 @@ read_at h newer older f d e =
     ∙ subst (λ (n : ℕ). get_or (reverse older ++ f ∷ reverse newer) n d ≡ f) (length-reverse older) (get_or-append_seam (reverse older) f (reverse newer) d)
 
 -- a walk along a chain comes to a position with these older filings before it
-pub record IsAlong (p : Filing → Bool) (past older : List Filing) (position : ℕ) : Type 0 where
+pub record IsAlong (p : List Filing → Filing → Bool) (past older : List Filing) (position : ℕ) : Type 0 where
   pub newer : List Filing
   pub split : past ≡ newer ++ older
   pub here : position ≡ last_at p older
 
 -- one step of a walk: the filing at the position, with the link's, and the filings that the walk has before it afterwards
-pub record IsStep (p : Filing → Bool) (h : List Filing) (links : List Link) (older : List Filing) (position : ℕ) : Type 0 where
+pub record IsStep (p : List Filing → Filing → Bool) (h : List Filing) (links : List Link) (older : List Filing) (position : ℕ) : Type 0 where
   pub filing : Filing
   pub skipped : List Filing
   pub rest : List Filing
   pub split : older ≡ skipped ++ filing ∷ rest
-  pub none : filter p skipped ≡ []
-  pub passes : p filing ≡ true
-  pub filtered : filter p older ≡ filing ∷ filter p rest
-  pub count : count_by p older ≡ count_by p rest + 1
+  pub none : NonePass p skipped (filing ∷ rest)
+  pub passes : p rest filing ≡ true
   pub place : length rest + 1 ≡ position
   pub inside : position - 1 < length h
   pub inside_links : position - 1 < length links
@@ -174,13 +157,13 @@ pub record IsStep (p : Filing → Bool) (h : List Filing) (links : List Link) (o
   pub along : (d : Link) → IsAlong p (reverse h) rest (get_or links (position - 1) d).before
   pub lower : (d : Link) → (get_or links (position - 1) d).before < position
 
-pub along_start : (p : Filing → Bool) (past : List Filing) (n : ℕ) → n ≡ last_at p past → IsAlong p past past n
+pub along_start : (p : List Filing → Filing → Bool) (past : List Filing) (n : ℕ) → n ≡ last_at p past → IsAlong p past past n
 along_start p past n e = record { newer = []; split = refl; here = e }
 
-pub along_end : (p : Filing → Bool) (past older : List Filing) (n : ℕ) → IsAlong p past older n → n ≡ 0 → filter p older ≡ []
-along_end p past older n a e = no_newest p older (sym a.here ∙ e)
+pub along_end : (p : List Filing → Filing → Bool) (past older : List Filing) (n : ℕ) → IsAlong p past older n → n ≡ 0 → last_at p older ≡ 0
+along_end p past older n a e = sym a.here ∙ e
 
-pub along_step : (p : Filing → Bool) (h : List Filing) (links : List Link) (older : List Filing) (n : ℕ) → Tells p →
+pub along_step : (p : List Filing → Filing → Bool) (h : List Filing) (links : List Link) (older : List Filing) (n : ℕ) → Tells p →
     map (λ l. l.before) links ≡ befores_of (reverse h) → IsAlong p (reverse h) older n → 0 < n → IsStep p h links older n
 along_step p h links older n tells linked a pos =
     let here = a.here in
@@ -208,8 +191,6 @@ along_step p h links older n tells linked a pos =
       split = w.split;
       none = w.none;
       passes = w.passes;
-      filtered = w.rest;
-      count = w.count;
       place = place;
       inside = omega arith;
       inside_links = inside;
@@ -219,19 +200,24 @@ along_step p h links older n tells linked a pos =
     }
 
 -- what looks only at the filings that pass leaves out those that don't
-module _ {B : Type 0} (F : List Filing → B) (p : Filing → Bool) (out : (f : Filing) (past : List Filing) → p f ≡ false → F (f ∷ past) ≡ F past) where
-  fails : (f : Filing) (b : Bool) (fs : List Filing) → cond b (f ∷ fs) fs ≡ [] → (b ≡ false) × (fs ≡ [])
-  fails f true fs h = absurd cc
-  fails f false fs h = (refl, h)
-
-  pub skip : (skipped older : List Filing) → filter p skipped ≡ [] → F (skipped ++ older) ≡ F older
+module _ {B : Type 0} (F : List Filing → B) (p : List Filing → Filing → Bool) (out : (f : Filing) (past : List Filing) → p past f ≡ false → F (f ∷ past) ≡ F past) where
+  pub skip : (skipped older : List Filing) → NonePass p skipped older → F (skipped ++ older) ≡ F older
   skip [] older h = refl
-  skip (f ∷ skipped) older h =
-      let both = fails f (p f) (filter p skipped) h in
-      out f (skipped ++ older) both.0 ∙ skip skipped older both.1
+  skip (f ∷ skipped) older h = out f (skipped ++ older) h.0 ∙ skip skipped older h.1
 
-  pub skip_all : (older : List Filing) → filter p older ≡ [] → F older ≡ F []
+  pub skip_all : (older : List Filing) → last_at p older ≡ 0 → F older ≡ F []
   skip_all [] h = refl
-  skip_all (f ∷ older) h =
-      let both = fails f (p f) (filter p older) h in
-      out f older both.0 ∙ skip_all older both.1
+  skip_all (f ∷ older) h = go (p older f) refl h (skip_all older)
+    where
+      go : (b : Bool) → p older f ≡ b → cond b (length older + 1) (last_at p older) ≡ 0 → (last_at p older ≡ 0 → F older ≡ F []) → F (f ∷ older) ≡ F []
+      go true e h ih = absurd (omega arith)
+      go false e h ih = out f older e ∙ ih h
+
+-- the filings that pass, of which the first is that of a step
+pub passing_step : (p : List Filing → Filing → Bool) (h : List Filing) (links : List Link) (older : List Filing) (n : ℕ) (s : IsStep p h links older n) →
+    passing p older ≡ s.filing ∷ passing p s.rest
+passing_step p h links older n s =
+    ap (passing p) s.split ∙ skip (passing p) p (λ f past fails. rw fails refl) s.skipped (s.filing ∷ s.rest) s.none ∙ rw s.passes refl
+
+pub passing_end : (p : List Filing → Filing → Bool) (older : List Filing) → last_at p older ≡ 0 → passing p older ≡ []
+passing_end p older h = skip_all (passing p) p (λ f past fails. rw fails refl) older h

@@ -20,7 +20,7 @@ use Rattle.office_history.proofs.Checks.{all_hold, stands_holds}
 use Rattle.office_history.proofs.Legal.{older_legal}
 use Rattle.office_links.specs.Links.{befores_of, is_term_of}
 use Rattle.office_links.specs.declared.links.Link.{Link}
-use Rattle.office_links.proofs.LinksTerms.{IsTermWalk, asked_here, filed_here, no_term, term_at_hand, walked_earliest, walked_first}
+use Rattle.office_links.proofs.LinksTerms.{IsTermWalk, asked_here, filed_here, no_term, term_at_hand, walked_earliest, walked_first, walked_one}
 
 -- a term that is admitted is the first of its school, year and number
 first_filed : (past : List Filing) (key : Key) (c : CalendarFacts) → breaks past (record { key = key; what = Calendar c }) ≡ None → term_at past key.school c.year c.term ≡ 0
@@ -85,6 +85,6 @@ module _ (h : List Filing) (links : List Link) (school year number n steps begun
   pub found_looks : steps + 1 ≤ begun + 2 * terms_at (reverse h) school
   found_looks =
       let s = term_at_hand h links school w.older n linked w.along pos in
-      let k = s.count in
+      let k = walked_one (is_term_of school) h links w.older n s in
       let all = w.cost in
       omega arith

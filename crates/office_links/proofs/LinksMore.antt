@@ -3,7 +3,6 @@ use Rattle.std.proofs.Common.{◌≡◌, ℕ, zero, suc, ◌+◌, ◌<◌, refl,
 use Rattle.std.specs.List.{slice_get}
 use Rattle.std.proofs.lemmas.List.{length-map, length-reverse, map-append, reverse-append}
 use Rattle.std.proofs.lemmas.Option.{slice_get_within}
-use Rattle.aid_filings.specs.declared.filing.CalendarFacts.{CalendarFacts}
 use Rattle.aid_filings.specs.declared.filing.EnrolFacts.{EnrolFacts}
 use Rattle.aid_filings.specs.declared.filing.Filing.{Filing}
 use Rattle.aid_filings.specs.declared.filing.What.{What}
@@ -108,22 +107,20 @@ module _ (past : List Filing) (old new : List (StudentPlace × PlaceRow)) (f : F
     (can : IsLinkable past old new f newest slot school term) where
   -- what the link tells of the one before
   before_told : (link_told f.what newest slot school term).before ≡ before_in past f.key.school f.what
-  before_told = go f.what can.term_before can.enrolment_before
+  before_told = go f.what can.before
     where
-      go : (w : What) → ((c : CalendarFacts) → w ≡ Calendar c → newest ≡ before_in past f.key.school (Calendar c)) →
-          ((e : EnrolFacts) → w ≡ Enrol e → newest ≡ before_in past f.key.school (Enrol e)) →
-          (link_told w newest slot school term).before ≡ before_in past f.key.school w
-      go (Calendar c) a b = a c refl
-      go (Enrol e) a b = b e refl
-      go (Book x) a b = refl
-      go (School x) a b = refl
-      go (Prior x) a b = refl
-      go (Apply x) a b = refl
-      go (Originate x) a b = refl
-      go (Pay x) a b = refl
-      go (Withdraw x) a b = refl
-      go (Repay x) a b = refl
-      go (Adjust x) a b = refl
+      go : (w : What) → newest ≡ before_in past f.key.school w → (link_told w newest slot school term).before ≡ before_in past f.key.school w
+      go (Calendar c) a = a
+      go (Enrol e) a = a
+      go (Book x) a = refl
+      go (School x) a = refl
+      go (Prior x) a = refl
+      go (Apply x) a = refl
+      go (Originate x) a = refl
+      go (Pay x) a = refl
+      go (Withdraw x) a = refl
+      go (Repay x) a = refl
+      go (Adjust x) a = refl
 
   own_place : (e : EnrolFacts) → f.what ≡ Enrol e → IsPlaced (f ∷ past) new f e (link_told f.what newest slot school term)
   own_place e is =

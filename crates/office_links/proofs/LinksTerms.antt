@@ -18,19 +18,19 @@ use Rattle.office_history.specs.Rows.{calendar_row, term_row, terms_at}
 use Rattle.office_history.specs.declared.rows.CalendarRow.{CalendarRow}
 use Rattle.office_history.specs.declared.rows.TermRow.{TermRow}
 use Rattle.office_history.proofs.FiledTerms.{overlap_place}
-use Rattle.office_links.specs.Links.{befores_of, is_calendar, is_term_of, last_at}
+use Rattle.office_links.specs.Links.{befores_of, is_calendar, is_term_of, last_at, newest_term}
 use Rattle.office_links.specs.Walks.{is_main, overlaps}
 use Rattle.office_links.specs.declared.links.Link.{Link}
 use Rattle.office_links.proofs.LinksChain.{IsAlong, IsStep, along_end, along_start, along_step, skip, skip_all, terms_tell}
 
 -- what was found so far, with one step more, where only filings that pass can be found
-module _ (p : Filing → Bool) (h : List Filing) (links : List Link) (older : List Filing) (n : ℕ) (s : IsStep p h links older n) where
+module _ (p : Filing → Bool) (h : List Filing) (links : List Link) (older : List Filing) (n : ℕ) (s : IsStep (λ past. p) h links older n) where
   pub walked_first : (q : Filing → Bool) → ((f : Filing) → p f ≡ false → q f ≡ false) → (total acc : ℕ) →
       total ≡ first_of_two true (first_at q older) acc → total ≡ first_of_two true (first_at q s.rest) (cond (q s.filing) n acc)
   walked_first q only total acc e =
       e
       ∙ ap (λ (k : ℕ). first_of_two true k acc)
-      (ap (first_at q) s.split ∙ skip (first_at q) p (λ f past fails. rw (only f fails) refl) s.skipped (s.filing ∷ s.rest) s.none)
+      (ap (first_at q) s.split ∙ skip (first_at q) (λ past. p) (λ f past fails. rw (only f fails) refl) s.skipped (s.filing ∷ s.rest) s.none)
       ∙ one (q s.filing) (first_at q s.rest) (length s.rest + 1) s.place (omega arith)
     where
       one : (b : Bool) (r here : ℕ) → here ≡ n → 0 < here → first_of_two true (first_of_two b r here) acc ≡ first_of_two true r (cond b n acc)
@@ -43,7 +43,7 @@ module _ (p : Filing → Bool) (h : List Filing) (links : List Link) (older : Li
       total ≡ earlier acc (earliest ask older) → total ≡ earlier (later (ask s.filing) acc) (earliest ask s.rest)
   walked_earliest {A} ask only total acc e =
       e
-      ∙ ap (earlier acc) (ap (earliest ask) s.split ∙ skip (earliest ask) p (λ f past fails. rw (only f fails) refl) s.skipped (s.filing ∷ s.rest) s.none)
+      ∙ ap (earlier acc) (ap (earliest ask) s.split ∙ skip (earliest ask) (λ past. p) (λ f past fails. rw (only f fails) refl) s.skipped (s.filing ∷ s.rest) s.none)
       ∙ one (ask s.filing) (earliest ask s.rest) acc
     where
       one : (new r acc : Option A) → earlier acc (earlier new r) ≡ earlier (later new acc) r
@@ -57,7 +57,7 @@ module _ (p : Filing → Bool) (h : List Filing) (links : List Link) (older : Li
       total ≡ count_by q older + acc → total ≡ count_by q s.rest + (acc + cond (q s.filing) 1 0)
   walked_count q only total acc e =
       let there : count_by q older ≡ cond (q s.filing) 1 0 + count_by q s.rest =
-      ap (count_by q) s.split ∙ skip (count_by q) p fewer s.skipped (s.filing ∷ s.rest) s.none ∙ sum_by-cons (λ g. cond (q g) 1 0) s.filing s.rest in
+      ap (count_by q) s.split ∙ skip (count_by q) (λ past. p) fewer s.skipped (s.filing ∷ s.rest) s.none ∙ sum_by-cons (λ g. cond (q g) 1 0) s.filing s.rest in
       joined total acc (count_by q older) (cond (q s.filing) 1 0) (count_by q s.rest) e there
     where
       fewer : (f : Filing) (past : List Filing) → p f ≡ false → count_by q (f ∷ past) ≡ count_by q past
@@ -69,21 +69,29 @@ module _ (p : Filing → Bool) (h : List Filing) (links : List Link) (older : Li
       joined : (total acc a b c : ℕ) → total ≡ a + acc → a ≡ b + c → total ≡ c + (acc + b)
       joined total acc a b c e k = omega arith
 
+  -- the one of the step is the newest of those that are left
+  pub walked_one : count_by p older ≡ count_by p s.rest + 1
+  walked_one = one (p s.filing) (count_by p older) (count_by p s.rest) s.passes (walked_count p (λ f fails. fails) (count_by p older) 0 (omega arith))
+    where
+      one : (b : Bool) (m n : ℕ) → b ≡ true → m ≡ n + (0 + cond b 1 0) → m ≡ n + 1
+      one true m n e h = omega arith
+      one false m n e h = absurd cc
+
 -- nothing found so far, and nothing left
 found_none : (n : ℕ) → n ≡ first_of_two true n 0
 found_none zero = refl
 found_none (suc n) = refl
 
-module _ (p : Filing → Bool) (older : List Filing) (over : filter p older ≡ []) where
+module _ (p : Filing → Bool) (older : List Filing) (over : last_at (λ past. p) older ≡ 0) where
   ended_first : (q : Filing → Bool) → ((f : Filing) → p f ≡ false → q f ≡ false) → (total acc : ℕ) →
       total ≡ first_of_two true (first_at q older) acc → total ≡ acc
   ended_first q only total acc e =
-      e ∙ ap (λ (k : ℕ). first_of_two true k acc) (skip_all (first_at q) p (λ f past fails. rw (only f fails) refl) older over)
+      e ∙ ap (λ (k : ℕ). first_of_two true k acc) (skip_all (first_at q) (λ past. p) (λ f past fails. rw (only f fails) refl) older over)
 
   ended_earliest : {A : Type 0} (ask : Filing → Option A) → ((f : Filing) → p f ≡ false → ask f ≡ None) → (total acc : Option A) →
       total ≡ earlier acc (earliest ask older) → total ≡ acc
   ended_earliest {A} ask only total acc e =
-      e ∙ ap (earlier acc) (skip_all (earliest ask) p (λ f past fails. rw (only f fails) refl) older over) ∙ same acc
+      e ∙ ap (earlier acc) (skip_all (earliest ask) (λ past. p) (λ f past fails. rw (only f fails) refl) older over) ∙ same acc
     where
       same : (acc : Option A) → earlier acc None ≡ acc
       same None = refl
@@ -92,7 +100,7 @@ module _ (p : Filing → Bool) (older : List Filing) (over : filter p older ≡ 
   ended_count : (q : Filing → Bool) → ((f : Filing) → p f ≡ false → q f ≡ false) → (total acc : ℕ) →
       total ≡ count_by q older + acc → total ≡ acc
   ended_count q only total acc e =
-      let none : count_by q older ≡ 0 = skip_all (count_by q) p fewer older over in
+      let none : count_by q older ≡ 0 = skip_all (count_by q) (λ past. p) fewer older over in
       omega arith
     where
       fewer : (f : Filing) (past : List Filing) → p f ≡ false → count_by q (f ∷ past) ≡ count_by q past
@@ -297,22 +305,22 @@ module _ (school : ℕ) where
 
 -- the term of the school at a position on its chain
 pub term_at_hand : (h : List Filing) (links : List Link) (school : ℕ) (older : List Filing) (n : ℕ) → map (λ l. l.before) links ≡ befores_of (reverse h) →
-    IsAlong (is_term_of school) (reverse h) older n → 0 < n → IsStep (is_term_of school) h links older n
-term_at_hand h links school older n linked along pos = along_step (is_term_of school) h links older n (terms_tell school) linked along pos
+    IsAlong (λ past. is_term_of school) (reverse h) older n → 0 < n → IsStep (λ past. is_term_of school) h links older n
+term_at_hand h links school older n linked along pos = along_step (λ past. is_term_of school) h links older n (terms_tell school) linked along pos
 
 -- a walk for a term of a year and a number: what was found so far stands unless an older filing tells
 pub record IsTermWalk (past : List Filing) (school year number position : ℕ) (row : TermRow) (steps begun : ℕ) : Type 0 where
   pub older : List Filing
-  pub along : IsAlong (is_term_of school) past older position
+  pub along : IsAlong (λ past. is_term_of school) past older position
   pub place : term_at past school year number ≡ first_of_two true (term_at older school year number) row.at
   pub term : the_term past school year number ≡ earlier row.term (the_term older school year number)
   pub cost : steps + 2 * count_by (is_term_of school) older ≡ begun + 2 * terms_at past school
 
-pub term_start : (past : List Filing) (school year number newest steps : ℕ) → newest ≡ last_at (is_term_of school) past →
+pub term_start : (past : List Filing) (school year number newest steps : ℕ) → newest ≡ newest_term past school →
     IsTermWalk past school year number newest (record { at = 0; term = None }) steps steps
 term_start past school year number newest steps e = record {
   older = past;
-  along = along_start (is_term_of school) past newest e;
+  along = along_start (λ past. is_term_of school) past newest e;
   place = found_none (term_at past school year number);
   term = refl;
   cost = omega (arith, terms_counted past school);
@@ -341,13 +349,13 @@ term_step h links school year number n row steps begun linked w pos f read d nex
           (the_term (reverse h) school year number) row.term w.term
           ∙ ap (λ (o : Option Term). earlier (later o row.term) (the_term s.rest school year number)) asked
           ∙ ap (λ (o : Option Term). earlier o (the_term s.rest school year number)) (sym term_is);
-      cost = let k = s.count in let old = w.cost in omega arith;
+      cost = let k = walked_one (is_term_of school) h links w.older n s in let old = w.cost in omega arith;
     }
 
 pub term_end : (past : List Filing) (school year number n : ℕ) (row : TermRow) (steps begun : ℕ) → IsTermWalk past school year number n row steps begun → n ≡ 0 →
     row ≡ term_row past school year number
 term_end past school year number n row steps begun w e =
-    let over = along_end (is_term_of school) past w.older n w.along e in
+    let over = along_end (λ past. is_term_of school) past w.older n w.along e in
     let place : term_at past school year number ≡ row.at =
     ended_first (is_term_of school) w.older over (λ x. is_some (at_school school (term_in year number) x))
     (λ x fails. ap is_some (no_term school year number x fails)) (term_at past school year number) row.at w.place in
@@ -359,25 +367,25 @@ term_end past school year number n row steps begun w e =
 pub term_looks : (past : List Filing) (school year number n : ℕ) (row : TermRow) (steps begun : ℕ) → IsTermWalk past school year number n row steps begun → n ≡ 0 →
     steps ≡ begun + 2 * terms_at past school
 term_looks past school year number n row steps begun w e =
-    let none = ended_none (is_term_of school) w.older (along_end (is_term_of school) past w.older n w.along e) in
+    let none = ended_none (is_term_of school) w.older (along_end (λ past. is_term_of school) past w.older n w.along e) in
     let all = w.cost in
     omega arith
 
 -- a walk for what the terms say of a calendar
 pub record IsCalendarWalk (past : List Filing) (school : ℕ) (c : CalendarFacts) (position : ℕ) (row : CalendarRow) (steps begun : ℕ) : Type 0 where
   pub older : List Filing
-  pub along : IsAlong (is_term_of school) past older position
+  pub along : IsAlong (λ past. is_term_of school) past older position
   pub place : term_at past school c.year c.term ≡ first_of_two true (term_at older school c.year c.term) row.term_at
   pub overlap : first_at (λ f. is_overlapping school (term_of c) f.key.school f.what) past
       ≡ first_of_two true (first_at (λ f. is_overlapping school (term_of c) f.key.school f.what) older) row.overlap_at
   pub mains : count_by (λ f. is_main_term school c.year f.key.school f.what) past ≡ count_by (λ f. is_main_term school c.year f.key.school f.what) older + row.main_terms
   pub cost : steps + 2 * count_by (is_term_of school) older ≡ begun + 2 * terms_at past school
 
-pub calendar_start : (past : List Filing) (school : ℕ) (c : CalendarFacts) (newest steps : ℕ) → newest ≡ last_at (is_term_of school) past →
+pub calendar_start : (past : List Filing) (school : ℕ) (c : CalendarFacts) (newest steps : ℕ) → newest ≡ newest_term past school →
     IsCalendarWalk past school c newest (record { term_at = 0; overlap_at = 0; main_terms = 0 }) steps steps
 calendar_start past school c newest steps e = record {
   older = past;
-  along = along_start (is_term_of school) past newest e;
+  along = along_start (λ past. is_term_of school) past newest e;
   place = found_none (term_at past school c.year c.term);
   overlap = found_none (first_at (λ f. is_overlapping school (term_of c) f.key.school f.what) past);
   mains = none_more (count_by (λ f. is_main_term school c.year f.key.school f.what) past);
@@ -421,7 +429,7 @@ calendar_step h links school c n row steps begun linked w pos f read d next afte
           (no_main school c.year) _ row.main_terms w.mains
           ∙ ap (λ (b : Bool). count_by (λ x. is_main_term school c.year x.key.school x.what) s.rest + (row.main_terms + cond b 1 0)) main
           ∙ ap (λ (k : ℕ). count_by (λ x. is_main_term school c.year x.key.school x.what) s.rest + k) (sym mains_is);
-      cost = let k = s.count in let old = w.cost in omega arith;
+      cost = let k = walked_one (is_term_of school) h links w.older n s in let old = w.cost in omega arith;
     }
 
 -- the main terms found so far are no more than the filings
@@ -435,7 +443,7 @@ mains_few past school c n row steps begun w =
 pub calendar_end : (past : List Filing) (school : ℕ) (c : CalendarFacts) (n : ℕ) (row : CalendarRow) (steps begun : ℕ) → IsCalendarWalk past school c n row steps begun → n ≡ 0 →
     row ≡ calendar_row past school c
 calendar_end past school c n row steps begun w e =
-    let over = along_end (is_term_of school) past w.older n w.along e in
+    let over = along_end (λ past. is_term_of school) past w.older n w.along e in
     let place : term_at past school c.year c.term ≡ row.term_at =
     ended_first (is_term_of school) w.older over (λ x. is_some (at_school school (term_in c.year c.term) x))
     (λ x fails. ap is_some (no_term school c.year c.term x fails)) (term_at past school c.year c.term) row.term_at w.place in
@@ -452,6 +460,6 @@ calendar_end past school c n row steps begun w e =
 pub calendar_looks : (past : List Filing) (school : ℕ) (c : CalendarFacts) (n : ℕ) (row : CalendarRow) (steps begun : ℕ) → IsCalendarWalk past school c n row steps begun → n ≡ 0 →
     steps ≡ begun + 2 * terms_at past school
 calendar_looks past school c n row steps begun w e =
-    let none = ended_none (is_term_of school) w.older (along_end (is_term_of school) past w.older n w.along e) in
+    let none = ended_none (is_term_of school) w.older (along_end (λ past. is_term_of school) past w.older n w.along e) in
     let all = w.cost in
     omega arith

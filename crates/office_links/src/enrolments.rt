@@ -1,5 +1,6 @@
-//! Walks along the links of a student's enrolments, from the newest to the oldest. A step is a look at a link, at the filing
-//! that it belongs to, at the row of a place, or at the filing of a school or a term.
+//! Walks along the links of a student's first enrolments, from the newest to the oldest, so that each term at a school in which
+//! the student is enrolled is visited once. A step is a look at a link, at the filing that it belongs to, at the row of a
+//! place, or at the filing of a school or a term.
 ghost use Rattle.std.specs.Prelude.{◌≡◌, ◌+◌, ◌-◌, ◌*◌, ◌≤◌, ◌<◌, ℕ, true, Some, length, reverse, slice_index};
 ghost use Rattle.aid_types.specs.declared.term.Term.{Term as TermData};
 ghost use Rattle.enrolment.specs.Terms.{intensity_of, payment_of};
@@ -9,7 +10,7 @@ ghost use Rattle.office_history.specs.Past.{terms_on_file};
 ghost use Rattle.office_history.specs.Rows.{enrolments_of};
 ghost use Rattle.office_links.specs.Enrolments.{IsEnrolment, earlier_over, is_beside, over_of, refusal_of, school_told, term_told};
 ghost use Rattle.office_links.specs.Placed.{ArePlaces};
-ghost use Rattle.office_links.specs.Links.{AreLinked, is_enrolled, last_at};
+ghost use Rattle.office_links.specs.Links.{AreLinked, is_enrolled, newest_place, places_of};
 
 use crate::links::Link;
 use aid_filings::{Filing, What};
@@ -31,7 +32,7 @@ pub struct Over {
 }
 
 /// The least code of another school that has a term which shares a day with this one and holds net Pell of the student; 0
-/// where there is none. `newest` is the position of the student's newest enrolment.
+/// where there is none. `newest` is the position of the newest of the student's first enrolments.
 pub fn paid_beside<L: Ledger>(
     filings: &[Filing],
     links: &[Link],
@@ -44,11 +45,12 @@ pub fn paid_beside<L: Ledger>(
 ) -> u32
     requires legal { IsLegal (reverse filings.now) }
     requires linked { AreLinked (reverse filings.now) places.now.rows links.now }
-    requires newest { newest ≡ last_at (is_enrolled student) (reverse filings.now) }
+    requires newest { newest ≡ newest_place (reverse filings.now) student }
     requires rows { ArePlaces (reverse filings.now) places.now.rows }
     ensures value { result ≡ least_code (is_paid_beside_of (reverse filings.now) school student this.now) (terms_on_file (reverse filings.now)) }
     ensures cost { steps.new ≤ steps.old + 4 * enrolments_of (reverse filings.now) student }
-    ensures counted { (term : TermData) → this.now ≡ Some term → steps.old + 2 * enrolments_of (reverse filings.now) student ≤ steps.new }
+    ensures few { steps.new ≤ steps.old + 4 * places_of (reverse filings.now) student }
+    ensures counted { (term : TermData) → this.now ≡ Some term → steps.old + 2 * places_of (reverse filings.now) student ≤ steps.new }
 {
     let Some(term) = this else {
         return 0;
@@ -156,7 +158,7 @@ fn term_in(what: &What) -> Option<Term>
 }
 
 /// The first term of the year, by school and number, that holds more net Pell of the student than an award in dollars gives
-/// it, told as a refusal. `newest` is the position of the student's newest enrolment.
+/// it, told as a refusal. `newest` is the position of the newest of the student's first enrolments.
 pub fn term_over<L: Ledger>(
     filings: &[Filing],
     links: &[Link],
@@ -169,12 +171,13 @@ pub fn term_over<L: Ledger>(
 ) -> Option<Refusal>
     requires legal { IsLegal (reverse filings.now) }
     requires linked { AreLinked (reverse filings.now) places.now.rows links.now }
-    requires newest { newest ≡ last_at (is_enrolled student) (reverse filings.now) }
+    requires newest { newest ≡ newest_place (reverse filings.now) student }
     requires rows { ArePlaces (reverse filings.now) places.now.rows }
     requires award { award ≤ 100000 }
     ensures value { result ≡ term_over_of (reverse filings.now) award student year }
     ensures cost { steps.new ≤ steps.old + 4 * enrolments_of (reverse filings.now) student }
-    ensures counted { steps.old + 2 * enrolments_of (reverse filings.now) student ≤ steps.new }
+    ensures few { steps.new ≤ steps.old + 4 * places_of (reverse filings.now) student }
+    ensures counted { steps.old + 2 * places_of (reverse filings.now) student ≤ steps.new }
 {
     let mut first = None;
     let mut at = newest;

@@ -1,4 +1,5 @@
-//! Links from each term of a school, and from each enrolment of a student, to the one before it, and walks along them.
+//! Links from each term of a school, and from each first enrolment of a student in a term, to the one before it, and walks
+//! along them.
 #![tactic(auto)]
 
 mod enrolments;

@@ -8,9 +8,9 @@ ghost use Rattle.office_links.specs.Links.{AreLinked, IsLinkable, link_told};
 
 use aid_filings::{Filing, What};
 
-/// The link of a filing. A term's tells the position of the term before it of the same school. An enrolment's tells the
-/// position of the enrolment before it of the same student, the slot of the row of its place, and the positions of its school
-/// and of its term. What isn't told is 0.
+/// The link of a filing. A term's tells the position of the term before it of the same school. An enrolment's tells the slot
+/// of the row of its place, and the positions of its school and of its term; where it is the first in its place, also the
+/// position of the newest before it of the same student's first enrolments. What isn't told is 0.
 #[derive(Clone, Copy, PartialEq, Eq, Debug)]
 pub struct Link {
     pub before: u32,
@@ -27,9 +27,9 @@ const NOTHING: Link = Link {
     term_at: 0,
 };
 
-/// The link of a filing that comes after others. A term's tells `newest`, the position of the newest term of its school; an
-/// enrolment's tells the newest enrolment of its student, the slot of the row of its place, and the positions of its school
-/// and of its term.
+/// The link of a filing that comes after others. A term's tells `newest`, the position of the newest term of its school; that
+/// of an enrolment which is the first in its place, the newest of its student's first enrolments, and that of another
+/// enrolment 0. An enrolment's tells the slot of the row of its place too, and the positions of its school and of its term.
 pub fn link_of(filing: &Filing, newest: u32, slot: u32, school_at: u32, term_at: u32) -> Link
     ensures { (past : List Filed) (old new : List (StudentPlace × PlaceRow)) (links : List Linked)
         → IsLinkable past old new filing.now newest slot school_at term_at

@@ -5,7 +5,7 @@ ghost use Rattle.aid_filings.specs.Calendars.{term_of};
 ghost use Rattle.office_history.specs.Answer.{IsLegal};
 ghost use Rattle.office_history.specs.Past.{term_in as term_filed};
 ghost use Rattle.office_history.specs.Rows.{calendar_row, term_row, terms_at};
-ghost use Rattle.office_links.specs.Links.{befores_of, is_term_of, last_at};
+ghost use Rattle.office_links.specs.Links.{befores_of, newest_term};
 ghost use Rattle.office_links.specs.Walks.{is_main as is_main_term, overlaps as is_overlapping};
 
 use crate::links::Link;
@@ -28,7 +28,7 @@ pub fn school_term<L: Ledger>(
 ) -> TermRow
     requires legal { IsLegal (reverse filings.now) }
     requires linked { map (λ l. l.before) links.now ≡ befores_of (reverse filings.now) }
-    requires newest { newest ≡ last_at (is_term_of school) (reverse filings.now) }
+    requires newest { newest ≡ newest_term (reverse filings.now) school }
     ensures value { result ≡ term_row (reverse filings.now) school year number }
     ensures cost { steps.new ≤ steps.old + 2 * terms_at (reverse filings.now) school }
     ensures counted { result.at ≡ 0 → steps.new ≡ steps.old + 2 * terms_at (reverse filings.now) school }
@@ -60,7 +60,7 @@ pub fn school_calendar<L: Ledger>(
 ) -> CalendarRow
     requires legal { IsLegal (reverse filings.now) }
     requires linked { map (λ l. l.before) links.now ≡ befores_of (reverse filings.now) }
-    requires newest { newest ≡ last_at (is_term_of school) (reverse filings.now) }
+    requires newest { newest ≡ newest_term (reverse filings.now) school }
     ensures value { result ≡ calendar_row (reverse filings.now) school calendar.now }
     ensures cost { steps.new ≡ steps.old + 2 * terms_at (reverse filings.now) school }
 {

@@ -1,10 +1,11 @@
-use Rattle.std.proofs.Common.{ap, sym, subst}
+use Rattle.std.proofs.Common.{◌∙◌, ap, sym, subst, Option, Some}
+use Rattle.aid_books.specs.declared.book.Book.{Book}
 use Rattle.aid_filings.specs.declared.filing.What.{What}
 use Rattle.office_answers.specs.Basis.{IsBasisOf}
 use Rattle.office_answers.specs.declared.gathered.Basis.TheVariants.{Application, Payment, Withdrawal}
+use Rattle.office_history.specs.Answer.{indexed}
 use Rattle.office_history.specs.declared.rows.PlaceRow.{PlaceRow}
 use Rattle.office_history.specs.declared.rows.TermRow.{TermRow}
-use Rattle.office_history.specs.declared.rows.YearRow.{YearRow}
 use Rattle.office_rows.specs.Changed.{place_changed, student_changed, year_changed}
 use Rattle.office_core.proofs.bases.basis_of.Goals as goal
 
@@ -12,8 +13,8 @@ pub returns-in-Apply : goal.returns-in-Apply
 returns-in-Apply g c =
     let past = g.P.OnFile.history c.args.past.now in
     let school = c.args.filing.now.key.school in
-    subst (λ (what : What). IsBasisOf past school what (Application c.book_of.result c.args.year.now.application)) (sym c.in-Apply.is)
-    (c.book_of.ensures, ap (λ (row : YearRow). row.application) (c.requires.year _ (ap year_changed c.in-Apply.is)))
+    subst (λ (what : What). IsBasisOf past school what (Application c.indexed_under.result)) (sym c.in-Apply.is)
+    (λ fits. c.indexed_under.ensures ∙ ap (λ (book : Option Book). indexed book (Some c.in-Apply.filed)) c.book_of.ensures)
 
 pub returns-in-Pay : goal.returns-in-Pay
 returns-in-Pay g c =

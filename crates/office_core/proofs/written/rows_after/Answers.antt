@@ -1,5 +1,5 @@
 use Rattle.std.proofs.Common.{ap, ◌∙◌}
-use Rattle.office_core.specs.Awarded.{awarded}
+use Rattle.office_answers.specs.Brought.{awarded}
 use Rattle.office_core.proofs.OutcomeAwards.{award_told}
 use Rattle.office_core.proofs.written.rows_after.Goals as goal
 

@@ -2,6 +2,7 @@ use Rattle.std.proofs.Common.{◌∙◌, sym, ap, arith, reverse, Option}
 use Rattle.aid_types.specs.declared.term.Term.{Term}
 use Rattle.office_history.specs.FactsOf.{is_paid_beside, least_code}
 use Rattle.office_history.specs.Past.{terms_on_file}
+use Rattle.office_links.proofs.EnrolmentsFirst.{few_places}
 use Rattle.office_links.proofs.EnrolmentsTerms.{none_beside}
 use Rattle.office_links.proofs.EnrolmentsWalk.{beside_end, beside_looks, beside_step, enrolled_here, enrolment_here, step}
 use Rattle.office_links.proofs.enrolments.paid_beside.Goals as goal
@@ -54,6 +55,9 @@ returns-clause-value g c =
     let past = reverse c.args.filings.now in
     beside_end past c.args.school c.args.student c.in-Some.term c.loop-at.at c.loop-at.least c.loop-at.steps _ c.requires.legal c.loop-at.invariant (omega (arith, c.loop-at-test.false))
     ∙ ap (λ (o : Option Term). least_code (is_paid_beside past c.args.school c.args.student o) (terms_on_file past)) (sym c.in-Some.is)
+
+pub returns-clause-cost : goal.returns-clause-cost
+returns-clause-cost g c = let few = few_places (reverse c.args.filings.now) c.args.student in omega (arith, few, c.loop-at.invariant.few)
 
 pub returns-clause-counted : goal.returns-clause-counted
 returns-clause-counted g c = λ term is.

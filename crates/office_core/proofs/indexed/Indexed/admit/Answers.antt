@@ -11,7 +11,7 @@ use Rattle.office_core.proofs.RowsFound.{place_before, school_year_before, stude
 use Rattle.office_core.specs.Index.{AreSchoolYears, AreStudents, AreYears, student_or}
 use Rattle.office_core.specs.declared.entries.StudentEntry.{StudentEntry}
 use Rattle.office_links.specs.Placed.{ArePlaces}
-use Rattle.office_rows.specs.Changed.{student_changed}
+use Rattle.office_rows.specs.Changed.{IsPlaceBefore, student_changed}
 use Rattle.office_core.proofs.indexed.Indexed.admit.Goals as goal
 
 pub outcome_after-outcome-requires-clause-place : goal.outcome_after-outcome-requires-clause-place
@@ -65,8 +65,15 @@ rows_after-written-requires-clause-student c = λ student changed.
     (student_before c.args.self.now.history c.args.filing rows c.student_changed.result c.find-student_slot.result.1 c.student_told-student.result are
     c.student_changed.ensures c.find-student_slot.ensures.row c.student_told-student.ensures student changed)
 
-pub newest_before-before-requires : goal.newest_before-before-requires
-newest_before-before-requires c = λ e is.
+pub newest_before-before-requires-clause-place : goal.newest_before-before-requires-clause-place
+newest_before-before-requires-clause-place c =
+    let rows = c.self.inside.places.rows in
+    let are : ArePlaces c.args.self.now.history rows = subst (λ (r : Register). ArePlaces r.history rows) c.self.view_is c.self.invariant.0.places in
+    place_before c.args.self.now.history c.args.filing rows c.place_changed.result c.find-place_slot.result.1 c.place_told-place.result are
+    c.place_changed.ensures c.find-place_slot.ensures.row c.place_told-place.ensures
+
+pub newest_before-before-requires-clause-student : goal.newest_before-before-requires-clause-student
+newest_before-before-requires-clause-student c = λ e is.
     let rows = c.self.inside.students.rows in
     let are : AreStudents c.args.self.now.history rows = subst (λ (r : Register). AreStudents r.history rows) c.self.view_is c.self.invariant.0.students in
     student_before c.args.self.now.history c.args.filing rows c.student_changed.result c.find-student_slot.result.1 c.student_told-student.result are
@@ -137,11 +144,14 @@ invariant_of-self c =
     let before : IsIndexed past c.self.inside.outcomes.items old =
     subst (λ (l : List Filing). IsIndexed l c.self.inside.outcomes.items old) view c.self.invariant.0 in
     let here : c.front-position.result + 1 ≡ length past + 1 = ap (λ (n : ℕ). n + 1) c.front-position.ensures.value in
+    let place : IsPlaceBefore past f c.place_told-place.result =
+    place_before past f old.places c.place_changed.result c.find-place_slot.result.1 c.place_told-place.result before.places
+    c.place_changed.ensures c.find-place_slot.ensures.row c.place_told-place.ensures in
     let rows : AreRows (f ∷ past) new = record {
       keys = c.write_key.ensures.rows past here c.requires.legal.1 before.keys;
       books = c.write_book.ensures.rows past here before.books;
       schools = c.write_school.ensures.rows past here written.school before.schools;
-      students = c.write_student.ensures.rows past here written.student before.students;
+      students = c.write_student.ensures.rows past c.requires.legal.0 here place written.student before.students;
       places = places_after past f w.place old.places new.places c.write-slot.ensures.values before.places written.place;
       years = years_after past f w.year old.years new.years c.write.ensures.values before.years written.year;
       school_years = school_years_after past f w.school_year old.school_years new.school_years c.write-2.ensures.values before.school_years written.school_year;

@@ -1,0 +1,68 @@
+//! What an application brings: its formula, final index and award.
+ghost use Rattle.std.specs.Prelude.{◌≡◌, Some};
+ghost use Rattle.std.specs.Option.{option_copied};
+ghost use Rattle.office_answers.specs.Brought.{awarded, brought_by};
+ghost use Rattle.office_history.specs.Answer.{indexed, indexed_by};
+ghost use Rattle.office_history.specs.Award.{unfit_under};
+
+use aid_books::Book;
+use aid_replies::Outcome;
+use aid_types::{Application, Refusal};
+use office_history::decision;
+use sai_index::{fits, formula_of};
+
+/// What an application brings under its year's book; nothing where there is no book.
+pub fn indexed_under(book: Option<&Book>, application: &Application) -> Outcome
+    ensures { result ≡ indexed (option_copied book.entry) (Some application.now) }
+{
+    match book {
+        Some(book) => indexed_by_book(book, application),
+        None => Outcome::Noted,
+    }
+}
+
+fn indexed_by_book(book: &Book, application: &Application) -> Outcome
+    ensures { result ≡ indexed_by book.now application.now }
+{
+    let decision = decision(book, application);
+    Outcome::Indexed {
+        formula: formula_of(book, application),
+        sai: decision.sai,
+        way: decision.way,
+        scheduled: decision.scheduled,
+    }
+}
+
+/// Why an application is out of range for its year's book.
+pub(crate) fn unfit(book: Option<&Book>, application: &Application) -> Option<Refusal>
+    ensures { result ≡ unfit_under (option_copied book.entry) application.now }
+{
+    match book {
+        Some(book) => fits(book, application),
+        None => None,
+    }
+}
+
+/// What an application brings under its year's book; nothing where there is no book, or it is out of range for it.
+pub(crate) fn brought_under(
+    book: Option<&Book>,
+    application: &Application,
+    unfit: &Option<Refusal>,
+) -> Outcome
+    ensures { result ≡ brought_by unfit.now (option_copied book.entry) application.now }
+{
+    match unfit {
+        None => indexed_under(book, application),
+        Some(_) => Outcome::Noted,
+    }
+}
+
+/// The Scheduled Award in dollars that an outcome tells, 0 where it tells none.
+pub fn award_in(outcome: &Outcome) -> u32
+    ensures { result ≡ awarded outcome.now }
+{
+    match outcome {
+        Outcome::Indexed { scheduled, .. } => *scheduled,
+        _ => 0,
+    }
+}
