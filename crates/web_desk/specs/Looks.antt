@@ -19,3 +19,8 @@ abbrev pub IsMore : Look → Type 0
 IsMore More = ⊤
 IsMore (Bad status) = ⊥
 IsMore (Whole head end) = ⊥
+
+abbrev pub IsBad : Look → Type 0
+IsBad More = ⊥
+IsBad (Bad status) = ⊤
+IsBad (Whole head end) = ⊥

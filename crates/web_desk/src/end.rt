@@ -3,7 +3,7 @@
 /// How a session ended.
 #[derive(Clone, Copy, Debug, PartialEq, Eq)]
 pub enum End {
-    /// The input ended between requests, or a closing response was written.
+    /// The input ended between requests, or a closing response was written that rejects nothing.
     Closed,
     /// The input ended within a request.
     Cut,

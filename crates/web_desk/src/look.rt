@@ -5,7 +5,7 @@ ghost use Rattle.web_desk.specs.Telling.{IsHonest, IsPrefix};
 ghost use Rattle.web_desk.specs.Calls.{the_routes};
 ghost use Rattle.web_desk.specs.Heads.{IsJudge};
 ghost use Rattle.web_desk.specs.Exchange.{Judge, told, told_body};
-ghost use Rattle.web_desk.specs.Looks.{LookFits, IsMore, told_of};
+ghost use Rattle.web_desk.specs.Looks.{LookFits, IsBad, IsMore, told_of};
 
 use crate::call::Route;
 use crate::head::{Head, read_head};
@@ -25,7 +25,7 @@ pub enum Look {
     Whole { head: Head, end: usize },
 }
 
-// Reads the head block of `end` bytes, and awaits the body.
+// Reads the head block of `end` bytes, and awaits the body. A head that is rejected is answered at once: its body isn't awaited.
 fn look_behind<L: Link>(
     router: &Router<Route>,
     link: &mut L,
@@ -43,6 +43,7 @@ fn look_behind<L: Link>(
         ≡ told_body (held.old.items ++ (L.tells link.old).left) end (judge (take end (held.old.items ++ (L.tells link.old).left)))) }
     ensures fits { IfOk result (LookFits (length held.new.items)) }
     ensures end { IsHonest (L.tells link.old) → IfOk result (λ l. IsMore l → (L.tells link.new).left ≡ []) }
+    ensures at_once { IfOk result (λ l. IsBad l → (link.new ≡ link.old) × (held.new ≡ held.old)) }
     ensures later { L.faults link.old ≤ L.faults link.new }
     ensures cause { IsErrOf result Stop.Fault → Rose (L.faults link.old) (L.faults link.new) }
 {

@@ -4,14 +4,14 @@ ghost use Rattle.web_desk.specs.Statuses.{code_of, phrase_at, phrase_of};
 
 use http::StatusCode;
 
-/// The status of a response (RFC 9110, 15; RFC 6585, 5).
+/// The status of a response (RFC 9110, 15; RFC 6585, 5; RFC 4918, 11.5).
 #[derive(Clone, Copy, Debug, PartialEq, Eq)]
 pub enum Status {
     /// 200.
     Okay,
     /// 201.
     Created,
-    /// 400: the head is none, or the body is no ask.
+    /// 400: the head is none, its Content-Length is no number or stands there twice, or the body is no ask.
     BadRequest,
     /// 404: the target is no route.
     NotFound,

@@ -1,16 +1,20 @@
 //! A connection over a socket.
-ghost use Rattle.std.specs.Prelude.{◌≡◌, ◌≤◌, false};
+ghost use Rattle.std.specs.Prelude.{◌≡◌, ◌≤◌, false, length, IfOk};
 ghost use Rattle.aid_edges.specs.Faults.{Rose};
 
 use aid_edges::Failed;
 use std::io;
-use std::io::{Read, Write};
+use std::io::{ErrorKind, Read, Write};
 use std::net::{Shutdown, TcpStream};
 use std::time::Duration;
 use web_desk::Link;
 
 /// So many seconds a read or a write waits for the peer.
 const SECONDS: u64 = 30;
+
+/// So many times a read or a write is tried that signals interrupt, as a process that is stopped and goes on has it, before that
+/// is a fault.
+const TRIES: u32 = 16;
 
 /// So many pieces of what a peer still sends are read and thrown away before its socket is closed, each within a second.
 const LAST_PIECES: u32 = 64;
@@ -62,6 +66,32 @@ impl SocketEdge {
     }
 }
 
+// Reads, and reads again where a signal interrupted that.
+fn read_some(stream: &mut TcpStream, buffer: &mut [u8]) -> io::Result<usize>
+    ensures { IfOk result (λ n. n ≤ length buffer.old) }
+{
+    for _ in 1..TRIES {
+        match stream.read(buffer) {
+            Err(error) if error.kind() == ErrorKind::Interrupted => {}
+            answer => return answer,
+        }
+    }
+    stream.read(buffer)
+}
+
+// Writes, and writes again where a signal interrupted that.
+fn write_some(stream: &mut TcpStream, bytes: &[u8]) -> io::Result<usize>
+    ensures { IfOk result (λ n. n ≤ length bytes.now) }
+{
+    for _ in 1..TRIES {
+        match stream.write(bytes) {
+            Err(error) if error.kind() == ErrorKind::Interrupted => {}
+            answer => return answer,
+        }
+    }
+    stream.write(bytes)
+}
+
 // Says that no more is written, and reads up to the peer's end.
 fn finish(mut stream: TcpStream) -> io::Result<()> {
     stream.shutdown(Shutdown::Write)?;
@@ -84,7 +114,7 @@ impl Link for SocketEdge {
 
     fn read(&mut self, buffer: &mut [u8]) -> Result<usize, Failed> {
         match &mut self.stream {
-            Some(stream) => match stream.read(buffer) {
+            Some(stream) => match read_some(stream, buffer) {
                 Ok(count) => Ok(count),
                 Err(_) => Err(self.fail()),
             },
@@ -94,7 +124,7 @@ impl Link for SocketEdge {
 
     fn write(&mut self, bytes: &[u8]) -> Result<usize, Failed> {
         match &mut self.stream {
-            Some(stream) => match stream.write(bytes) {
+            Some(stream) => match write_some(stream, bytes) {
                 Ok(count) if count > 0 || bytes.is_empty() => Ok(count),
                 _ => Err(self.fail()),
             },
