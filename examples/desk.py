@@ -18,14 +18,14 @@ def value_of(form, text):
     """Days and programs are strings, all else is a whole number, and dollars and cents are told in cents."""
     if form == "a day" or form.startswith("one of"):
         return text
-    return int(re.fullmatch(r"-?(0|[1-9]\d*)" + r"\.\d\d" * (form == "dollars and cents"), text)[0].replace(".", ""))
+    return int(re.fullmatch(r"(0|-?[1-9]\d*)" + r"\.\d\d" * (form == "dollars and cents"), text, re.ASCII)[0].replace(".", ""))
 
 
 def body_of(kind, _, number, *texts):
     """The body of a row's filing, by the names and forms of its kind's columns in the table of FILINGS.md."""
     table = PAGE.read_text().split(f"\n## {kind}\n")[1].split("\n## ")[0]
     fields = re.findall(r"^\| \d+ \| (\w+) \| .* \| ([^|,]*).*\|$", table, re.M)
-    body = {"kind": kind, "number": int(number)} | {name: value_of(form, text) for (name, form), text in zip(fields, texts)}
+    body = {"kind": kind, "number": value_of("a whole number", number)} | {name: value_of(form, text) for (name, form), text in zip(fields, texts)}
     days = texts[len(fields):]
     if len(texts) < len(fields) or len(days) != 2 * body.get("breaks", 0):
         raise ValueError("columns")
@@ -49,10 +49,10 @@ def file(link, school, body):
 
 if __name__ == "__main__":
     link, stood = http.client.HTTPConnection("127.0.0.1", int(sys.argv[1]), timeout=40), True
-    with open(sys.argv[2], newline="") as rows:
-        for row, columns in enumerate(csv.reader(rows), 1):
+    with open(sys.argv[2], newline="", encoding="utf-8-sig") as rows:
+        for row, columns in enumerate(filter(None, csv.reader(rows)), 1):
             try:
-                answer = file(link, columns[1], body_of(*columns))
+                answer = file(link, value_of("a whole number", columns[1]), body_of(*columns))
             except (TypeError, IndexError, ValueError):
                 answer = {"answer": "no filing"}
             stood = stood and answer.get("answer") in ("accepted", "again")

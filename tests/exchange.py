@@ -13,6 +13,7 @@ PHRASES = {
     413: "Payload Too Large", 422: "Unprocessable Entity", 431: "Request Header Fields Too Large", 501: "Not Implemented",
     503: "Service Unavailable", 507: "Insufficient Storage",
 }
+BLANK = re.compile(rb"\A(\r?\n)*")
 TOKEN = rb"[!#$%&'*+.^_`|~0-9A-Za-z-]+"
 FIRST = re.compile(rb"(%s) ([!-~\x80-\xff]+) HTTP/1\.([01])" % TOKEN)
 FIELD = re.compile(rb"(%s):[ \t]*([\t -~\x80-\xff]*)" % TOKEN)
@@ -41,10 +42,9 @@ def compact(value):
 
 def head_of(block):
     """The method, target, minor version and fields of a head block."""
-    lines = block.lstrip(b"\r\n").split(b"\n")[:-1]
-    if len(lines) > MOST_LINES:
+    if block.lstrip(b"\r\n").count(b"\n") > MOST_LINES:
         raise Rejected(431)
-    lines = [line.removesuffix(b"\r") for line in lines[:-1]]
+    lines = [line.removesuffix(b"\r") for line in BLANK.sub(b"", block).split(b"\n")[:-2]]
     first = FIRST.fullmatch(lines[0])
     fields = [FIELD.fullmatch(line) for line in lines[1:]]
     if first is None or None in fields:
@@ -77,6 +77,13 @@ def call_of(method, target):
         if found and all(low <= int(text) <= high for text, (low, high) in zip(found.groups(), ranges)):
             return (place, [int(text) for text in found.groups()]) if method == wanted else 405
     return 404
+
+
+def head_end(data):
+    """Where the head block ends that these bytes begin with, or none where its first 16,384 bytes have no end."""
+    begun = re.search(rb"[^\r\n]", data[:MOST_HEAD])
+    end = re.compile(rb"\n\r?\n").search(data[:MOST_HEAD], begun.end()) if begun else None
+    return end and end.end()
 
 
 class Office:
@@ -123,20 +130,19 @@ class Office:
         """All that is written over a connection that brings these bytes and then ends."""
         written = []
         for _ in range(MOST_REQUESTS):
-            begun = re.search(rb"[^\r\n]", data[:MOST_HEAD])
-            end = re.compile(rb"\n\r?\n").search(data[:MOST_HEAD], begun.end()) if begun else None
+            end = head_end(data)
             if end is None:
                 return b"".join(written) + (response(431, compact({"error": 431}), True) if len(data) >= MOST_HEAD else b"")
             try:
-                method, target, minor, fields = head_of(data[:end.end()])
-                size = end.end() + length_of(method, fields)
+                method, target, minor, fields = head_of(data[:end])
+                size = end + length_of(method, fields)
             except Rejected as rejected:
                 status, = rejected.args
                 return b"".join(written) + response(status, compact({"error": status}), True)
             if len(data) < size:
                 break
             closes = minor == 0 or any(name == b"connection" and value.lower() == b"close" for name, value in fields)
-            written.append(response(*self.answer(method, target, data[end.end():size]), closes))
+            written.append(response(*self.answer(method, target, data[end:size]), closes))
             data = data[size:]
             if closes:
                 break
