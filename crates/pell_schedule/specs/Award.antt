@@ -17,7 +17,7 @@ use Rattle.aid_types.specs.declared.award.Formula.TheVariants.{A, B, C}
 use Rattle.aid_types.specs.declared.award.Way.{Way}
 use Rattle.aid_types.specs.declared.award.Way.TheVariants.{Maximum, Calculated, Minimum, Nothing}
 use Rattle.sai_index.specs.Formulas.{formula}
-use Rattle.sai_index.specs.Index.{index_lines}
+use Rattle.sai_index.specs.Indices.{index_of}
 use Rattle.pell_schedule.specs.declared.Decision.{Decision}
 
 -- the household whose income decides: the parents' for a dependent student, the student's for others (HEA 401(b)(1))
@@ -100,7 +100,7 @@ decision book a index = decision_under (formula book a) book a index
 
 -- the decision on an application under a book, by its own index
 abbrev pub decision_of : Book → Application → Decision
-decision_of book a = decision book a (index_lines book a).index
+decision_of book a = decision book a (index_of book a)
 
 -- what each case says where those before it don't hold
 pub record IsDecidedByCase (f : Formula) (book : Book) (a : Application) (index : ℤ) (d : Decision) : Type 0 where

@@ -11,6 +11,7 @@ use Rattle.sai_index.specs.declared.lines.ParentLines.{ParentLines}
 use Rattle.sai_index.proofs.LinesLaws.{assessed_lines-are, assessed_lines-only, household_lines-are, household_lines-only, parent_lines-are, parent_lines-only}
 use Rattle.sai_index.specs.Formulas.{formula}
 use Rattle.sai_index.specs.Index.{AreDependentLines, AreFamilyLines, AreIndexLines, AreLinesOf, AreSingleLines, age, bounded, dependent_lines, employment_if_married, family_lines, family_protection, income_contribution, index_lines, lines_of, shortfall, single_lines, single_or_married}
+use Rattle.sai_index.specs.Indices.{index_of, raw_index}
 use Rattle.sai_index.specs.declared.IndexLines.{IndexLines}
 
 pub dependent_lines-are : (book : Book) (a : Application) (parent : ParentLines) → AreDependentLines book a parent (dependent_lines book a parent)
@@ -114,3 +115,12 @@ lines_of-only C book a l e h k =
 pub index_lines-only : (book : Book) (a : Application) (l : IndexLines) → AreIndexLines book a l → l ≡ index_lines book a
 index_lines-only book a l h =
     lines_of-only (formula book a) book a l h.formula (subst (λ f. AreLinesOf f book a l) h.formula h.lines) h.index
+
+-- the raw index of the lines is that of the amounts alone
+raw_of_lines : (f : Formula) (book : Book) (a : Application) → (lines_of f book a).index ≡ bounded (raw_index f book a)
+raw_of_lines A book a = refl
+raw_of_lines B book a = refl
+raw_of_lines C book a = refl
+
+pub index_of_lines : (book : Book) (a : Application) → (index_lines book a).index ≡ index_of book a
+index_of_lines book a = raw_of_lines (formula book a) book a

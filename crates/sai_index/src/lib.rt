@@ -9,6 +9,7 @@ ghost use Rattle.sai_index.specs.Income.{IsRicher};
 ghost use Rattle.sai_index.specs.Fits.{FitsBook, is_size as is_size_of, size_for as size_for_of, unfit};
 ghost use Rattle.sai_index.specs.Formulas.{formula, is_independent as is_independent_of};
 ghost use Rattle.sai_index.specs.Index.{AreIndexLines, bounded as bounded_of, index_lines, indexed as indexed_of, lines_of};
+ghost use Rattle.sai_index.specs.Indices.{index_of};
 ghost use Rattle.sai_index.specs.declared.IndexLines.{IndexLines as Lines};
 ghost use Rattle.aid_types.specs.declared.award.Formula.TheVariants.{A, B, C};
 
@@ -121,6 +122,7 @@ pub fn index(book: &Book, a: &Application) -> IndexLines
     ensures lines { AreIndexLines book.now a.now result }
     ensures only { (lines : Lines) → AreIndexLines book.now a.now lines → lines ≡ result }
     ensures value { result ≡ index_lines book.now a.now }
+    ensures index { result.index ≡ index_of book.now a.now }
     ensures in_range { IsIndex result.index }
 
     // More income, all else equal, gives no lesser index.
