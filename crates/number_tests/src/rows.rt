@@ -120,7 +120,7 @@ fn rows_stay_at_their_slots(rt: HostRuntime) -> Result<(), Fail> {
         ] {
             let key = key_at(slot);
             assert_eq!(rt; row_at(&slots, slot), Some((key, wanted)));
-            assert_eq!(rt; slots.at(&key), Some(wanted));
+            assert_eq!(rt; slots.at(&key), Some(&wanted));
         }
         assert_eq!(rt; slots.at(&key_at(KEYS + turn)), None);
     }
@@ -171,7 +171,7 @@ fn put(slots: &mut Slots<u32, Page>, key: u32, value: Page) -> Result<Option<u32
 // The row at a slot, if there is one.
 fn row_at(slots: &Slots<u32, Page>, slot: u32) -> Option<(u32, Page)> {
     if (slot as usize) < slots.len() {
-        Some(slots.row(slot))
+        Some(*slots.row(slot))
     } else {
         None
     }
@@ -192,6 +192,6 @@ fn find<L: Ledger>(slots: &Slots<u32, char>, key: u32, blank: Blank) -> Option<(
 {
     let mut looks: Steps<L> = Steps::new(blank);
     let slot = slots.slot_of(&key, &mut looks)?;
-    let (_, value) = slots.look(slot, &mut looks);
-    Some((slot, value, slots.get(&key, &mut looks)?))
+    let (_, value) = *slots.look(slot, &mut looks);
+    Some((slot, value, *slots.get(&key, &mut looks)?))
 }

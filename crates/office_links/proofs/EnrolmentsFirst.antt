@@ -10,9 +10,8 @@ use Rattle.aid_filings.specs.declared.filing.EnrolFacts.{EnrolFacts}
 use Rattle.aid_filings.specs.declared.filing.Filing.{Filing}
 use Rattle.aid_filings.specs.declared.filing.What.{What}
 use Rattle.aid_filings.specs.declared.filing.What.TheVariants.{Book, School, Calendar, Prior, Apply, Enrol, Originate, Pay, Withdraw, Repay, Adjust}
-use Rattle.filing_rules.specs.Rules.{lines_of}
 use Rattle.office_history.specs.Answer.{IsLegal, breaks}
-use Rattle.office_history.specs.FactsOf.{facts_of}
+use Rattle.office_history.specs.Rules.{rules_of}
 use Rattle.office_history.specs.Past.{amount_or, at_school, credits, credits_in, given, if_here, later, latest}
 use Rattle.office_history.proofs.Checks.{all_hold}
 use Rattle.office_history.specs.Rows.{enrolments_of, is_enrolment}
@@ -141,7 +140,7 @@ module _ (school student year term : ℕ) where
       go : (key : Key) (what : What) → breaks past (record { key = key; what = what }) ≡ None →
           AreSome (at_school school (credits_in student year term) (record { key = key; what = what })) (enrols_in school student year term (record { key = key; what = what }))
       go key (Enrol e) h =
-          let k = all_hold (lines_of (facts_of past key (Enrol e)) key.school (Enrol e)) h in
+          let k = all_hold (rules_of past key (Enrol e)) h in
           here (key.school == school) (e.student == student && (e.year == year && e.term == term)) e.credits k.1.1.1.0
       go key (Book b) h = refl
       go key (School b) h = refl

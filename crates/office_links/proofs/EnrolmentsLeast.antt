@@ -4,7 +4,7 @@ use Rattle.std.specs.Prelude.{◌==◌, min, nat_lt}
 use Rattle.std.specs.List.{Contains}
 use Rattle.std.proofs.lemmas.Bool.Decides.{nat_tests}
 use Rattle.aid_filings.specs.declared.filing.Filing.{Filing}
-use Rattle.office_history.specs.FactsOf.{lesser_code}
+use Rattle.office_history.specs.Positions.{lesser_code}
 use Rattle.office_history.proofs.Among.{among_cases, among_head, among_rest}
 use Rattle.office_links.specs.Enrolments.{comes_before, earlier_over, first_over, least_school}
 use Rattle.office_links.specs.declared.enrolments.Over.{Over}

@@ -15,7 +15,7 @@ use Rattle.aid_filings.specs.declared.filing.What.TheVariants.{Book, School, Cal
 use Rattle.aid_types.specs.declared.term.Term.{Term}
 use Rattle.enrolment.specs.Terms.{intensity_of, payment_of}
 use Rattle.office_history.specs.Answer.{IsLegal}
-use Rattle.office_history.specs.FactsOf.{full_of, payment_at, terms_of}
+use Rattle.office_history.specs.Positions.{full_of, payment_at, terms_of}
 use Rattle.office_history.specs.Net.{pell_term}
 use Rattle.office_history.specs.Past.{at_school, credits, earlier, earliest, first_at, first_of_two, given, if_here, school_in, term_in, the_school, the_term}
 use Rattle.office_history.proofs.Asked.{none_told, some_told}

@@ -14,11 +14,11 @@ use Rattle.aid_filings.specs.declared.filing.What.TheVariants.{Book, School, Cal
 use Rattle.aid_types.specs.declared.number.Key.{Key}
 use Rattle.aid_types.specs.declared.term.Term.{Term}
 use Rattle.enrolment.specs.Terms.{shares_day}
-use Rattle.filing_rules.specs.Rules.{lines_of}
 use Rattle.office_history.specs.Answer.{IsLegal, breaks}
-use Rattle.office_history.specs.FactsOf.{facts_of, is_over, is_paid_beside, least_code, payment_at, term_at, term_over, told_over}
+use Rattle.office_history.specs.Rules.{rules_of}
+use Rattle.office_history.specs.Positions.{is_over, is_paid_beside, least_code, payment_at, term_at, term_over, told_over}
 use Rattle.office_history.specs.Least.{IsLeastNumber, NonePasses, is_before}
-use Rattle.office_history.specs.Net.{pell_cell, pell_term}
+use Rattle.office_history.specs.Net.{cell_at, pell_term}
 use Rattle.office_history.specs.Past.{OnFile, at_school, earlier, given, term_in, terms_on_file, the_term}
 use Rattle.office_history.proofs.Among.{among_cases, among_head, among_rest}
 use Rattle.office_history.proofs.Asked.{none_told}
@@ -54,7 +54,7 @@ one_passes {X} p (x ∷ xs) h = go (p x) refl h (one_passes p xs)
 -- where a term holds net Pell it is on file
 holding_stands : (past : List Filing) → IsLegal past → (school student year number : ℕ) → 0 < pell_term past school student year number → Stands past school year number
 holding_stands past legal school student year number pos =
-    let w = one_passes (is_term school year number) (terms_on_file past) (filed_holds past legal (pell_cell school student year number) (omega arith)) in
+    let w = one_passes (is_term school year number) (terms_on_file past) (filed_holds past legal (cell_at school student year number 3) (omega arith)) in
     let a = and_parts (w.0.school == school) (w.0.year == year && w.0.term.number == number) w.2 in
     let b = and_parts (w.0.year == year) (w.0.term.number == number) a.1 in
     record {
@@ -86,7 +86,7 @@ own_term (f ∷ past) legal t there = go f.key f.what legal.2 there (own_term pa
       where
         none : the_term past key.school c.year c.term ≡ None
         none =
-            let k = all_hold (lines_of (facts_of past key (Calendar c)) key.school (Calendar c)) sound in
+            let k = all_hold (rules_of past key (Calendar c)) sound in
             none_told (at_school key.school (term_in c.year c.term)) past (stands_holds 20 (term_at past key.school c.year c.term) c.term k.1.1.0)
 
     go : (key : Key) (what : What) → breaks past (record { key = key; what = what }) ≡ None → Contains (terms_on_file (record { key = key; what = what } ∷ past)) t →
@@ -124,7 +124,7 @@ module _ (past : List Filing) (legal : IsLegal past) (student : ℕ) where
 
   enrolled : (school year number : ℕ) → 0 < pell_term past school student year number → IsFirstEnrolled student school year number past
   enrolled school year number pos =
-      let e = paid_enrolled past legal (pell_cell school student year number) (omega arith) in
+      let e = paid_enrolled past legal (cell_at school student year number 3) (omega arith) in
       first_enrolled student school year number past e.key e.facts e.stands e.student e.school e.year e.term
 
   module _ (school : ℕ) (this : Term) where

@@ -9,7 +9,7 @@ use Rattle.aid_filings.specs.declared.filing.Filing.{Filing}
 use Rattle.aid_filings.specs.declared.filing.What.TheVariants.{Enrol}
 use Rattle.aid_types.specs.declared.term.Term.{Term}
 use Rattle.office_history.specs.Answer.{IsLegal}
-use Rattle.office_history.specs.FactsOf.{is_paid_beside, least_code, lesser_code, term_over}
+use Rattle.office_history.specs.Positions.{is_paid_beside, least_code, lesser_code, term_over}
 use Rattle.office_history.specs.Past.{terms_on_file}
 use Rattle.office_history.specs.Rows.{is_enrolment}
 use Rattle.office_history.specs.declared.rows.PlaceRow.{PlaceRow}

@@ -9,9 +9,9 @@ use Rattle.aid_filings.specs.declared.filing.CalendarFacts.{CalendarFacts}
 use Rattle.aid_filings.specs.declared.filing.Filing.{Filing}
 use Rattle.aid_filings.specs.declared.filing.What.{What}
 use Rattle.aid_filings.specs.declared.filing.What.TheVariants.{Book, School, Calendar, Prior, Apply, Enrol, Originate, Pay, Withdraw, Repay, Adjust}
-use Rattle.filing_rules.specs.Rules.{lines_of}
 use Rattle.office_history.specs.Answer.{IsLegal, breaks}
-use Rattle.office_history.specs.FactsOf.{facts_of, term_at}
+use Rattle.office_history.specs.Rules.{rules_of}
+use Rattle.office_history.specs.Positions.{term_at}
 use Rattle.office_history.specs.Past.{at_school, earlier, first_of_two, given, later, term_in, the_term}
 use Rattle.office_history.specs.Rows.{term_row, terms_at}
 use Rattle.office_history.specs.declared.rows.TermRow.{TermRow}
@@ -25,7 +25,7 @@ use Rattle.office_links.proofs.LinksTerms.{IsTermWalk, asked_here, filed_here, n
 -- a term that is admitted is the first of its school, year and number
 first_filed : (past : List Filing) (key : Key) (c : CalendarFacts) → breaks past (record { key = key; what = Calendar c }) ≡ None → term_at past key.school c.year c.term ≡ 0
 first_filed past key c h =
-    let k = all_hold (lines_of (facts_of past key (Calendar c)) key.school (Calendar c)) h in
+    let k = all_hold (rules_of past key (Calendar c)) h in
     stands_holds 20 (term_at past key.school c.year c.term) c.term k.1.1.0
 
 -- the same by what it tells

@@ -7,9 +7,10 @@ use Rattle.aid_filings.specs.declared.filing.EnrolFacts.{EnrolFacts}
 use Rattle.aid_filings.specs.declared.filing.Filing.{Filing}
 use Rattle.aid_filings.specs.declared.filing.What.{What}
 use Rattle.aid_filings.specs.declared.filing.What.TheVariants.{Book, School, Calendar, Prior, Apply, Enrol, Originate, Pay, Withdraw, Repay, Adjust}
-use Rattle.filing_rules.specs.Rules.{broken_of, lines_of}
+use Rattle.filing_rules.specs.Rules.{first_broken}
+use Rattle.office_history.specs.Rules.{rules_of}
 use Rattle.office_history.specs.Answer.{IsLegal}
-use Rattle.office_history.specs.FactsOf.{facts_of, school_at, term_at}
+use Rattle.office_history.specs.Positions.{school_at, term_at}
 use Rattle.office_history.specs.Past.{first_at, first_of_two}
 use Rattle.office_history.proofs.Checks.{all_hold, lacks_holds}
 use Rattle.office_history.specs.declared.rows.PlaceRow.{PlaceRow}
@@ -62,8 +63,8 @@ on_file_stays past f school e s =
 
 pub enrols : (past : List Filing) (f : Filing) (e : EnrolFacts) → IsLegal (f ∷ past) → f.what ≡ Enrol e → IsOnFile past f.key.school e
 enrols past f e legal is =
-    let sound = subst (λ (w : What). broken_of (facts_of past f.key w) f.key w ≡ None) is legal.2 in
-    let k = all_hold (lines_of (facts_of past f.key (Enrol e)) f.key.school (Enrol e)) sound in
+    let sound = subst (λ (w : What). first_broken (rules_of past f.key w) ≡ None) is legal.2 in
+    let k = all_hold (rules_of past f.key (Enrol e)) sound in
     record {
       school_stands = lacks_holds 12 (school_at past f.key.school) f.key.school 0 k.1.0;
       term_stands = lacks_holds 30 (term_at past f.key.school e.year e.term) e.term 0 k.1.1.0;

@@ -11,7 +11,7 @@ use Rattle.aid_filings.specs.declared.filing.Filing.{Filing}
 use Rattle.aid_filings.specs.declared.filing.What.{What}
 use Rattle.aid_filings.specs.declared.filing.What.TheVariants.{Book, School, Calendar, Prior, Apply, Enrol, Originate, Pay, Withdraw, Repay, Adjust}
 use Rattle.enrolment.specs.Terms.{shares_day}
-use Rattle.office_history.specs.FactsOf.{term_at}
+use Rattle.office_history.specs.Positions.{term_at}
 use Rattle.office_history.specs.Past.{OnFile, at_school, earlier, earliest, first_at, first_of_two, given, if_here, later, on_file, term_in, terms_on_file, the_term}
 use Rattle.office_history.specs.FiledTerms.{is_main_term, is_overlapping}
 use Rattle.office_history.specs.Rows.{calendar_row, term_row, terms_at}

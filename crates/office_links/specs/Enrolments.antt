@@ -9,7 +9,7 @@ use Rattle.aid_filings.specs.declared.filing.What.TheVariants.{Calendar, Enrol, 
 use Rattle.aid_types.specs.declared.award.Refusal.{Refusal}
 use Rattle.aid_types.specs.declared.term.Term.{Term}
 use Rattle.enrolment.specs.Terms.{shares_day}
-use Rattle.office_history.specs.FactsOf.{lesser_code, payment_at, school_at, term_at}
+use Rattle.office_history.specs.Positions.{lesser_code, payment_at, school_at, term_at}
 use Rattle.office_history.specs.Net.{pell_term}
 use Rattle.office_history.specs.Past.{given, the_term}
 use Rattle.office_history.specs.declared.rows.PlaceRow.{PlaceRow}

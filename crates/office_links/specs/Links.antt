@@ -6,7 +6,7 @@ use Rattle.aid_filings.specs.declared.filing.Filing.{Filing}
 use Rattle.aid_filings.specs.declared.filing.What.{What}
 use Rattle.aid_filings.specs.declared.filing.What.TheVariants.{Calendar, Enrol}
 use Rattle.office_history.specs.Answer.{IsLegal}
-use Rattle.office_history.specs.FactsOf.{school_at, term_at}
+use Rattle.office_history.specs.Positions.{school_at, term_at}
 use Rattle.office_history.specs.Past.{at_school, credits_in}
 use Rattle.office_history.specs.Rows.{is_enrolment}
 use Rattle.office_history.specs.declared.rows.PlaceRow.{PlaceRow}

@@ -5,7 +5,7 @@ ghost use Rattle.std.specs.Prelude.{◌≡◌, ◌+◌, ◌-◌, ◌*◌, ◌≤
 ghost use Rattle.aid_types.specs.declared.term.Term.{Term as TermData};
 ghost use Rattle.enrolment.specs.Terms.{intensity_of, payment_of};
 ghost use Rattle.office_history.specs.Answer.{IsLegal};
-ghost use Rattle.office_history.specs.FactsOf.{full_of, is_paid_beside as is_paid_beside_of, least_code, lesser_code, terms_of, term_over as term_over_of};
+ghost use Rattle.office_history.specs.Positions.{full_of, is_paid_beside as is_paid_beside_of, least_code, lesser_code, terms_of, term_over as term_over_of};
 ghost use Rattle.office_history.specs.Past.{terms_on_file};
 ghost use Rattle.office_history.specs.Rows.{enrolments_of};
 ghost use Rattle.office_links.specs.Enrolments.{IsEnrolment, earlier_over, is_beside, over_of, refusal_of, school_told, term_told};
@@ -125,7 +125,7 @@ fn is_paid_beside<L: Ledger>(
     ensures later { steps.old ≤ steps.new }
 {
     // Most places hold none, so the filing is looked at last.
-    let row = places.look(link.slot, steps).1;
+    let row = &places.look(link.slot, steps).1;
     if net_pell(&row.account) == 0 {
         return false;
     }
@@ -225,7 +225,7 @@ fn over_in<L: Ledger>(
     if enrolment.year != year {
         return None;
     }
-    let row = places.look(link.slot, steps).1;
+    let row = &places.look(link.slot, steps).1;
     let kept = net_pell(&row.account);
     steps.tick();
     let bound = payment(

@@ -42,6 +42,14 @@ in_second test xs ys h = ap (λ r. first r (lookup test ys)) h ∙ sym (lookup_a
 pub in_neither : {K V : Type 0} (test : K → Bool) (xs ys : List (K × V)) → lookup test xs ≡ None → lookup test ys ≡ None → lookup test (xs ++ ys) ≡ None
 in_neither test xs ys none lacks = sym (in_second test xs ys (sym none)) ∙ lacks
 
+none_of_two : {V : Type 0} (a b : Option V) → first a b ≡ None → (a ≡ None) × (b ≡ None)
+none_of_two (Some v) b none = absurd (none-some v (sym none))
+none_of_two None b none = (refl, none)
+
+-- what the two together have not, neither run has
+pub neither : {K V : Type 0} (test : K → Bool) (xs ys : List (K × V)) → lookup test (xs ++ ys) ≡ None → (lookup test xs ≡ None) × (lookup test ys ≡ None)
+neither test xs ys none = none_of_two (lookup test xs) (lookup test ys) (sym (lookup_append test xs ys) ∙ none)
+
 pub first_none : {V : Type 0} (a : Option V) → first a None ≡ a
 first_none (Some v) = refl
 first_none None = refl

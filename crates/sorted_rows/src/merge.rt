@@ -7,8 +7,12 @@ ghost use Rattle.sorted_rows.specs.Places.{AreAlike, AreApart, IsBelowPrior, tai
 use crate::table::TAIL_SIZE;
 use std::cmp::Ordering;
 
-/// Merges the tail into the main rows once it is full. The main rows have room for it.
-pub(crate) fn merge_full<K: Ord + Copy, V: Copy>(main: &mut Vec<(K, V)>, tail: &mut Vec<(K, V)>)
+/// A tail is merged once its square is so many times the number of the main rows: the rows that writes move in a tail then cost
+/// about what those cost that merges move.
+const SQUARES: usize = 16;
+
+/// Merges the tail into the main rows once it is long. The main rows have room for it.
+pub(crate) fn merge_long<K: Ord + Copy, V: Copy>(main: &mut Vec<(K, V)>, tail: &mut Vec<(K, V)>)
     requires apart { AreApart K.cmp tail.old.items main.old.items }
     requires short { vec_len tail.old ≤ tail_size }
     requires room { vec_len main.old + vec_len tail.old ≤ vec_capacity main.old }
@@ -19,9 +23,16 @@ pub(crate) fn merge_full<K: Ord + Copy, V: Copy>(main: &mut Vec<(K, V)>, tail: &
     ensures room { vec_capacity main.old ≤ vec_capacity main.new }
     ensures count { vec_len main.new + vec_len tail.new ≡ vec_len main.old + vec_len tail.old }
 {
-    if tail.len() == TAIL_SIZE {
+    if is_long(tail.len(), main.len()) {
         merge(main, tail);
     }
+}
+
+/// Whether so many rows of the tail are merged into so many main rows.
+fn is_long(tail: usize, main: usize) -> bool
+    ensures { tail_size ≤ tail → result ≡ true }
+{
+    TAIL_SIZE <= tail || main < tail * tail / SQUARES
 }
 
 /// Merges the tail into the main rows, which have room for it, and leaves it empty.

@@ -1,7 +1,7 @@
 //! Rows that stay where they were put, with a table of their numbers by key.
 ghost use Rattle.std.specs.Prelude.{◌≡◌, ◌+◌, ◌*◌, ◌^◌, ◌<◌, ◌≤◌, ◌↔◌, ◌++◌, [], ◌∷◌, ℕ, Some, None, IfSome, OnOk, OnErr, cond, max, length};
 ghost use Rattle.std.specs.List.{slice_get};
-ghost use Rattle.std.specs.Option.{is_none};
+ghost use Rattle.std.specs.Option.{is_none, option_copied};
 ghost use Rattle.sorted_rows.specs.Places.{AreStaying, IsHere, IsWritten, value_at};
 
 use crate::table::Table;
@@ -82,19 +82,19 @@ impl<K: Ord + Copy, V: Copy> Slots<K, V> {
     }
 
     /// The row at a slot, where nobody counts the looks.
-    pub fn row(&self, slot: u32) -> (K, V)
+    pub fn row(&self, slot: u32) -> &(K, V)
         requires { slot < length self.now.rows }
-        ensures here { slice_get self.now.rows slot ≡ Some result }
-        ensures own { value_at K.cmp result.0 self.now.rows ≡ Some result.1 }
+        ensures here { slice_get self.now.rows slot ≡ Some result.now }
+        ensures own { value_at K.cmp result.now.0 self.now.rows ≡ Some result.now.1 }
     {
-        self.rows[slot as usize]
+        &self.rows[slot as usize]
     }
 
     /// The row at a slot, which takes one step.
-    pub fn look<L: Ledger>(&self, slot: u32, steps: &mut Steps<L>) -> (K, V)
+    pub fn look<L: Ledger>(&self, slot: u32, steps: &mut Steps<L>) -> &(K, V)
         requires { slot < length self.now.rows }
-        ensures here { slice_get self.now.rows slot ≡ Some result }
-        ensures own { value_at K.cmp result.0 self.now.rows ≡ Some result.1 }
+        ensures here { slice_get self.now.rows slot ≡ Some result.now }
+        ensures own { value_at K.cmp result.now.0 self.now.rows ≡ Some result.now.1 }
         ensures one { steps.new ≡ steps.old + 1 }
     {
         steps.tick();
@@ -103,21 +103,21 @@ impl<K: Ord + Copy, V: Copy> Slots<K, V> {
 
     /// The value of a key. The look at its row is a step too: in all at most two for each binary digit of the number of
     /// rows. So among 200,000 rows a value is found in 36 looks.
-    pub fn get<L: Ledger>(&self, key: &K, steps: &mut Steps<L>) -> Option<V>
-        ensures value { result ≡ value_at K.cmp key.now self.now.rows }
+    pub fn get<L: Ledger>(&self, key: &K, steps: &mut Steps<L>) -> Option<&V>
+        ensures value { option_copied result ≡ value_at K.cmp key.now self.now.rows }
         ensures later { steps.old ≤ steps.new }
         ensures looks { (digits : ℕ) → length self.now.rows < 2 ^ digits → steps.new ≤ steps.old + 2 * digits }
     {
         let slot = self.slot_of(key, steps)?;
-        Some(self.look(slot, steps).1)
+        Some(&self.look(slot, steps).1)
     }
 
     /// The value of a key, where nobody counts the looks.
-    pub fn at(&self, key: &K) -> Option<V>
-        ensures { result ≡ value_at K.cmp key.now self.now.rows }
+    pub fn at(&self, key: &K) -> Option<&V>
+        ensures { option_copied result ≡ value_at K.cmp key.now self.now.rows }
     {
         let slot = self.slots.at(key)?;
-        Some(self.row(slot).1)
+        Some(&self.row(slot).1)
     }
 
     /// Writes the value of a key, and answers its slot. A new key takes one place of the room, and the next slot; no call
@@ -151,8 +151,8 @@ impl<K: Ord + Copy, V: Copy> Slots<K, V> {
         self.rows[slot as usize].1 = value;
     }
 
-    // Puts the row of a new key behind the others, and answers its slot.
-    fn add(&mut self, key: K, value: V) -> u32
+    /// Puts the row of a key that has none behind the others, and answers its slot.
+    pub fn add(&mut self, key: K, value: V) -> u32
         requires new { value_at K.cmp key self.old.rows ≡ None }
         requires room { 0 < self.old.room }
         requires few { length self.old.rows < 4294967295 }
@@ -161,7 +161,7 @@ impl<K: Ord + Copy, V: Copy> Slots<K, V> {
         ensures room { self.new.room + 1 ≡ self.old.room }
     {
         let slot = self.rows.len() as u32;
-        self.slots.set(key, slot);
+        self.slots.add(key, slot);
         let _ = self.rows.push((key, value));
         slot
     }

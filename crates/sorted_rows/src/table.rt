@@ -4,13 +4,13 @@ ghost use Rattle.std.specs.Option.{is_none};
 ghost use Rattle.sorted_rows.specs.Places.{IsWritten, tail_looks, value_at};
 
 use crate::find::{find, find_uncounted};
-use crate::write::write;
+use crate::write::{write, write_new};
 use std::alloc::{AllocError, Global};
 use std::marker::{Brand, Model};
 use std::sync::ledger::{Blank, Ledger};
 use steps::Steps;
 
-/// The tail is merged into the main rows when it has so many rows.
+/// The tail is merged into the main rows when it has so many rows, or sooner where these are few.
 pub(crate) const TAIL_SIZE: usize = 1024;
 
 /// Rows of a key and a value, no key twice. A contract sees the list of the rows, in which a key's value is found by
@@ -102,5 +102,18 @@ impl<K: Ord + Copy, V: Copy> Table<K, V> {
         if write(&mut self.main, &mut self.tail, key, value) {
             self.room -= 1;
         }
+    }
+
+    /// Writes the value of a key that the table lacks, which spares the look at the main rows. It takes one place of the room,
+    /// and no memory.
+    pub fn add(&mut self, key: K, value: V)
+        requires new { value_at K.cmp key self.old.rows ≡ None }
+        requires room { 0 < self.old.room }
+        ensures values { IsWritten K.cmp key value self.old.rows self.new.rows }
+        ensures room { self.new.room + 1 ≡ self.old.room }
+        ensures count { length self.new.rows ≡ length self.old.rows + 1 }
+    {
+        let _ = write_new(&mut self.main, &mut self.tail, key, value);
+        self.room -= 1;
     }
 }

@@ -6,7 +6,7 @@ ghost use Rattle.std.specs.Option.{is_none};
 ghost use Rattle.sorted_rows.specs.Places.{AreApart, IsWritten, tail_size, value_at};
 
 use crate::find::place_of;
-use crate::merge::merge_full;
+use crate::merge::merge_long;
 use std::marker::Brand;
 use std::sync::ledger::Blank;
 
@@ -38,7 +38,7 @@ pub(crate) fn write<K: Ord + Copy, V: Copy>(
 }
 
 /// Writes the value of a key that the main rows lack, and answers whether the tail lacks it too.
-fn write_new<K: Ord + Copy, V: Copy>(
+pub(crate) fn write_new<K: Ord + Copy, V: Copy>(
     main: &mut Vec<(K, V)>,
     tail: &mut Vec<(K, V)>,
     key: K,
@@ -59,7 +59,7 @@ fn write_new<K: Ord + Copy, V: Copy>(
     ensures count { vec_len main.new + vec_len tail.new ≡ vec_len main.old + vec_len tail.old + cond result 1 0 }
 {
     let is_new = put(tail, key, value);
-    merge_full(main, tail);
+    merge_long(main, tail);
     is_new
 }
 

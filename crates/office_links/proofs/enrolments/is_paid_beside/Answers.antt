@@ -13,8 +13,8 @@ returns-then-net_pell-eq0-clause-value g c = λ student own.
     let rows = c.args.places.now.rows in
     let f = c.args.filing.now in
     let e = c.requires.enrolment in
-    let row = row_read h rows f c.args.link.now e c.requires.rows c.look-row.result.0 c.look-row.result.1 c.look-row.ensures.here c.look-row.ensures.own in
-    let pell = pell_read h rows f c.args.link.now e c.look-row.result.1 row in
+    let row = row_read h rows f c.args.link.now e c.requires.rows c.look.result.now.0 c.look.result.now.1 c.look.ensures.here c.look.ensures.own in
+    let pell = pell_read h rows f c.args.link.now e c.look.result.now.1 row in
     not_beside_unpaid (reverse h) rows f c.args.link.now e student own c.args.school c.args.this.now (sym pell ∙ sym c.net_pell.ensures ∙ c.if-net_pell-eq0.true)
 
 -- where some stands, by the term at the position that the link tells
@@ -24,8 +24,8 @@ returns-in-Some-clause-value g c = λ student own.
     let rows = c.args.places.now.rows in
     let f = c.args.filing.now in
     let e = c.requires.enrolment in
-    let row = row_read h rows f c.args.link.now e c.requires.rows c.look-row.result.0 c.look-row.result.1 c.look-row.ensures.here c.look-row.ensures.own in
-    let pell = pell_read h rows f c.args.link.now e c.look-row.result.1 row in
+    let row = row_read h rows f c.args.link.now e c.requires.rows c.look.result.now.0 c.look.result.now.1 c.look.ensures.here c.look.ensures.own in
+    let pell = pell_read h rows f c.args.link.now e c.look.result.now.1 row in
     let some : 0 < pell_term (reverse h) f.key.school e.facts.student e.facts.year e.facts.term = omega (arith, c.net_pell.ensures, c.if-net_pell-eq0.false, pell) in
     c.shares_day.ensures
     ∙ beside_shares (reverse h) rows f c.args.link.now e student own c.args.school c.args.this.now (sym c.if-eq.ensures) some (Some c.in-Some.term)
@@ -37,8 +37,8 @@ returns-in-None-clause-value g c = λ student own.
     let rows = c.args.places.now.rows in
     let f = c.args.filing.now in
     let e = c.requires.enrolment in
-    let row = row_read h rows f c.args.link.now e c.requires.rows c.look-row.result.0 c.look-row.result.1 c.look-row.ensures.here c.look-row.ensures.own in
-    let pell = pell_read h rows f c.args.link.now e c.look-row.result.1 row in
+    let row = row_read h rows f c.args.link.now e c.requires.rows c.look.result.now.0 c.look.result.now.1 c.look.ensures.here c.look.ensures.own in
+    let pell = pell_read h rows f c.args.link.now e c.look.result.now.1 row in
     let some : 0 < pell_term (reverse h) f.key.school e.facts.student e.facts.year e.facts.term = omega (arith, c.net_pell.ensures, c.if-net_pell-eq0.false, pell) in
     beside_shares (reverse h) rows f c.args.link.now e student own c.args.school c.args.this.now (sym c.if-eq.ensures) some None
     (c.in-None.ensures ∙ term_read h rows f c.args.link.now e c.index-filings-link.result)

@@ -13,8 +13,8 @@ payment-bound-requires-clause-credits g c =
     let f = c.args.filing.now in
     let l = c.args.link.now in
     let e = c.requires.enrolment in
-    few_credits h rows f l e c.requires.legal c.look-row.result.1
-    (row_read h rows f l e c.requires.rows c.look-row.result.0 c.look-row.result.1 c.look-row.ensures.here c.look-row.ensures.own)
+    few_credits h rows f l e c.requires.legal c.look.result.now.1
+    (row_read h rows f l e c.requires.rows c.look.result.now.0 c.look.result.now.1 c.look.ensures.here c.look.ensures.own)
 
 -- a term that holds more, and one that doesn't
 pub returns-then-bound-kept-clause-value : goal.returns-then-bound-kept-clause-value
@@ -24,11 +24,11 @@ returns-then-bound-kept-clause-value g c = λ student own.
     let f = c.args.filing.now in
     let l = c.args.link.now in
     let e = c.requires.enrolment in
-    let row = row_read h rows f l e c.requires.rows c.look-row.result.0 c.look-row.result.1 c.look-row.ensures.here c.look-row.ensures.own in
+    let row = row_read h rows f l e c.requires.rows c.look.result.now.0 c.look.result.now.1 c.look.ensures.here c.look.ensures.own in
     over_some (reverse h) rows f l e student own c.args.award c.args.year c.school.inside.0 c.in-Enrol.enrolment.term c.net_pell-kept.result c.payment-bound.result
     (of_year (reverse h) rows f l e student own c.in-Enrol.enrolment c.in-Enrol.is c.args.year c.if-ne.ensures)
-    (c.net_pell-kept.ensures ∙ pell_read h rows f l e c.look-row.result.1 row)
-    (c.payment-bound.ensures ∙ payment_read h rows f l e c.look-row.result.1 row _ (school_read h rows f l e c.index-filings-link.result) c.args.award)
+    (c.net_pell-kept.ensures ∙ pell_read h rows f l e c.look.result.now.1 row)
+    (c.payment-bound.ensures ∙ payment_read h rows f l e c.look.result.now.1 row _ (school_read h rows f l e c.index-filings-link.result) c.args.award)
     c.if-bound-kept.true c.school.view_is
     (sym (ap (λ (x : EnrolFacts). x.term) (own_facts (reverse h) rows f l e student own c.in-Enrol.enrolment c.in-Enrol.is)))
 
@@ -39,9 +39,9 @@ returns-else-bound-kept-clause-value g c = λ student own.
     let f = c.args.filing.now in
     let l = c.args.link.now in
     let e = c.requires.enrolment in
-    let row = row_read h rows f l e c.requires.rows c.look-row.result.0 c.look-row.result.1 c.look-row.ensures.here c.look-row.ensures.own in
+    let row = row_read h rows f l e c.requires.rows c.look.result.now.0 c.look.result.now.1 c.look.ensures.here c.look.ensures.own in
     over_none (reverse h) rows f l e student own c.args.award c.args.year c.net_pell-kept.result c.payment-bound.result
     (of_year (reverse h) rows f l e student own c.in-Enrol.enrolment c.in-Enrol.is c.args.year c.if-ne.ensures)
-    (c.net_pell-kept.ensures ∙ pell_read h rows f l e c.look-row.result.1 row)
-    (c.payment-bound.ensures ∙ payment_read h rows f l e c.look-row.result.1 row _ (school_read h rows f l e c.index-filings-link.result) c.args.award)
+    (c.net_pell-kept.ensures ∙ pell_read h rows f l e c.look.result.now.1 row)
+    (c.payment-bound.ensures ∙ payment_read h rows f l e c.look.result.now.1 row _ (school_read h rows f l e c.index-filings-link.result) c.args.award)
     c.if-bound-kept.false

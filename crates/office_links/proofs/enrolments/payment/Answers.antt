@@ -1,7 +1,7 @@
 use Rattle.std.proofs.Common.{ℕ, ◌*◌, sym, ap, ◌∙◌, Option}
 use Rattle.aid_filings.specs.declared.filing.SchoolFacts.{SchoolFacts}
 use Rattle.enrolment.specs.Terms.{intensity_of, payment_of}
-use Rattle.office_history.specs.FactsOf.{full_of, terms_of}
+use Rattle.office_history.specs.Positions.{full_of, terms_of}
 use Rattle.office_history.proofs.Numbers.{no_terms}
 use Rattle.office_links.specs.Enrolments.{school_told}
 use Rattle.office_links.proofs.EnrolmentsRows.{no_school}
