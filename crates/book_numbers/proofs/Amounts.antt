@@ -7,8 +7,7 @@ use Rattle.std.specs.Ordering.{int_eq}
 use Rattle.std.proofs.lemmas.Bool.Decides.{Decides-int_eq}
 use Rattle.aid_types.specs.Ranges.{EachIsAmount, is_amount}
 use Rattle.book_numbers.proofs.Plain.{behind_plain, is_plain}
-use Rattle.book_numbers.specs.Sections.{AreAmounts, IsNext, are_amounts}
-use Rattle.filing_kinds.specs.Kinds.{poverty_slots, protection_slots}
+use Rattle.book_numbers.specs.Sections.{AreAmounts, IsNext, are_amounts, poverty_slots, protection_slots}
 use Rattle.filing_kinds.specs.Layout.{AreNumbers}
 use Rattle.filing_kinds.specs.Limits.{fits}
 use Rattle.filing_kinds.specs.Parts.{Slot}

@@ -8,10 +8,10 @@ use Rattle.std.proofs.lemmas.List.{length-append, length-map, length-take-le}
 use Rattle.book_numbers.proofs.Plain.{behind_plain, is_plain, is_within}
 use Rattle.book_numbers.proofs.RowsOf.{IsAge, IsBrackets, IsBusiness, age_rows, brackets_rows, business_rows}
 use Rattle.book_numbers.specs.Book.{age_numbers, age_row, bracket_numbers, bracket_row}
-use Rattle.book_numbers.specs.Sections.{AreLast, AreLeft, IsNext}
+use Rattle.book_numbers.specs.Sections.{AreLast, AreLeft, IsNext, age_slots, bracket_slots, business_slots}
 use Rattle.aid_books.specs.declared.ages.AgeRow.{AgeRow}
 use Rattle.aid_books.specs.declared.marginal.Bracket.{Bracket}
-use Rattle.filing_kinds.specs.Kinds.{age_slots, bracket_slots, business_slots, one}
+use Rattle.filing_kinds.specs.Kinds.{one}
 use Rattle.filing_kinds.specs.declared.field.Form.TheVariants.{Count}
 use Rattle.filing_kinds.specs.Layout.{AreNumbers, plain, rows, rows_again}
 use Rattle.filing_kinds.specs.Limits.{fits}

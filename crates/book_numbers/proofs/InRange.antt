@@ -30,8 +30,8 @@ use Rattle.book_numbers.proofs.Chain.{after_age, after_assets, after_business, a
 use Rattle.book_numbers.proofs.Plain.{empty_lines, is_plain}
 use Rattle.book_numbers.proofs.RowsOf.{age_lines, bracket_lines}
 use Rattle.book_numbers.specs.Book.{age_numbers, age_row, asset_numbers, bracket_numbers, bracket_row, employment_numbers, numbers_of, payroll_numbers, pell_numbers, percent_numbers, poverty_numbers, protection_numbers, schedule_numbers, size_numbers}
-use Rattle.book_numbers.specs.Sections.{start_slots}
-use Rattle.filing_kinds.specs.Kinds.{age_slots, asset_slots, book_slots, bracket_slots, business_slots, employment_slots, payroll_slots, pell_slots, percent_slots, poverty_slots, protection_slots, schedule_slots}
+use Rattle.book_numbers.specs.Sections.{age_slots, asset_slots, bracket_slots, business_slots, employment_slots, payroll_slots, pell_slots, percent_slots, poverty_slots, protection_slots, schedule_slots, start_slots}
+use Rattle.filing_kinds.specs.Kinds.{book_slots}
 use Rattle.filing_kinds.specs.declared.field.Limit.{Limit}
 use Rattle.filing_kinds.specs.Layout.{AreNumbers, rows, rows_again}
 use Rattle.filing_kinds.specs.Limits.{before, fits, is_between}
@@ -47,11 +47,11 @@ tail : {X : Type 0} (P : X → Type 0) (x : X) (xs : List X) → All P (x ∷ xs
 tail P x xs h = λ k d l. h (suc k) d (omega (arith, l))
 
 -- rows of a table, each after the one before it
-later_brackets : (a b c : List ℕ) (slots : List Slot) (zs : List ℤ) (row : Bracket) (rows : List Bracket) (earlier : List ℤ) → All IsBracket rows → goes_on row rows ≡ true
+later_brackets : (name : List ℕ) (slots : List Slot) (zs : List ℤ) (row : Bracket) (rows : List Bracket) (earlier : List ℤ) → All IsBracket rows → goes_on row rows ≡ true
     → AreNumbers slots (onto (flat_map bracket_row rows) (row.rate ∷ row.base ∷ row.over ∷ earlier)) zs
-    → AreNumbers (rows_again (length rows) (bracket_lines a b c) ++ slots) (row.rate ∷ row.base ∷ row.over ∷ earlier) (flat_map bracket_row rows ++ zs)
-later_brackets a b c slots zs row [] earlier h g n = n
-later_brackets a b c slots zs row (next ∷ rows) earlier h g n =
+    → AreNumbers (rows_again (length rows) (bracket_lines name) ++ slots) (row.rate ∷ row.base ∷ row.over ∷ earlier) (flat_map bracket_row rows ++ zs)
+later_brackets name slots zs row [] earlier h g n = n
+later_brackets name slots zs row (next ∷ rows) earlier h g n =
     let first = head IsBracket next rows h in
     let parts = and_parts (int_lt row.over next.over && int_eq next.base (row_value row next.over)) (goes_on next rows) g in
     let both = and_parts (int_lt row.over next.over) (int_eq next.base (row_value row next.over)) parts.0 in (
@@ -60,16 +60,16 @@ later_brackets a b c slots zs row (next ∷ rows) earlier h g n =
         and_from (int_eq next.base (row_value row next.over)) (is_between (pos 0) (pos 99999999) next.base) both.1 (between (pos 0) (pos 99999999) next.base first.base),
         (
           between (pos 0) (pos 10000) next.rate first.rate,
-          later_brackets a b c slots zs next rows (row.rate ∷ row.base ∷ row.over ∷ earlier) (tail IsBracket next rows h) parts.1 n,
+          later_brackets name slots zs next rows (row.rate ∷ row.base ∷ row.over ∷ earlier) (tail IsBracket next rows h) parts.1 n,
         ),
       ),
     )
 
-later_ages : (a b c : List ℕ) (slots : List Slot) (zs : List ℤ) (row : AgeRow) (rows : List AgeRow) (earlier : List ℤ) → All IsAgeRow rows → rises_from row rows ≡ true
+later_ages : (slots : List Slot) (zs : List ℤ) (row : AgeRow) (rows : List AgeRow) (earlier : List ℤ) → All IsAgeRow rows → rises_from row rows ≡ true
     → AreNumbers slots (onto (flat_map age_row rows) (row.married ∷ row.single ∷ row.start ∷ earlier)) zs
-    → AreNumbers (rows_again (length rows) (age_lines a b c) ++ slots) (row.married ∷ row.single ∷ row.start ∷ earlier) (flat_map age_row rows ++ zs)
-later_ages a b c slots zs row [] earlier h g n = n
-later_ages a b c slots zs row (next ∷ rows) earlier h g n =
+    → AreNumbers (rows_again (length rows) age_lines ++ slots) (row.married ∷ row.single ∷ row.start ∷ earlier) (flat_map age_row rows ++ zs)
+later_ages slots zs row [] earlier h g n = n
+later_ages slots zs row (next ∷ rows) earlier h g n =
     let first = head IsAgeRow next rows h in
     let parts = and_parts (int_lt row.start next.start) (rises_from next rows) g in (
       and_from (int_lt row.start next.start) (int_le next.start (pos 120)) parts.0 (int_le-true next.start (pos 120) first.start.1),
@@ -77,7 +77,7 @@ later_ages a b c slots zs row (next ∷ rows) earlier h g n =
         between (pos 0) (pos 99999999) next.single first.single,
         (
           between (pos 0) (pos 99999999) next.married first.married,
-          later_ages a b c slots zs next rows (row.married ∷ row.single ∷ row.start ∷ earlier) (tail IsAgeRow next rows h) parts.1 n,
+          later_ages slots zs next rows (row.married ∷ row.single ∷ row.start ∷ earlier) (tail IsAgeRow next rows h) parts.1 n,
         ),
       ),
     )
@@ -100,7 +100,7 @@ business_put (row ∷ rows) slots earlier zs few h m over base n = (
       zero_between row.base base,
       (
         between (pos 0) (pos 10000) row.rate (head IsBracket row rows h).rate,
-        later_brackets (codes "business.over") (codes "business.base") (codes "business.rate") slots zs row rows (pos (suc (length rows)) ∷ earlier) (tail IsBracket row rows h) m n,
+        later_brackets (codes "business") slots zs row rows (pos (suc (length rows)) ∷ earlier) (tail IsBracket row rows h) m n,
       ),
     ),
   ),
@@ -119,7 +119,7 @@ age_put (row ∷ rows) slots earlier zs few h m start n =
           between (pos 0) (pos 99999999) row.single first.single,
           (
             between (pos 0) (pos 99999999) row.married first.married,
-            later_ages (codes "age.from") (codes "age.single") (codes "age.married") slots zs row rows (pos (suc (length rows)) ∷ earlier) (tail IsAgeRow row rows h) m n,
+            later_ages slots zs row rows (pos (suc (length rows)) ∷ earlier) (tail IsAgeRow row rows h) m n,
           ),
         ),
       ),
@@ -143,7 +143,7 @@ bracket_put (row ∷ rows) slots earlier zs few h m base n =
           same_base row.base (share row.over (before earlier 2)) base first.base,
           (
             between (pos 0) (pos 10000) row.rate first.rate,
-            later_brackets (codes "bracket.over") (codes "bracket.base") (codes "bracket.rate") slots zs row rows (pos (suc (length rows)) ∷ earlier) (tail IsBracket row rows h) m n,
+            later_brackets (codes "bracket") slots zs row rows (pos (suc (length rows)) ∷ earlier) (tail IsBracket row rows h) m n,
           ),
         ),
       ),

@@ -1,5 +1,5 @@
 -- Numbers of fields that count nothing.
-use Rattle.std.proofs.Common.{◌≡◌, ℕ, zero, suc, ◌<◌, ℤ, pos, int_le, Bool, true, false, List, [], ◌∷◌, ◌++◌, length, unsigned_abs, Some, refl, subst, arith}
+use Rattle.std.proofs.Common.{◌≡◌, ℕ, zero, suc, ◌<◌, ◌≤◌, ℤ, pos, int_le, Bool, true, false, List, [], ◌∷◌, ◌++◌, length, unsigned_abs, Some, refl, subst, arith}
 use Rattle.std.specs.Prelude.{⊤, slice_get, slice_index_or}
 use Rattle.std.specs.List.{list_all}
 use Rattle.std.proofs.lemmas.Bool.{and_parts}
@@ -64,3 +64,31 @@ pub each_of : (slots : List Slot) (zs xs ys : List ℤ) → list_all is_plain sl
     → (k : ℕ) (slot : Slot) → k < length xs → slice_get slots k ≡ Some slot → IsUpTo slot.line.limit (slice_index_or xs k (pos 0))
 each_of slots zs xs ys h next e k slot l f =
     number_of slots next.later next.earlier xs ys h (subst (λ (l : List ℤ). AreNumbers (slots ++ next.later) next.earlier l) e next.numbers) k slot l f
+
+-- numbers of so many fields are at least as many
+as_many : (slots later : List Slot) (earlier zs : List ℤ) → list_all is_plain slots ≡ true → AreNumbers (slots ++ later) earlier zs → length slots ≤ length zs
+as_many [] later earlier zs h n = omega arith
+as_many (slot ∷ slots) later earlier [] h n = absurd n
+as_many (slot ∷ slots) later earlier (z ∷ zs) h n =
+    let both = and_parts (is_plain slot) (list_all is_plain slots) h in
+    omega (arith, as_many slots later (z ∷ earlier) zs both.1 (behind_plain slot (slots ++ later) earlier zs z both.0 n))
+
+pub enough : (n : ℕ) (slots : List Slot) (zs : List ℤ) → list_all is_plain slots ≡ true → length slots ≡ n → IsNext slots zs → n ≤ length zs
+enough n slots zs h count next = subst (λ (m : ℕ). m ≤ length zs) count (as_many slots next.later next.earlier zs h next.numbers)
+
+-- so many numbers of an array, one by one
+pub four_first : (xs ys : List ℤ) → length xs ≡ 4 → xs ++ ys ≡ slice_index_or xs 0 (pos 0) ∷ slice_index_or xs 1 (pos 0) ∷ slice_index_or xs 2 (pos 0) ∷ slice_index_or xs 3 (pos 0) ∷ ys
+four_first (a ∷ b ∷ c ∷ d ∷ []) ys count = refl
+four_first xs ys count = absurd (omega arith)
+
+pub five_first : (xs ys : List ℤ) → length xs ≡ 5 → xs ++ ys ≡ slice_index_or xs 0 (pos 0) ∷ slice_index_or xs 1 (pos 0) ∷ slice_index_or xs 2 (pos 0) ∷ slice_index_or xs 3 (pos 0) ∷ slice_index_or xs 4 (pos 0) ∷ ys
+five_first (a ∷ b ∷ c ∷ d ∷ e ∷ []) ys count = refl
+five_first xs ys count = absurd (omega arith)
+
+pub six_first : (xs ys : List ℤ) → length xs ≡ 6 → xs ++ ys ≡ slice_index_or xs 0 (pos 0) ∷ slice_index_or xs 1 (pos 0) ∷ slice_index_or xs 2 (pos 0) ∷ slice_index_or xs 3 (pos 0) ∷ slice_index_or xs 4 (pos 0) ∷ slice_index_or xs 5 (pos 0) ∷ ys
+six_first (a ∷ b ∷ c ∷ d ∷ e ∷ f ∷ []) ys count = refl
+six_first xs ys count = absurd (omega arith)
+
+pub seven_first : (xs ys : List ℤ) → length xs ≡ 7 → xs ++ ys ≡ slice_index_or xs 0 (pos 0) ∷ slice_index_or xs 1 (pos 0) ∷ slice_index_or xs 2 (pos 0) ∷ slice_index_or xs 3 (pos 0) ∷ slice_index_or xs 4 (pos 0) ∷ slice_index_or xs 5 (pos 0) ∷ slice_index_or xs 6 (pos 0) ∷ ys
+seven_first (a ∷ b ∷ c ∷ d ∷ e ∷ f ∷ g ∷ []) ys count = refl
+seven_first xs ys count = absurd (omega arith)

@@ -14,11 +14,11 @@ use Rattle.aid_books.specs.declared.ages.AgeRow.{AgeRow}
 use Rattle.aid_books.specs.declared.marginal.Bracket.{Bracket}
 use Rattle.book_numbers.proofs.Plain.{is_within}
 use Rattle.book_numbers.specs.Book.{age_numbers, age_row, bracket_numbers, bracket_row}
-use Rattle.filing_kinds.specs.Kinds.{age_slots, amount, bracket_slots, business_slots, line, rate}
+use Rattle.book_numbers.specs.Sections.{age_slots, bracket_slots, business_slots}
+use Rattle.filing_kinds.specs.Kinds.{age_columns, amount_columns}
 use Rattle.filing_kinds.specs.Layout.{AreNumbers, rows, rows_again}
 use Rattle.filing_kinds.specs.Limits.{before, is_between}
 use Rattle.filing_kinds.specs.Parts.{Line, Slot}
-use Rattle.filing_kinds.specs.declared.field.Form.TheVariants.{I64}
 use Rattle.filing_kinds.specs.declared.field.Limit.TheVariants.{AboveRow, Continues}
 
 all_none : {X : Type 0} (P : X → Type 0) → All P []
@@ -29,25 +29,25 @@ all_cons P x xs first others zero d h = first
 all_cons P x xs first others (suc k) d h = others k d (omega (arith, h))
 
 -- the fields of each later row of a table by amount, and of the one by age
-abbrev pub bracket_lines : List ℕ → List ℕ → List ℕ → List Line
-bracket_lines a b c = line a I64 (AboveRow (pos 99999999)) ∷ line b I64 (Continues (pos 99999999)) ∷ rate c ∷ []
+abbrev pub bracket_lines : List ℕ → List Line
+bracket_lines name = amount_columns name (AboveRow (pos 99999999)) (Continues (pos 99999999))
 
-abbrev pub age_lines : List ℕ → List ℕ → List ℕ → List Line
-age_lines a b c = line a I64 (AboveRow (pos 120)) ∷ amount b ∷ amount c ∷ []
+abbrev pub age_lines : List Line
+age_lines = age_columns (AboveRow (pos 120))
 
 record AreLater (row : Bracket) (rows : List Bracket) : Type 0 where
   pub in_range : All IsBracket rows
   pub goes_on : goes_on row rows ≡ true
 
-later_brackets : (a b c : List ℕ) (slots : List Slot) (zs : List ℤ) (row : Bracket) (rows : List Bracket) (earlier : List ℤ) → pos 0 ≤ℤ row.over
-    → AreNumbers (rows_again (length rows) (bracket_lines a b c) ++ slots) (row.rate ∷ row.base ∷ row.over ∷ earlier) (flat_map bracket_row rows ++ zs) → AreLater row rows
-later_brackets a b c slots zs row [] earlier low h = record { in_range = all_none IsBracket; goes_on = refl }
-later_brackets a b c slots zs row (next ∷ rows) earlier low h =
+later_brackets : (name : List ℕ) (slots : List Slot) (zs : List ℤ) (row : Bracket) (rows : List Bracket) (earlier : List ℤ) → pos 0 ≤ℤ row.over
+    → AreNumbers (rows_again (length rows) (bracket_lines name) ++ slots) (row.rate ∷ row.base ∷ row.over ∷ earlier) (flat_map bracket_row rows ++ zs) → AreLater row rows
+later_brackets name slots zs row [] earlier low h = record { in_range = all_none IsBracket; goes_on = refl }
+later_brackets name slots zs row (next ∷ rows) earlier low h =
     let above = and_parts (int_lt row.over next.over) (int_le next.over (pos 99999999)) h.0 in
     let continues = and_parts (int_eq next.base (row_value row next.over)) (is_between (pos 0) (pos 99999999) next.base) h.1.0 in
     let least : pos 0 ≤ℤ next.over = omega (arith, ints, above.0) in
     let greatest : next.over ≤ℤ pos 99999999 = omega (arith, ints, above.1) in
-    let rest = later_brackets a b c slots zs next rows (row.rate ∷ row.base ∷ row.over ∷ earlier) least h.1.1.1 in
+    let rest = later_brackets name slots zs next rows (row.rate ∷ row.base ∷ row.over ∷ earlier) least h.1.1.1 in
     record {
       in_range = all_cons IsBracket next rows (record { over = (least, greatest); base = is_within (pos 0) (pos 99999999) next.base continues.1; rate = is_within (pos 0) (pos 10000) next.rate h.1.1.0 }) rest.in_range;
       goes_on = and_from (int_lt row.over next.over && int_eq next.base (row_value row next.over)) (goes_on next rows)
@@ -58,14 +58,14 @@ record AreOlder (row : AgeRow) (rows : List AgeRow) : Type 0 where
   pub in_range : All IsAgeRow rows
   pub rises : rises_from row rows ≡ true
 
-later_ages : (a b c : List ℕ) (slots : List Slot) (zs : List ℤ) (row : AgeRow) (rows : List AgeRow) (earlier : List ℤ) → pos 0 ≤ℤ row.start
-    → AreNumbers (rows_again (length rows) (age_lines a b c) ++ slots) (row.married ∷ row.single ∷ row.start ∷ earlier) (flat_map age_row rows ++ zs) → AreOlder row rows
-later_ages a b c slots zs row [] earlier low h = record { in_range = all_none IsAgeRow; rises = refl }
-later_ages a b c slots zs row (next ∷ rows) earlier low h =
+later_ages : (slots : List Slot) (zs : List ℤ) (row : AgeRow) (rows : List AgeRow) (earlier : List ℤ) → pos 0 ≤ℤ row.start
+    → AreNumbers (rows_again (length rows) age_lines ++ slots) (row.married ∷ row.single ∷ row.start ∷ earlier) (flat_map age_row rows ++ zs) → AreOlder row rows
+later_ages slots zs row [] earlier low h = record { in_range = all_none IsAgeRow; rises = refl }
+later_ages slots zs row (next ∷ rows) earlier low h =
     let above = and_parts (int_lt row.start next.start) (int_le next.start (pos 120)) h.0 in
     let least : pos 0 ≤ℤ next.start = omega (arith, ints, above.0) in
     let greatest : next.start ≤ℤ pos 120 = omega (arith, ints, above.1) in
-    let rest = later_ages a b c slots zs next rows (row.married ∷ row.single ∷ row.start ∷ earlier) least h.1.1.1 in
+    let rest = later_ages slots zs next rows (row.married ∷ row.single ∷ row.start ∷ earlier) least h.1.1.1 in
     record {
       in_range = all_cons IsAgeRow next rows (record { start = (least, greatest); single = is_within (pos 0) (pos 99999999) next.single h.1.0; married = is_within (pos 0) (pos 99999999) next.married h.1.1.0 }) rest.in_range;
       rises = and_from (int_lt row.start next.start) (rises_from next rows) above.0 rest.rises;
@@ -87,7 +87,7 @@ business_rows slots earlier zs (row ∷ rows) h =
     let over = is_within (pos 0) (pos 0) row.over h.1.0 in
     let base = is_within (pos 0) (pos 0) row.base h.1.1.0 in
     let least : pos 0 ≤ℤ row.over = over.0 in
-    let later = later_brackets (codes "business.over") (codes "business.base") (codes "business.rate") slots zs row rows (pos (suc (length rows)) ∷ earlier) least h.1.1.1.1 in
+    let later = later_brackets (codes "business") slots zs row rows (pos (suc (length rows)) ∷ earlier) least h.1.1.1.1 in
     record {
       in_range = all_cons IsBracket row rows (record { over = (omega (arith, ints, over.0), omega (arith, ints, over.1)); base = (omega (arith, ints, base.0), omega (arith, ints, base.1)); rate = is_within (pos 0) (pos 10000) row.rate h.1.1.1.0 }) later.in_range;
       marginal = later.goes_on;
@@ -106,7 +106,7 @@ age_rows slots earlier zs [] h = absurd (omega (arith, ints, (is_within (pos 1) 
 age_rows slots earlier zs (row ∷ rows) h =
     let start = is_within (pos 0) (pos 0) row.start h.1.0 in
     let least : pos 0 ≤ℤ row.start = start.0 in
-    let later = later_ages (codes "age.from") (codes "age.single") (codes "age.married") slots zs row rows (pos (suc (length rows)) ∷ earlier) least h.1.1.1.1 in
+    let later = later_ages slots zs row rows (pos (suc (length rows)) ∷ earlier) least h.1.1.1.1 in
     record {
       in_range = all_cons IsAgeRow row rows (record { start = (omega (arith, ints, start.0), omega (arith, ints, start.1)); single = is_within (pos 0) (pos 99999999) row.single h.1.1.0; married = is_within (pos 0) (pos 99999999) row.married h.1.1.1.0 }) later.in_range;
       by_age = later.rises;
@@ -125,7 +125,7 @@ brackets_rows slots earlier zs (row ∷ rows) h =
     let over = is_within (pos 0) (pos 99999999) row.over h.1.0 in
     let begins = and_parts (int_eq row.base (share row.over (before earlier 2))) (is_between (pos 0) (pos 99999999) row.base) h.1.1.0 in
     let least : pos 0 ≤ℤ row.over = over.0 in
-    let later = later_brackets (codes "bracket.over") (codes "bracket.base") (codes "bracket.rate") slots zs row rows (pos (suc (length rows)) ∷ earlier) least h.1.1.1.1 in
+    let later = later_brackets (codes "bracket") slots zs row rows (pos (suc (length rows)) ∷ earlier) least h.1.1.1.1 in
     record {
       in_range = all_cons IsBracket row rows (record { over = over; base = is_within (pos 0) (pos 99999999) row.base begins.1; rate = is_within (pos 0) (pos 10000) row.rate h.1.1.1.0 }) later.in_range;
       marginal = later.goes_on;

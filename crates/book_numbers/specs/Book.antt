@@ -21,8 +21,7 @@ pell_numbers x = x.maximum ∷ x.minimum ∷ []
 
 abbrev pub percent_numbers : Percents → List ℤ
 percent_numbers x =
-    x.maximum_single ∷ x.maximum_other ∷ x.minimum_dependent_single ∷ x.minimum_dependent_other ∷ x.minimum_single_parent ∷ x.minimum_parent
-    ∷ x.minimum_no_dependents ∷ []
+    x.maximum_single ∷ x.maximum_other ∷ x.minimum_dependent_single ∷ x.minimum_dependent_other ∷ x.minimum_single_parent ∷ x.minimum_parent ∷ x.minimum_no_dependents ∷ []
 
 -- amounts by size of family
 abbrev pub size_numbers : {first count : ℕ} → BySize first count → List ℤ
@@ -36,8 +35,7 @@ payroll_numbers x = x.oasdi_cap ∷ x.oasdi_rate ∷ x.medicare_rate ∷ x.medic
 
 abbrev pub protection_numbers : Protection → List ℤ
 protection_numbers x =
-    size_numbers x.parents ++ (x.dependent_student ∷ x.single_student ∷ x.married_student
-    ∷ (size_numbers x.single_parent ++ size_numbers x.married_parent))
+    size_numbers x.parents ++ (x.dependent_student ∷ x.single_student ∷ x.married_student ∷ (size_numbers x.single_parent ++ size_numbers x.married_parent))
 
 abbrev pub employment_numbers : Employment → List ℤ
 employment_numbers x = x.cap ∷ x.rate ∷ []

@@ -1,11 +1,47 @@
 -- What is known of numbers of which a part is read next.
-use Rattle.std.specs.Prelude.{ℕ, zero, suc, ℤ, pos, codes, Bool, true, false, ◌&&◌, List, [], ◌∷◌, ◌++◌, ◌≡◌, IsTrue}
+use Rattle.std.specs.Prelude.{ℕ, zero, suc, ℤ, Bool, true, false, ◌&&◌, List, [], ◌∷◌, ◌++◌, drop, take, ◌≡◌, IsTrue}
 use Rattle.aid_types.specs.Ranges.{is_amount}
-use Rattle.filing_kinds.specs.Kinds.{bracket_slots, one}
+use Rattle.filing_kinds.specs.Kinds.{book_slots}
 use Rattle.filing_kinds.specs.Layout.{AreNumbers}
 use Rattle.filing_kinds.specs.Limits.{before}
 use Rattle.filing_kinds.specs.Parts.{Slot}
-use Rattle.filing_kinds.specs.declared.field.Form.TheVariants.{I64}
+
+-- the fields of each part of a book, the first of which are its form and its year
+abbrev pub start_slots : List Slot
+start_slots = take 2 book_slots
+
+abbrev pub pell_slots : List Slot
+pell_slots = take 2 (drop 2 book_slots)
+
+abbrev pub percent_slots : List Slot
+percent_slots = take 7 (drop 4 book_slots)
+
+abbrev pub poverty_slots : List Slot
+poverty_slots = take 27 (drop 11 book_slots)
+
+abbrev pub payroll_slots : List Slot
+payroll_slots = take 6 (drop 38 book_slots)
+
+abbrev pub protection_slots : List Slot
+protection_slots = take 21 (drop 44 book_slots)
+
+abbrev pub employment_slots : List Slot
+employment_slots = take 2 (drop 65 book_slots)
+
+abbrev pub asset_slots : List Slot
+asset_slots = take 4 (drop 67 book_slots)
+
+abbrev pub business_slots : List Slot
+business_slots = take 1 (drop 71 book_slots)
+
+abbrev pub age_slots : List Slot
+age_slots = take 1 (drop 72 book_slots)
+
+abbrev pub schedule_slots : List Slot
+schedule_slots = take 5 (drop 73 book_slots)
+
+abbrev pub bracket_slots : List Slot
+bracket_slots = drop 78 book_slots
 
 -- they begin with numbers for these fields, after some others, and are numbers for what comes later too
 pub record IsNext (slots : List Slot) (zs : List ℤ) : Type 0 where
@@ -26,10 +62,6 @@ AreAmounts n zs = IsTrue (are_amounts n zs)
 pub record AreLeft (slots : List Slot) (zs : List ℤ) : Type 0 where
   pub earlier : List ℤ
   pub numbers : AreNumbers slots earlier zs
-
--- the fields with which a book begins, its form and its year
-abbrev pub start_slots : List Slot
-start_slots = one (codes "form") I64 (pos 1) (pos 1) ∷ one (codes "year") I64 (pos 2000) (pos 2099) ∷ []
 
 -- they are the numbers of `bracket`, the last table of a book, whose schedule has this first rate
 pub record AreLast (first_rate : ℤ) (zs : List ℤ) : Type 0 where

@@ -2,8 +2,7 @@
 ghost use Rattle.std.specs.Prelude.{◌≡◌, ◌+◌, ◌∷◌, [], ◌++◌, length, pos};
 ghost use Rattle.aid_types.specs.Ranges.{EachIsAmount};
 ghost use Rattle.book_numbers.specs.Book.{asset_numbers, employment_numbers, payroll_numbers, pell_numbers, percent_numbers, poverty_numbers, protection_numbers, schedule_numbers, size_numbers};
-ghost use Rattle.book_numbers.specs.Sections.{AreAmounts, IsNext, start_slots};
-ghost use Rattle.filing_kinds.specs.Kinds.{asset_slots, employment_slots, payroll_slots, pell_slots, percent_slots, poverty_slots, protection_slots, schedule_slots};
+ghost use Rattle.book_numbers.specs.Sections.{AreAmounts, IsNext, asset_slots, employment_slots, payroll_slots, pell_slots, percent_slots, poverty_slots, protection_slots, schedule_slots, start_slots};
 
 use crate::section::Section;
 use aid_books::{

@@ -2,8 +2,7 @@
 ghost use Rattle.std.specs.Prelude.{◌≡◌, ◌≤◌, ◌*◌, ◌∷◌, ◌++◌, ℕ, ℤ, List, Some, flat_map, length, option_map, pos, slice_get, take};
 ghost use Rattle.aid_num.specs.Nearest.{share};
 ghost use Rattle.book_numbers.specs.Book.{age_numbers, age_row as age_row_numbers, bracket_numbers, bracket_row as bracket_row_numbers};
-ghost use Rattle.book_numbers.specs.Sections.{AreLast, IsNext};
-ghost use Rattle.filing_kinds.specs.Kinds.{age_slots, business_slots};
+ghost use Rattle.book_numbers.specs.Sections.{AreLast, IsNext, age_slots, business_slots};
 
 use crate::section::Section;
 use aid_books::{AgeRow, Ages, Bracket, Brackets};

@@ -1,7 +1,9 @@
 -- Numbers that are read one after the other.
 use Rattle.std.proofs.Common.{◌≡◌, ℕ, zero, suc, ◌+◌, ◌<◌, ℤ, List, [], ◌∷◌, length, drop, true, false, refl, sym, ap, subst, ◌∙◌, arith}
 use Rattle.std.specs.Prelude.{Result, Ok, Err, reverse}
+use Rattle.std.specs.Result.{result_map_both}
 use Rattle.std.proofs.lemmas.List.{length-reverse}
+use Rattle.aid_num.specs.declared.text.Malformed.{Malformed}
 use Rattle.csv.specs.Records.{field_at}
 use Rattle.filing_kinds.specs.Draft.{Progress, accepts, onward}
 use Rattle.filing_kinds.specs.Forms.{most_numbers}
@@ -11,7 +13,8 @@ use Rattle.filing_kinds.specs.declared.field.Form.{Form}
 use Rattle.filing_kinds.proofs.WalkLaws.{IsNext, none_found, numbers_with, past_limit, put_next}
 use Rattle.desk_forms.specs.declared.error.Cause.TheVariants.{Range}
 use Rattle.desk_forms.specs.declared.error.RowError.{RowError}
-use Rattle.desk_forms.specs.Numbers.{first_number, number_spelled, refused, row_source, with_rest}
+use Rattle.desk_forms.specs.Fields.{number_in}
+use Rattle.desk_forms.specs.Numbers.{cause_of, first_number, number_spelled, refused, row_source}
 
 abbrev Texts : Type 0
 Texts = List (List ℕ)
@@ -19,13 +22,21 @@ Texts = List (List ℕ)
 abbrev found_text : ℤ → Texts → Found Texts
 found_text z texts = record { number = z; rest = texts }
 
+abbrev with_rest : Texts → Result ℤ RowError → Result (Found Texts) RowError
+with_rest texts read = result_map_both (λ z. found_text z texts) (λ e. e) read
+
+rest_of : (row place : ℕ) (texts : Texts) (read : Result ℤ Malformed)
+    → result_map_both (λ z. found_text z texts) (λ e. refused row place (cause_of e)) read ≡ with_rest texts (result_map_both (λ z. z) (λ e. refused row place (cause_of e)) read)
+rest_of row place texts (Ok z) = refl
+rest_of row place texts (Err e) = refl
+
 -- the number of the text at a place, with the texts behind it
 first_number-at : (row place : ℕ) (form : Form) (texts : Texts) (n : ℕ)
     → first_number row place form (drop n texts) ≡ with_rest (drop (suc n) texts) (number_spelled row place form (field_at texts n))
 unfolding field_at
 first_number-at row place form [] zero = refl
 first_number-at row place form [] (suc n) = refl
-first_number-at row place form (t ∷ texts) zero = refl
+first_number-at row place form (t ∷ texts) zero = rest_of row place texts (number_in form t)
 first_number-at row place form (t ∷ texts) (suc n) = first_number-at row place form texts n
 
 -- what is known where the next number is read: so many are before it

@@ -1,6 +1,7 @@
 -- What a row of a kind means, by its parts, and that what rows say tells them.
 use Rattle.std.proofs.Common.{◌≡◌, ℕ, ℤ, List, [], ◌∷◌, drop, true, false, refl, ap, subst, ◌∙◌}
 use Rattle.std.specs.Prelude.{Some, Result, Ok, Err, IfOk, if◌then◌else◌, map}
+use Rattle.std.specs.Result.{result_map_both}
 use Rattle.aid_filings.specs.declared.filing.Filing.{Filing}
 use Rattle.filing_kinds.specs.Kinds.{slots_of_kind}
 use Rattle.filing_kinds.specs.Layout.{AreNumbers}
@@ -11,11 +12,15 @@ use Rattle.filing_numbers.specs.Numbers.{kind_of}
 use Rattle.filing_numbers.proofs.Same.{same_filing}
 use Rattle.desk_forms.specs.Fields.{are_as_many}
 use Rattle.desk_forms.specs.Numbers.{refused, row_source}
-use Rattle.desk_forms.specs.Rows.{has_rows, row_of, row_of_kind, said, with_kind}
+use Rattle.desk_forms.specs.Rows.{has_rows, row_of, row_of_kind, said}
 use Rattle.desk_forms.specs.declared.error.Cause.TheVariants.{UnknownKind, WrongCount}
 use Rattle.desk_forms.specs.declared.error.RowError.{RowError}
 
 -- ---- a row of a kind
+-- numbers with it
+abbrev pub with_kind : Kind → Result (List ℤ) RowError → Result (Kind × List ℤ) RowError
+with_kind kind read = result_map_both (λ zs. (kind, zs)) (λ e. e) read
+
 -- one that has rows
 pub of_kind : (row : ℕ) (texts : List (List ℕ)) (kind : Kind) → has_rows kind ≡ true → row_of row texts (Some kind) ≡ row_of_kind row kind (drop 1 texts)
 of_kind row texts kind h = ap (λ b. if b then row_of_kind row kind (drop 1 texts) else Err (refused row 1 UnknownKind)) h

@@ -1,6 +1,6 @@
 -- A number has one text in each form.
 use Rattle.std.proofs.Common.{◌≡◌, ℕ, ◌-◌, ◌^◌, ℤ, pos, neg_ℤ, List, [], get_or, bytes_eq, refl, sym, ap, ◌∙◌, arith}
-use Rattle.std.specs.Prelude.{Option, Some, None, Result, Ok, Err}
+use Rattle.std.specs.Prelude.{Option, Some, None, ok_or, option_map, Result, Ok, Err}
 use Rattle.std.specs.List.{position}
 use Rattle.std.specs.Result.{result_map_both}
 use Rattle.std.proofs.lemmas.Int.{ints}
@@ -10,13 +10,14 @@ use Rattle.aid_num.proofs.ReadLemmas.{IsCentsReading-cents_up_to, IsWholeReading
 use Rattle.aid_num.specs.Cents.{cents_of, cents_text, cents_up_to}
 use Rattle.aid_num.specs.Whole.{whole_between, whole_of}
 use Rattle.aid_num.specs.declared.text.Malformed.{Malformed}
+use Rattle.aid_num.specs.declared.text.Malformed.TheVariants.{Spelling}
 use Rattle.enrolment.proofs.DayTextLaws.{IsDayReading-day_in, one_text as one_day_text}
 use Rattle.enrolment.specs.DayText.{day_in}
 use Rattle.filing_kinds.specs.Kinds.{words_of_programs}
 use Rattle.filing_kinds.specs.declared.field.Form.{Form}
 use Rattle.filing_kinds.specs.declared.field.Form.TheVariants.{U8, U16, U32, U64, I64, Cents, Day, Flag, Program, Count}
 use Rattle.filing_numbers.specs.Numbers.{day_number}
-use Rattle.desk_forms.specs.Fields.{number_in, place_number}
+use Rattle.desk_forms.specs.Fields.{number_in}
 
 -- the number before it was turned into another
 before : (f : ℕ → ℤ) (r : Result ℕ Malformed) (z : ℤ) → result_map_both f (λ e. e) r ≡ Ok z → (n : ℕ) × (r ≡ Ok n) × (f n ≡ z)
@@ -40,7 +41,7 @@ day_once : (text other : List ℕ) (m n : ℕ) → m ≡ n → day_in text ≡ O
 day_once text other m n same one two =
     one_day_text text other n (((IsDayReading-day_in text).ok n).0 (one ∙ ap Ok same)) (((IsDayReading-day_in other).ok n).0 two)
 
-place_of : (o : Option ℕ) (z : ℤ) → place_number o ≡ Ok z → (n : ℕ) × (o ≡ Some n) × (pos n ≡ z)
+place_of : (o : Option ℕ) (z : ℤ) → ok_or (option_map (λ place. pos place) o) Spelling ≡ Ok z → (n : ℕ) × (o ≡ Some n) × (pos n ≡ z)
 place_of None z h = absurd cc
 place_of (Some n) z h = (n, refl, cc)
 

@@ -1,5 +1,5 @@
 -- The number that a field's text spells, and how many fields a row has. Own format.
-use Rattle.std.specs.Prelude.{ℕ, ◌-◌, ◌*◌, ◌^◌, nat_le, ℤ, pos, neg_ℤ, unsigned_abs, Bool, false, ◌&&◌, ◌==◌, if◌then◌else◌, List, [], ◌∷◌, length, drop, bytes_eq, Option, Some, None, option_map, Result, Ok, Err}
+use Rattle.std.specs.Prelude.{ℕ, ◌-◌, ◌*◌, ◌^◌, nat_le, ℤ, pos, neg_ℤ, unsigned_abs, Bool, false, ◌&&◌, ◌==◌, if◌then◌else◌, List, [], ◌∷◌, length, drop, bytes_eq, Option, Some, None, ok_or, option_map, Result, Ok, Err}
 use Rattle.std.specs.List.{position}
 use Rattle.std.specs.Result.{result_map_both}
 use Rattle.aid_num.specs.Cents.{cents_of, cents_up_to}
@@ -14,18 +14,13 @@ use Rattle.filing_kinds.specs.declared.field.Form.{Form}
 use Rattle.filing_kinds.specs.declared.field.Form.TheVariants.{Cents, Day, Program}
 use Rattle.filing_numbers.specs.Numbers.{day_number}
 
--- a place as a number
-abbrev pub place_number : Option ℕ → Result ℤ Malformed
-place_number None = Err Spelling
-place_number (Some place) = Ok (pos place)
-
 -- The number that a text spells in a form, or why it spells none: dollars with two decimals, up to 999,999.99; a civil day, by
 -- the days since 1970-01-01; a program's word, by its place in the order of returns (34 CFR 668.22(i)); and otherwise a whole
 -- number of 64 bits.
 abbrev pub number_in : Form → List ℕ → Result ℤ Malformed
 number_in Cents text = result_map_both (λ n. pos n) (λ e. e) (cents_up_to 99999999 (cents_of text))
 number_in Day text = result_map_both day_number (λ e. e) (day_in text)
-number_in Program text = place_number (position (λ word. bytes_eq word text) words_of_programs)
+number_in Program text = ok_or (option_map (λ place. pos place) (position (λ word. bytes_eq word text) words_of_programs)) Spelling
 number_in _ text = whole_between (neg_ℤ (pos (2 ^ 63))) (pos (2 ^ 63 - 1)) (whole_of text)
 
 -- ---- how many fields a row has

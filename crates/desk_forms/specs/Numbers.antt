@@ -1,5 +1,6 @@
 -- The numbers of a row's fields, and the first that isn't one.
-use Rattle.std.specs.Prelude.{ℕ, ◌+◌, ℤ, List, [], ◌∷◌, Option, Some, None, Result, Ok, Err}
+use Rattle.std.specs.Prelude.{ℕ, ◌+◌, ℤ, List, [], ◌∷◌, Option, Some, None, Result, Err}
+use Rattle.std.specs.Result.{result_map_both}
 use Rattle.aid_num.specs.declared.text.Malformed.{Malformed}
 use Rattle.aid_num.specs.declared.text.Malformed.TheVariants as malformed
 use Rattle.filing_kinds.specs.Walk.{Found, Source}
@@ -18,19 +19,11 @@ abbrev pub cause_of : Malformed → Cause
 cause_of malformed.Spelling = Spelling
 cause_of malformed.Range = Range
 
--- a number that was read at a place, or why the row is no filing
-abbrev pub number_read : ℕ → ℕ → Result ℤ Malformed → Result ℤ RowError
-number_read row place (Ok z) = Ok z
-number_read row place (Err e) = Err (refused row place (cause_of e))
-
--- the same with the texts behind it
-abbrev pub with_rest : List (List ℕ) → Result ℤ RowError → Result (Found (List (List ℕ))) RowError
-with_rest texts (Ok z) = Ok (record { number = z; rest = texts })
-with_rest texts (Err e) = Err e
-
+-- the number of the first text and the texts behind it, or why the row is no filing
 abbrev pub first_number : ℕ → ℕ → Form → List (List ℕ) → Result (Found (List (List ℕ))) RowError
 first_number row place form [] = Err (refused row 0 WrongCount)
-first_number row place form (text ∷ texts) = with_rest texts (number_read row place (number_in form text))
+first_number row place form (text ∷ texts) =
+    result_map_both (λ z. record { number = z; rest = texts }) (λ e. refused row place (cause_of e)) (number_in form text)
 
 -- The numbers of a row's texts behind the kind's name, which is field 1: the place of a number is 2 more than there are
 -- numbers before it.
@@ -40,4 +33,4 @@ row_source row = record { find = λ before line texts. first_number row (before 
 -- ---- what the code reads first
 abbrev pub number_spelled : ℕ → ℕ → Form → Option (List ℕ) → Result ℤ RowError
 number_spelled row place form None = Err (refused row 0 WrongCount)
-number_spelled row place form (Some text) = number_read row place (number_in form text)
+number_spelled row place form (Some text) = result_map_both (λ z. z) (λ e. refused row place (cause_of e)) (number_in form text)

@@ -1,5 +1,6 @@
 -- The rows of a text, and why a row is no filing. Own format.
 use Rattle.std.specs.Prelude.{ℕ, suc, ℤ, Bool, true, false, List, [], ◌∷◌, drop, if◌then◌else◌, Option, Some, None, option_and_then, Result, Ok, Err}
+use Rattle.std.specs.Result.{result_map_both}
 use Rattle.csv.specs.Reading.{default_config, records, strip_bom}
 use Rattle.csv.specs.Records.{field_at}
 use Rattle.aid_filings.specs.declared.filing.Filing.{Filing}
@@ -18,15 +19,10 @@ abbrev pub has_rows : Kind → Bool
 has_rows Book = false
 has_rows _ = true
 
--- numbers with their kind
-abbrev pub with_kind : Kind → Result (List ℤ) RowError → Result (Kind × List ℤ) RowError
-with_kind kind (Ok zs) = Ok (kind, zs)
-with_kind kind (Err e) = Err e
-
 -- the texts behind a kind's name: a wrong number of them is told before any bad field, and then the first bad field counts
 unfoldable pub row_of_kind : ℕ → Kind → List (List ℕ) → Result (Kind × List ℤ) RowError
 row_of_kind row kind texts =
-    if are_as_many (slots_of_kind kind) texts then with_kind kind (numbers_of_kind (row_source row) kind texts) else Err (refused row 0 WrongCount)
+    if are_as_many (slots_of_kind kind) texts then result_map_both (λ zs. (kind, zs)) (λ e. e) (numbers_of_kind (row_source row) kind texts) else Err (refused row 0 WrongCount)
 
 -- a row, by the kind that its first field names
 abbrev pub row_of : ℕ → List (List ℕ) → Option Kind → Result (Kind × List ℤ) RowError

@@ -1,12 +1,13 @@
 //! The numbers of fields' texts, by the fields' forms.
-ghost use Rattle.std.specs.Prelude.{◌≡◌, ◌-◌, ◌^◌, bytes_eq, neg_ℤ, pos};
+ghost use Rattle.std.specs.Prelude.{◌≡◌, ◌-◌, ◌^◌, bytes_eq, neg_ℤ, ok_or, option_map, pos};
 ghost use Rattle.std.specs.List.{position as place_among};
 ghost use Rattle.std.specs.Result.{result_map_both};
 ghost use Rattle.aid_num.specs.Cents.{cents_of, cents_up_to};
+ghost use Rattle.aid_num.specs.declared.text.Malformed.TheVariants.{Spelling};
 ghost use Rattle.enrolment.specs.DayText.{day_in as day_of_text};
 ghost use Rattle.filing_kinds.specs.Kinds.{words_of_programs};
 ghost use Rattle.filing_numbers.specs.Numbers.{day_number};
-ghost use Rattle.desk_forms.specs.Fields.{number_in as number_of_text, place_number};
+ghost use Rattle.desk_forms.specs.Fields.{number_in as number_of_text};
 
 use aid_num::{Malformed, read_cents, read_whole};
 use enrolment::read_day;
@@ -39,7 +40,7 @@ fn day_in(text: &[u8]) -> Result<i64, Malformed>
 }
 
 fn program_in(text: &[u8]) -> Result<i64, Malformed>
-    ensures { result ≡ place_number (place_among (λ word. bytes_eq word text.now) words_of_programs) }
+    ensures { result ≡ ok_or (option_map (λ place. pos place) (place_among (λ word. bytes_eq word text.now) words_of_programs)) Spelling }
 {
     match place_of(program_words(), text) {
         Some(place) => Ok(place as i64),

@@ -1,6 +1,6 @@
 -- Reading numbers one after the other: what is read is within its limits, and how a draft goes along.
 use Rattle.std.proofs.Common.{◌≡◌, ℕ, zero, suc, ◌-◌, ◌<◌, ◌≤◌, ℤ, Bool, true, false, List, [], ◌∷◌, ◌++◌, length, reverse, Option, Some, None, Result, Ok, Err, FitsSigned, w64, refl, sym, ap, ◌∙◌, arith, append_assoc}
-use Rattle.std.specs.Prelude.{IfOk, IsTrue, option_map, slice_get}
+use Rattle.std.specs.Prelude.{IfOk, IsTrue, if◌then◌else◌, option_map, slice_get}
 use Rattle.std.proofs.lemmas.Int.{ints}
 use Rattle.std.proofs.lemmas.List.{append-nil, reverse-append}
 use Rattle.filing_kinds.specs.Draft.{Progress, accepts, may_follow, onward}
@@ -9,30 +9,32 @@ use Rattle.filing_kinds.specs.Kinds.{slots_of_kind}
 use Rattle.filing_kinds.specs.Layout.{AreNumbers, after}
 use Rattle.filing_kinds.specs.Limits.{IsNarrow, fits}
 use Rattle.filing_kinds.specs.Parts.{Line, Slot}
-use Rattle.filing_kinds.specs.Walk.{Found, Source, found_first, found_if, nothing_left, number_first, numbers_from, numbers_of_kind, tested}
+use Rattle.filing_kinds.specs.Walk.{Found, Source, and_then, nothing_left, number_first, numbers_from, numbers_of_kind}
 use Rattle.filing_kinds.specs.declared.field.Form.{Form}
 use Rattle.filing_kinds.specs.declared.kind.Kind.{Kind}
 use Rattle.filing_kinds.proofs.Laws.{IsHeld-IsNarrow}
 
+-- what a number that is found leads to
+abbrev pub led_to : {S E : Type 0} → Source S E → ℕ → List Slot → List ℤ → S → Found S → Bool → Result (List ℤ) E
+led_to source most slots earlier s found within =
+    if within then number_first found.number (numbers_from source most (after slots found.number) (found.number ∷ earlier) found.rest) else Err (source.past (length earlier) s)
+
 -- ---- numbers that are read are within their limits
-tested_by : {S E : Type 0} (source : Source S E) (line : Line) (earlier : List ℤ) (s : S) (found : Found S) (b : Bool) → fits line.limit earlier found.number ≡ b
-    → IfOk (found_if b found (source.past (length earlier) s)) (λ f. IsTrue (fits line.limit earlier f.number))
-tested_by source line earlier s found true e = e
-tested_by source line earlier s found false e = tt
-
-tested-fits : {S E : Type 0} (source : Source S E) (line : Line) (earlier : List ℤ) (s : S) (r : Result (Found S) E) → IfOk (tested source line earlier s r) (λ f. IsTrue (fits line.limit earlier f.number))
-tested-fits source line earlier s (Ok found) = tested_by source line earlier s found (fits line.limit earlier found.number) refl
-tested-fits source line earlier s (Err e) = tt
-
 number_first-are : {E : Type 0} (slot : Slot) (slots : List Slot) (earlier : List ℤ) (z : ℤ) (more : Result (List ℤ) E) → IsTrue (fits slot.line.limit earlier z)
     → IfOk more (AreNumbers (after (slot ∷ slots) z) (z ∷ earlier)) → IfOk (number_first z more) (AreNumbers (slot ∷ slots) earlier)
 number_first-are slot slots earlier z (Ok zs) h k = (h, k)
 number_first-are slot slots earlier z (Err e) h k = tt
 
-found_first-are : {S E : Type 0} (slot : Slot) (slots : List Slot) (earlier : List ℤ) (first : Result (Found S) E) (more : Found S → Result (List ℤ) E) → IfOk first (λ f. IsTrue (fits slot.line.limit earlier f.number))
-    → ((f : Found S) → IfOk (more f) (AreNumbers (after (slot ∷ slots) f.number) (f.number ∷ earlier))) → IfOk (found_first first more) (AreNumbers (slot ∷ slots) earlier)
-found_first-are slot slots earlier (Ok found) more h k = number_first-are slot slots earlier found.number (more found) h (k found)
-found_first-are slot slots earlier (Err e) more h k = tt
+led_to-are : {S E : Type 0} (source : Source S E) (most : ℕ) (slot : Slot) (slots : List Slot) (earlier : List ℤ) (s : S) (found : Found S) (b : Bool) → fits slot.line.limit earlier found.number ≡ b
+    → IfOk (numbers_from source most (after (slot ∷ slots) found.number) (found.number ∷ earlier) found.rest) (AreNumbers (after (slot ∷ slots) found.number) (found.number ∷ earlier))
+    → IfOk (led_to source most (slot ∷ slots) earlier s found b) (AreNumbers (slot ∷ slots) earlier)
+led_to-are source most slot slots earlier s found true h k =
+    number_first-are slot slots earlier found.number (numbers_from source most (after (slot ∷ slots) found.number) (found.number ∷ earlier) found.rest) h k
+led_to-are source most slot slots earlier s found false h k = tt
+
+and_then-are : {A B E : Type 0} (first : Result A E) (more : A → Result B E) (P : B → Type 0) → ((x : A) → IfOk (more x) P) → IfOk (and_then first more) P
+and_then-are (Ok x) more P h = h x
+and_then-are (Err e) more P h = tt
 
 nothing_left-are : {E : Type 0} (earlier : List ℤ) (left : Option E) → IfOk (nothing_left left) (AreNumbers [] earlier)
 nothing_left-are earlier None = tt
@@ -43,10 +45,9 @@ unfolding numbers_from
 numbers_from-are source most [] earlier s = nothing_left-are earlier (source.left s)
 numbers_from-are source zero (slot ∷ slots) earlier s = tt
 numbers_from-are source (suc most) (slot ∷ slots) earlier s =
-    found_first-are slot slots earlier (tested source slot.line earlier s (source.find (length earlier) slot.line s))
-    (λ found. numbers_from source most (after (slot ∷ slots) found.number) (found.number ∷ earlier) found.rest)
-    (tested-fits source slot.line earlier s (source.find (length earlier) slot.line s))
-    (λ found. numbers_from-are source most (after (slot ∷ slots) found.number) (found.number ∷ earlier) found.rest)
+    and_then-are (source.find (length earlier) slot.line s) (λ found. led_to source most (slot ∷ slots) earlier s found (fits slot.line.limit earlier found.number)) (AreNumbers (slot ∷ slots) earlier)
+    (λ found. led_to-are source most slot slots earlier s found (fits slot.line.limit earlier found.number) refl
+    (numbers_from-are source most (after (slot ∷ slots) found.number) (found.number ∷ earlier) found.rest))
 
 pub numbers_of_kind-are : {S E : Type 0} (source : Source S E) (kind : Kind) (s : S) → IfOk (numbers_of_kind source kind s) (AreNumbers (slots_of_kind kind) [])
 numbers_of_kind-are source kind s = numbers_from-are source most_numbers (slots_of_kind kind) [] s
@@ -70,14 +71,14 @@ firsts_of source most slot slots earlier s zs found (Err why) f w r e = absurd c
 
 firsts_by : {S E : Type 0} (source : Source S E) (most : ℕ) (slot : Slot) (slots : List Slot) (earlier : List ℤ) (s : S) (zs : List ℤ) (found : Found S) (b : Bool)
     → source.find (length earlier) slot.line s ≡ Ok found → fits slot.line.limit earlier found.number ≡ b
-    → found_first (found_if b found (source.past (length earlier) s)) (λ f. numbers_from source most (after (slot ∷ slots) f.number) (f.number ∷ earlier) f.rest) ≡ Ok zs
+    → led_to source most (slot ∷ slots) earlier s found b ≡ Ok zs
     → Firsts S E source most slot slots earlier s zs
 firsts_by source most slot slots earlier s zs found true f w e = firsts_of source most slot slots earlier s zs found _ f w refl e
 firsts_by source most slot slots earlier s zs found false f w e = absurd cc
 
 firsts_in : {S E : Type 0} (source : Source S E) (most : ℕ) (slot : Slot) (slots : List Slot) (earlier : List ℤ) (s : S) (zs : List ℤ) (r : Result (Found S) E)
     → source.find (length earlier) slot.line s ≡ r
-    → found_first (tested source slot.line earlier s r) (λ f. numbers_from source most (after (slot ∷ slots) f.number) (f.number ∷ earlier) f.rest) ≡ Ok zs
+    → and_then r (λ f. led_to source most (slot ∷ slots) earlier s f (fits slot.line.limit earlier f.number)) ≡ Ok zs
     → Firsts S E source most slot slots earlier s zs
 firsts_in source most slot slots earlier s zs (Ok found) f e = firsts_by source most slot slots earlier s zs found (fits slot.line.limit earlier found.number) f refl e
 firsts_in source most slot slots earlier s zs (Err why) f e = absurd cc
@@ -87,23 +88,11 @@ pub firsts : {S E : Type 0} (source : Source S E) (most : ℕ) (slot : Slot) (sl
 unfolding numbers_from
 firsts source most slot slots earlier s zs e = firsts_in source most slot slots earlier s zs (source.find (length earlier) slot.line s) refl e
 
--- what a number that is found leads to
-abbrev pub led_to : {S E : Type 0} → Source S E → ℕ → List Slot → List ℤ → S → Found S → Bool → Result (List ℤ) E
-led_to source most slots earlier s found true = number_first found.number (numbers_from source most (after slots found.number) (found.number ∷ earlier) found.rest)
-led_to source most slots earlier s found false = Err (source.past (length earlier) s)
-
-leads : {S E : Type 0} (source : Source S E) (most : ℕ) (slot : Slot) (slots : List Slot) (earlier : List ℤ) (s : S) (found : Found S) (b : Bool)
-    → found_first (found_if b found (source.past (length earlier) s)) (λ f. numbers_from source most (after (slot ∷ slots) f.number) (f.number ∷ earlier) f.rest)
-    ≡ led_to source most (slot ∷ slots) earlier s found b
-leads source most slot slots earlier s found true = refl
-leads source most slot slots earlier s found false = refl
-
 pub found_leads : {S E : Type 0} (source : Source S E) (most : ℕ) (slot : Slot) (slots : List Slot) (earlier : List ℤ) (s : S) (found : Found S) → source.find (length earlier) slot.line s ≡ Ok found
     → numbers_from source (suc most) (slot ∷ slots) earlier s ≡ led_to source most (slot ∷ slots) earlier s found (fits slot.line.limit earlier found.number)
 unfolding numbers_from
 found_leads source most slot slots earlier s found e =
-    ap (λ r. found_first (tested source slot.line earlier s r) (λ f. numbers_from source most (after (slot ∷ slots) f.number) (f.number ∷ earlier) f.rest)) e
-    ∙ leads source most slot slots earlier s found (fits slot.line.limit earlier found.number)
+    ap (λ r. and_then r (λ f. led_to source most (slot ∷ slots) earlier s f (fits slot.line.limit earlier f.number))) e
 
 -- ---- a draft on the way
 abbrev pub with_front : {E : Type 0} → List ℤ → Result (List ℤ) E → Result (List ℤ) E
@@ -134,7 +123,7 @@ fails_at source most [] earlier s line e next room h = absurd cc
 fails_at source zero (slot ∷ slots) earlier s line e next room h = absurd (omega arith)
 fails_at source (suc most) (slot ∷ slots) earlier s line e next room h =
     let none = ap (λ l. source.find (length earlier) l s) (line_is line slot.line next) ∙ h in
-    ap (λ r. found_first (tested source slot.line earlier s r) (λ f. numbers_from source most (after (slot ∷ slots) f.number) (f.number ∷ earlier) f.rest)) none
+    ap (λ r. and_then r (λ f. led_to source most (slot ∷ slots) earlier s f (fits slot.line.limit earlier f.number))) none
 
 goes_on : {S E : Type 0} (source : Source S E) (most : ℕ) (slots : List Slot) (earlier : List ℤ) (s : S) (line : Line) (found : Found S) → IsNext line slots → 1 ≤ most
     → source.find (length earlier) line s ≡ Ok found → numbers_from source most slots earlier s ≡ led_to source (most - 1) slots earlier s found (may_follow slots earlier found.number)

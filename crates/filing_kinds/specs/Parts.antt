@@ -2,7 +2,7 @@
 use Rattle.std.specs.Prelude.{ℕ, List, map}
 use Rattle.filing_kinds.specs.declared.field.Field.{Field}
 use Rattle.filing_kinds.specs.declared.field.Form.{Form}
-use Rattle.filing_kinds.specs.declared.field.Form.TheVariants.{U8, U16, U32, U64, I64, Cents, Day, Flag, Program, Count}
+use Rattle.filing_kinds.specs.declared.field.Form.TheVariants.{U16, U32, U64, I64, Cents, Day}
 use Rattle.filing_kinds.specs.declared.field.Limit.{Limit}
 use Rattle.filing_kinds.specs.declared.field.Part.{Part}
 
@@ -34,13 +34,10 @@ slots_of ps = map slot_of ps
 
 -- how many bytes a number takes
 abbrev pub width_of : Form → ℕ
-width_of U8 = 1
 width_of U16 = 2
 width_of U32 = 4
+width_of Day = 4
 width_of U64 = 8
 width_of I64 = 8
 width_of Cents = 8
-width_of Day = 4
-width_of Flag = 1
-width_of Program = 1
-width_of Count = 1
+width_of _ = 1

@@ -1,5 +1,5 @@
 -- The numbers of an application, by its parts.
-use Rattle.std.proofs.Common.{◌≡◌, ℕ, ℤ, pos, neg_ℤ, List, [], ◌∷◌, ◌++◌, length, drop, take, refl, sym, ap, ◌∙◌, arith}
+use Rattle.std.proofs.Common.{◌≡◌, ℕ, ℤ, pos, neg_ℤ, List, [], ◌∷◌, ◌++◌, codes, length, drop, take, refl, sym, ap, ◌∙◌, arith}
 use Rattle.std.specs.Prelude.{Bool, true, false, IsTrue, map, slice_index_or}
 use Rattle.std.proofs.Common.{subst, to_z, of_z, w64}
 use Rattle.std.proofs.lemmas.Int.{ints}
@@ -8,10 +8,10 @@ use Rattle.std.proofs.lemmas.List.{take-append-drop}
 use Rattle.aid_types.specs.Ranges.{IsAmount, IsSignedAmount, IsWithin}
 use Rattle.aid_types.specs.declared.application.Application.{Application}
 use Rattle.aid_types.specs.declared.application.Side.{Side}
-use Rattle.filing_kinds.specs.Kinds.{apply_slots, own_slots, parent_slots}
+use Rattle.filing_kinds.specs.Kinds.{apply_slots, household_slots}
 use Rattle.filing_kinds.specs.Limits.{is_between}
-use Rattle.filing_numbers.specs.Numbers.{applicant_numbers, application_numbers, flag_number, parents_numbers, side_numbers, standing_numbers, upbringing_numbers}
-use Rattle.filing_numbers.specs.Parts.{FitAnywhere, FitSomewhere, applicant_slots, parents_slots, standing_slots, upbringing_slots}
+use Rattle.filing_numbers.specs.Numbers.{application_numbers, flag_number, side_numbers}
+use Rattle.filing_numbers.specs.Parts.{FitAnywhere, FitSomewhere, applicant_numbers, applicant_slots, flag_slots, parents_numbers, parents_slots, standing_numbers, standing_slots, upbringing_numbers, upbringing_slots}
 use Rattle.filing_numbers.proofs.Calendars.{flag_fits}
 use Rattle.filing_numbers.proofs.Ranges.{is_natural_within, is_within, within}
 use Rattle.filing_numbers.proofs.Slots.{as_many, fit_joined, fit_parted, same_limits}
@@ -22,7 +22,7 @@ amount_fits z h = is_within (pos 0) (pos 99999999) z h.0 h.1
 signed_fits : (z : ℤ) → IsSignedAmount z → IsTrue (is_between (neg_ℤ (pos 99999999)) (pos 99999999) z)
 signed_fits z h = is_within (neg_ℤ (pos 99999999)) (pos 99999999) z h.0 h.1
 
-side_fits : (x : Side) → FitAnywhere own_slots (side_numbers x)
+side_fits : (x : Side) → FitAnywhere (household_slots []) (side_numbers x)
 side_fits x earlier = let r = x.in_range in (
   signed_fits x.agi r.0,
   (
@@ -72,8 +72,8 @@ parents_fits x earlier = (flag_fits x.parents_married, (flag_fits x.parents_file
 
 pub application_fits : (x : Application) → FitAnywhere applicant_slots (applicant_numbers x) → FitAnywhere apply_slots (application_numbers x)
 application_fits x h =
-    let parents = fit_joined parents_slots parent_slots (parents_numbers x) (side_numbers x.parents) (parents_fits x) (side_fits x.parents) in
-    let own = fit_joined own_slots (drop 33 apply_slots) (side_numbers x.own) (parents_numbers x ++ side_numbers x.parents) (side_fits x.own) parents in
+    let parents = fit_joined parents_slots (household_slots (codes "parent_")) (parents_numbers x) (side_numbers x.parents) (parents_fits x) (side_fits x.parents) in
+    let own = fit_joined (household_slots []) (drop 33 apply_slots) (side_numbers x.own) (parents_numbers x ++ side_numbers x.parents) (side_fits x.own) parents in
     let upbringing = fit_joined upbringing_slots (drop 17 apply_slots) (upbringing_numbers x) (side_numbers x.own ++ (parents_numbers x ++ side_numbers x.parents)) (upbringing_fits x) own in
     let standing = fit_joined standing_slots (drop 11 apply_slots) (standing_numbers x) (upbringing_numbers x ++ (side_numbers x.own ++ (parents_numbers x ++ side_numbers x.parents))) (standing_fits x) upbringing in
     fit_joined applicant_slots (drop 6 apply_slots) (applicant_numbers x) (standing_numbers x ++ (upbringing_numbers x ++ (side_numbers x.own ++ (parents_numbers x ++ side_numbers x.parents)))) h standing
@@ -97,11 +97,11 @@ behind_said zs = drop 3 (behind_own zs)
 pub record HasParts (zs : List ℤ) : Type 0 where
   pub many : length zs ≡ 52
   pub applicant : FitSomewhere applicant_slots (take 6 zs)
-  pub standing : FitSomewhere standing_slots (take 5 (behind_applicant zs))
-  pub upbringing : FitSomewhere upbringing_slots (take 6 (behind_standing zs))
-  pub own : FitSomewhere own_slots (take 16 (behind_upbringing zs))
+  pub standing : FitSomewhere (flag_slots 5) (take 5 (behind_applicant zs))
+  pub upbringing : FitSomewhere (flag_slots 6) (take 6 (behind_standing zs))
+  pub own : FitSomewhere (household_slots []) (take 16 (behind_upbringing zs))
   pub said : FitSomewhere parents_slots (take 3 (behind_own zs))
-  pub parents : FitSomewhere own_slots (behind_said zs)
+  pub parents : FitSomewhere (household_slots []) (behind_said zs)
   pub whole : take 6 zs ++ (take 5 (behind_applicant zs) ++ (take 6 (behind_standing zs) ++ (take 16 (behind_upbringing zs) ++ (take 3 (behind_own zs) ++ behind_said zs)))) ≡ zs
 
 pub parts_of : (zs : List ℤ) → FitSomewhere apply_slots zs → HasParts zs
@@ -114,11 +114,11 @@ parts_of zs h =
     record {
       many = as_many apply_slots h.0 zs refl h.1;
       applicant = a.0;
-      standing = b.0;
-      upbringing = c.0;
+      standing = (b.0.0, same_limits standing_slots (flag_slots 5) b.0.0 (take 5 (behind_applicant zs)) refl refl refl b.0.1);
+      upbringing = (c.0.0, same_limits upbringing_slots (flag_slots 6) c.0.0 (take 6 (behind_standing zs)) refl refl refl c.0.1);
       own = d.0;
       said = e.0;
-      parents = (e.1.0, same_limits parent_slots own_slots e.1.0 (behind_said zs) refl refl refl e.1.1);
+      parents = (e.1.0, same_limits (household_slots (codes "parent_")) (household_slots []) e.1.0 (behind_said zs) refl refl refl e.1.1);
       whole =
           ap (λ (ys : List ℤ). take 6 zs ++ (take 5 (behind_applicant zs) ++ (take 6 (behind_standing zs) ++ (take 16 (behind_upbringing zs) ++ ys)))) (take-append-drop 3 (behind_own zs))
           ∙ ap (λ (ys : List ℤ). take 6 zs ++ (take 5 (behind_applicant zs) ++ (take 6 (behind_standing zs) ++ ys))) (take-append-drop 16 (behind_upbringing zs))
@@ -183,7 +183,7 @@ amount_read z h = let r = within (pos 0) (pos 99999999) z h in record { same = a
 signed_read : (z : ℤ) → IsTrue (is_between (neg_ℤ (pos 99999999)) (pos 99999999) z) → IsWord (neg_ℤ (pos 99999999)) (pos 99999999) z
 signed_read z h = let r = within (neg_ℤ (pos 99999999)) (pos 99999999) z h in record { same = signed_word z r; range = subst IsSignedAmount (sym (signed_word z r)) r }
 
-side_by : (zs : List ℤ) → FitSomewhere own_slots zs → length zs ≡ 16 → IsSide zs
+side_by : (zs : List ℤ) → FitSomewhere (household_slots []) zs → length zs ≡ 16 → IsSide zs
 side_by (a ∷ b ∷ c ∷ d ∷ e ∷ f ∷ g ∷ h ∷ k ∷ l ∷ m ∷ n ∷ o ∷ p ∷ q ∷ r ∷ []) fit len =
     let t = fit.1 in
     let ra = signed_read a t.0 in
@@ -210,5 +210,5 @@ side_by (a ∷ b ∷ c ∷ d ∷ e ∷ f ∷ g ∷ h ∷ k ∷ l ∷ m ∷ n ∷
     }
 side_by zs fit len = absurd (omega arith)
 
-pub side_is : (zs : List ℤ) → FitSomewhere own_slots zs → IsSide zs
-side_is zs fit = side_by zs fit (as_many own_slots fit.0 zs refl fit.1)
+pub side_is : (zs : List ℤ) → FitSomewhere (household_slots []) zs → IsSide zs
+side_is zs fit = side_by zs fit (as_many (household_slots []) fit.0 zs refl fit.1)

@@ -2,10 +2,11 @@
 use Rattle.std.proofs.Common.{◌≡◌, ℕ, zero, suc, ◌+◌, ◌<◌, ◌≤◌, ℤ, pos, neg_ℤ, List, [], ◌∷◌, ◌++◌, length, drop, refl, sym, ap, ◌∙◌, append_assoc, length-append, arith}
 use Rattle.std.specs.Prelude.{IsTrue, flat_map, slice_index_or}
 use Rattle.std.proofs.lemmas.List.{append-nil}
+use Rattle.filing_kinds.specs.Kinds.{first_and_last}
 use Rattle.filing_kinds.specs.Layout.{rows_again}
 use Rattle.filing_kinds.specs.Limits.{is_between}
 use Rattle.filing_numbers.specs.Numbers.{break_days, day_number}
-use Rattle.filing_numbers.specs.Parts.{FitSomewhere, break_lines}
+use Rattle.filing_numbers.specs.Parts.{FitSomewhere}
 
 abbrev pub IsDayNumber : ℤ → Type 0
 IsDayNumber z = IsTrue (is_between (neg_ℤ (pos 25567)) (pos 2932896) z)
@@ -14,7 +15,7 @@ IsDayNumber z = IsTrue (is_between (neg_ℤ (pos 25567)) (pos 2932896) z)
 pub record AreRead (days : List ℤ) (breaks : List (ℕ × ℕ)) (rest : List ℤ) : Type 0 where
   pub left : ℕ
   pub few : length breaks + left ≤ 8
-  pub fit : FitSomewhere (rows_again left break_lines) rest
+  pub fit : FitSomewhere (rows_again left first_and_last) rest
   pub so_far : flat_map break_days breaks ++ rest ≡ days
 
 pub flat_map-more : (breaks : List (ℕ × ℕ)) (b : ℕ × ℕ) → flat_map break_days (breaks ++ b ∷ []) ≡ flat_map break_days breaks ++ break_days b
@@ -27,7 +28,7 @@ pub record NextIs (days : List ℤ) (breaks : List (ℕ × ℕ)) (rest : List �
   pub room : length breaks < 8
   pub after : (x y : ℕ) → day_number x ≡ slice_index_or rest 0 (pos 0) → day_number y ≡ slice_index_or rest 1 (pos 0) → AreRead days (breaks ++ (x, y) ∷ []) (drop 2 rest)
 
-next_by : (days : List ℤ) (breaks : List (ℕ × ℕ)) (left : ℕ) (a b : ℤ) (rest : List ℤ) → length breaks + left ≤ 8 → FitSomewhere (rows_again left break_lines) (a ∷ b ∷ rest)
+next_by : (days : List ℤ) (breaks : List (ℕ × ℕ)) (left : ℕ) (a b : ℤ) (rest : List ℤ) → length breaks + left ≤ 8 → FitSomewhere (rows_again left first_and_last) (a ∷ b ∷ rest)
     → flat_map break_days breaks ++ (a ∷ b ∷ rest) ≡ days → NextIs days breaks (a ∷ b ∷ rest)
 next_by days breaks zero a b rest few fit so_far = absurd fit.1
 next_by days breaks (suc left) a b rest few fit so_far = record {
@@ -48,7 +49,7 @@ pub next : (days : List ℤ) (breaks : List (ℕ × ℕ)) (rest : List ℤ) → 
 next days breaks (a ∷ b ∷ rest) len h = next_by days breaks h.left a b rest h.few h.fit h.so_far
 next days breaks rest len h = absurd (omega arith)
 
-none_by : (left : ℕ) (rest : List ℤ) → FitSomewhere (rows_again left break_lines) rest → length rest < 2 → rest ≡ []
+none_by : (left : ℕ) (rest : List ℤ) → FitSomewhere (rows_again left first_and_last) rest → length rest < 2 → rest ≡ []
 none_by zero [] fit len = refl
 none_by zero (z ∷ rest) fit len = absurd fit.1
 none_by (suc left) (a ∷ b ∷ rest) fit len = absurd (omega arith)

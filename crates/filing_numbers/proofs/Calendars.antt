@@ -4,12 +4,12 @@ use Rattle.std.specs.Prelude.{IsTrue, flat_map, map, slice_index_or, unsigned_ab
 use Rattle.std.proofs.lemmas.Int.{ints}
 use Rattle.std.proofs.lemmas.List.{append-nil, take_more}
 use Rattle.aid_filings.specs.declared.filing.CalendarFacts.{CalendarFacts}
-use Rattle.filing_kinds.specs.Kinds.{calendar_slots}
+use Rattle.filing_kinds.specs.Kinds.{calendar_slots, first_and_last}
 use Rattle.filing_kinds.specs.Layout.{AreNumbers, plain, rows, rows_again}
 use Rattle.filing_kinds.specs.Limits.{is_between}
 use Rattle.filing_kinds.specs.Parts.{Slot}
-use Rattle.filing_numbers.specs.Numbers.{break_days, calendar_numbers, day_number, flag_number}
-use Rattle.filing_numbers.specs.Parts.{FitAnywhere, FitSomewhere, break_lines}
+use Rattle.filing_numbers.specs.Numbers.{break_days, day_number, flag_number}
+use Rattle.filing_numbers.specs.Parts.{FitAnywhere, FitSomewhere, calendar_numbers}
 use Rattle.filing_numbers.proofs.Breaks.{IsDayNumber, flat_map-more}
 use Rattle.filing_numbers.proofs.Ranges.{is_natural_within, within}
 use Rattle.filing_numbers.proofs.Slots.{fit_joined, rows-again, rows_again-more}
@@ -18,11 +18,11 @@ pub flag_fits : (b : Bool) → IsTrue (is_between (pos 0) (pos 1) (flag_number b
 flag_fits true = refl
 flag_fits false = refl
 
-break_rows : (n : ℕ) → rows n break_lines break_lines ++ [] ≡ rows_again n break_lines
-break_rows n = append-nil (rows n break_lines break_lines) ∙ rows-again n break_lines refl
+break_rows : (n : ℕ) → rows n first_and_last first_and_last ++ [] ≡ rows_again n first_and_last
+break_rows n = append-nil (rows n first_and_last first_and_last) ∙ rows-again n first_and_last refl
 
 pub calendar_fits : (x : CalendarFacts) → IsTrue (is_between (pos 2000) (pos 2099) (pos x.year)) → IsDayNumber (day_number x.first) → IsDayNumber (day_number x.last) → length x.breaks ≤ 8
-    → FitAnywhere (rows_again (length x.breaks) break_lines) (flat_map break_days x.breaks) → FitAnywhere calendar_slots (calendar_numbers x)
+    → FitAnywhere (rows_again (length x.breaks) first_and_last) (flat_map break_days x.breaks) → FitAnywhere calendar_slots (calendar_numbers x)
 calendar_fits x year first last few fit earlier = (
   year,
   (
@@ -46,22 +46,22 @@ calendar_fits x year first last few fit earlier = (
 -- one more break
 pub record OneMore (breaks : List (ℕ × ℕ)) (i : ℕ) (d : ℕ × ℕ) : Type 0 where
   pub days : flat_map break_days (take (i + 1) breaks) ≡ flat_map break_days (take i breaks) ++ break_days d
-  pub fit : FitAnywhere (rows_again (i + 1) break_lines) (flat_map break_days (take (i + 1) breaks))
+  pub fit : FitAnywhere (rows_again (i + 1) first_and_last) (flat_map break_days (take (i + 1) breaks))
 
 pub one_more : (breaks : List (ℕ × ℕ)) (i : ℕ) (d : ℕ × ℕ) → i < length breaks → d ≡ get_or breaks i d → IsDayNumber (day_number d.0) → IsDayNumber (day_number d.1)
-    → FitAnywhere (rows_again i break_lines) (flat_map break_days (take i breaks)) → OneMore breaks i d
+    → FitAnywhere (rows_again i first_and_last) (flat_map break_days (take i breaks)) → OneMore breaks i d
 one_more breaks i d lt is first last fit =
     let front = flat_map break_days (take i breaks) in
     let days : flat_map break_days (take (i + 1) breaks) ≡ front ++ break_days d =
     ap (flat_map break_days) (take_more breaks i d lt) ∙ flat_map-more (take i breaks) (get_or breaks i d) ∙ ap (λ (b : ℕ × ℕ). front ++ break_days b) (sym is) in
     let next : suc i ≡ i + 1 = omega arith in
-    let both : FitAnywhere (rows_again i break_lines ++ map plain break_lines) (front ++ break_days d) = fit_joined (rows_again i break_lines) (map plain break_lines) front (break_days d) fit (λ e. (first, (last, tt))) in
-    let more : FitAnywhere (rows_again (i + 1) break_lines) (front ++ break_days d) =
-    subst (λ (n : ℕ). FitAnywhere (rows_again n break_lines) (front ++ break_days d)) next (subst (λ (slots : List Slot). FitAnywhere slots (front ++ break_days d)) (rows_again-more i break_lines) both) in
-    record { days = days; fit = subst (λ (zs : List ℤ). FitAnywhere (rows_again (i + 1) break_lines) zs) (sym days) more }
+    let both : FitAnywhere (rows_again i first_and_last ++ map plain first_and_last) (front ++ break_days d) = fit_joined (rows_again i first_and_last) (map plain first_and_last) front (break_days d) fit (λ e. (first, (last, tt))) in
+    let more : FitAnywhere (rows_again (i + 1) first_and_last) (front ++ break_days d) =
+    subst (λ (n : ℕ). FitAnywhere (rows_again n first_and_last) (front ++ break_days d)) next (subst (λ (slots : List Slot). FitAnywhere slots (front ++ break_days d)) (rows_again-more i first_and_last) both) in
+    record { days = days; fit = subst (λ (zs : List ℤ). FitAnywhere (rows_again (i + 1) first_and_last) zs) (sym days) more }
 
 -- how many breaks the days are of
-count : (breaks : List (ℕ × ℕ)) (n : ℕ) (earlier : List ℤ) → AreNumbers (rows_again n break_lines) earlier (flat_map break_days breaks) → length breaks ≡ n
+count : (breaks : List (ℕ × ℕ)) (n : ℕ) (earlier : List ℤ) → AreNumbers (rows_again n first_and_last) earlier (flat_map break_days breaks) → length breaks ≡ n
 count [] zero earlier h = refl
 count [] (suc n) earlier h = absurd h
 count (b ∷ breaks) zero earlier h = absurd h
@@ -73,7 +73,7 @@ abs_at_most n z h = let w = within (pos 0) (pos n) z h in grind (arith, ints)
 abs_is : (n : ℕ) (z : ℤ) → IsTrue (is_between (pos 0) (pos n) z) → pos (unsigned_abs z) ≡ z
 abs_is n z h = let w = within (pos 0) (pos n) z h in grind (arith, ints)
 
-pub break_fits : (zs : List ℤ) → 6 ≤ length zs → FitSomewhere calendar_slots zs → (n : ℕ) × (n ≤ 8) × FitSomewhere (rows_again n break_lines) (drop 6 zs)
+pub break_fits : (zs : List ℤ) → 6 ≤ length zs → FitSomewhere calendar_slots zs → (n : ℕ) × (n ≤ 8) × FitSomewhere (rows_again n first_and_last) (drop 6 zs)
 break_fits (a ∷ b ∷ c ∷ d ∷ e ∷ f ∷ days) len h = (
   unsigned_abs f,
   abs_at_most 8 f h.1.1.1.1.1.1.0,
@@ -88,8 +88,8 @@ pub calendar_is : (zs : List ℤ) (year term : ℕ) (extra : Bool) (first last :
 calendar_is (a ∷ b ∷ c ∷ d ∷ e ∷ f ∷ days) year term extra first last breaks len h ya tb xc fd le rest =
     let earlier = f ∷ e ∷ d ∷ c ∷ b ∷ a ∷ h.0 in
     let n = unsigned_abs f in
-    let fit : AreNumbers (rows_again n break_lines) earlier days = subst (λ (slots : List Slot). AreNumbers slots earlier days) (break_rows n) h.1.1.1.1.1.1.1 in
-    let many : length breaks ≡ n = count breaks n earlier (subst (λ (zs : List ℤ). AreNumbers (rows_again n break_lines) earlier zs) (sym rest) fit) in
+    let fit : AreNumbers (rows_again n first_and_last) earlier days = subst (λ (slots : List Slot). AreNumbers slots earlier days) (break_rows n) h.1.1.1.1.1.1.1 in
+    let many : length breaks ≡ n = count breaks n earlier (subst (λ (zs : List ℤ). AreNumbers (rows_again n first_and_last) earlier zs) (sym rest) fit) in
     let counted : pos (length breaks) ≡ f = ap (λ (n : ℕ). pos n) many ∙ abs_is 8 f h.1.1.1.1.1.1.0 in
     λ i. ya i ∷ tb i ∷ xc i ∷ fd i ∷ le i ∷ counted i ∷ rest i
 calendar_is zs year term extra first last breaks len h ya tb xc fd le rest = absurd (omega arith)

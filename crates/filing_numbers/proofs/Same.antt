@@ -25,8 +25,8 @@ use Rattle.aid_filings.specs.declared.filing.WithdrawFacts.{WithdrawFacts}
 use Rattle.aid_filings.proofs.SameFiling.{amount_parts, amount_whole, calendar_facts_parts, calendar_facts_whole, enrol_facts_parts, enrol_facts_whole, originate_facts_parts, originate_facts_whole, prior_facts_parts, prior_facts_whole, school_facts_parts, school_facts_whole, withdraw_facts_parts, withdraw_facts_whole}
 use Rattle.book_numbers.proofs.Equal.{same_book}
 use Rattle.filing_kinds.specs.Kinds.{table_row_of}
-use Rattle.filing_numbers.specs.Parts.{FitAnywhere}
-use Rattle.filing_numbers.specs.Numbers.{amount_numbers, application_numbers, break_days, calendar_numbers, could_numbers, day_number, enrol_numbers, facts_of, flag_number, key_numbers, kind_of, numbers_of, originate_numbers, prior_numbers, region_number, school_numbers, side_numbers, withdraw_numbers}
+use Rattle.filing_numbers.specs.Parts.{FitAnywhere, calendar_numbers, could_numbers, enrol_numbers, originate_numbers, prior_numbers, school_numbers, withdraw_numbers}
+use Rattle.filing_numbers.specs.Numbers.{amount_numbers, application_numbers, break_days, day_number, facts_of, flag_number, key_numbers, kind_of, numbers_of, region_number, side_numbers}
 
 -- ---- the numbers of equal lists, and what they are of
 at : {xs ys : List ℤ} → xs ≡ ys → (k : ℕ) → slice_index_or xs k (pos 0) ≡ slice_index_or ys k (pos 0)

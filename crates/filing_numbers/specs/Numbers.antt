@@ -7,34 +7,14 @@ use Rattle.aid_types.specs.declared.application.Region.TheVariants.{Contiguous, 
 use Rattle.aid_types.specs.declared.application.Side.{Side}
 use Rattle.aid_types.specs.declared.number.Key.{Key}
 use Rattle.aid_filings.specs.declared.filing.Amount.{Amount}
-use Rattle.aid_filings.specs.declared.filing.CalendarFacts.{CalendarFacts}
-use Rattle.aid_filings.specs.declared.filing.EnrolFacts.{EnrolFacts}
 use Rattle.aid_filings.specs.declared.filing.Filing.{Filing}
-use Rattle.aid_filings.specs.declared.filing.OriginateFacts.{OriginateFacts}
-use Rattle.aid_filings.specs.declared.filing.PriorFacts.{PriorFacts}
-use Rattle.aid_filings.specs.declared.filing.SchoolFacts.{SchoolFacts}
 use Rattle.aid_filings.specs.declared.filing.What.{What}
 use Rattle.aid_filings.specs.declared.filing.What.TheVariants.{Book, School, Calendar, Prior, Apply, Enrol, Originate, Pay, Withdraw, Repay, Adjust}
-use Rattle.aid_filings.specs.declared.filing.WithdrawFacts.{WithdrawFacts}
 use Rattle.book_numbers.specs.Book.{numbers_of as book_numbers}
 use Rattle.filing_kinds.specs.Kinds.{slots_of_kind}
 use Rattle.filing_kinds.specs.Layout.{AreNumbers}
 use Rattle.filing_kinds.specs.declared.kind.Kind.{Kind}
 use Rattle.filing_kinds.specs.declared.kind.Kind.TheVariants as kinds
-
--- the kind of what is filed
-abbrev pub kind_of : What → Kind
-kind_of (Book b) = kinds.Book
-kind_of (School facts) = kinds.School
-kind_of (Calendar facts) = kinds.Calendar
-kind_of (Prior facts) = kinds.Prior
-kind_of (Apply application) = kinds.Apply
-kind_of (Enrol facts) = kinds.Enrol
-kind_of (Originate facts) = kinds.Originate
-kind_of (Pay amount) = kinds.Pay
-kind_of (Withdraw facts) = kinds.Withdraw
-kind_of (Repay amount) = kinds.Repay
-kind_of (Adjust amount) = kinds.Adjust
 
 -- a day by the days since 1970-01-01, a yes by 1, a region and a program by its place
 abbrev pub day_number : ℕ → ℤ
@@ -53,19 +33,9 @@ region_number Hawaii = pos 2
 abbrev pub key_numbers : Key → List ℤ
 key_numbers x = pos x.school ∷ pos x.number ∷ []
 
-abbrev pub school_numbers : SchoolFacts → List ℤ
-school_numbers x = pos x.code ∷ pos x.terms ∷ pos x.full ∷ []
-
 -- the first and the last day of a break
 abbrev pub break_days : ℕ × ℕ → List ℤ
 break_days days = day_number days.0 ∷ day_number days.1 ∷ []
-
-abbrev pub calendar_numbers : CalendarFacts → List ℤ
-calendar_numbers x =
-    pos x.year ∷ pos x.term ∷ flag_number x.extra ∷ day_number x.first ∷ day_number x.last ∷ pos (length x.breaks) ∷ flat_map break_days x.breaks
-
-abbrev pub prior_numbers : PriorFacts → List ℤ
-prior_numbers x = pos x.student ∷ pos x.units ∷ []
 
 -- the amounts of one household
 abbrev pub side_numbers : Side → List ℤ
@@ -75,58 +45,38 @@ side_numbers x =
 
 -- an application: its numbers, what it says of the student's own standing and of the upbringing, the student's household,
 -- what it says of the parents, and their household
-abbrev pub applicant_numbers : Application → List ℤ
-applicant_numbers x = pos x.student ∷ pos x.year ∷ pos x.transaction ∷ pos x.birth_year ∷ region_number x.region ∷ pos x.family ∷ []
-
-abbrev pub standing_numbers : Application → List ℤ
-standing_numbers x =
-    flag_number x.married ∷ flag_number x.graduate ∷ flag_number x.bachelor ∷ flag_number x.veteran ∷ flag_number x.dependents ∷ []
-
-abbrev pub upbringing_numbers : Application → List ℤ
-upbringing_numbers x =
-    flag_number x.orphan ∷ flag_number x.ward ∷ flag_number x.foster ∷ flag_number x.emancipated ∷ flag_number x.homeless
-    ∷ flag_number x.student_file ∷ []
-
-abbrev pub parents_numbers : Application → List ℤ
-parents_numbers x = flag_number x.parents_married ∷ flag_number x.parents_file ∷ pos x.parent_age ∷ []
-
 abbrev pub application_numbers : Application → List ℤ
 application_numbers x =
-    applicant_numbers x ++ (standing_numbers x ++ (upbringing_numbers x ++ (side_numbers x.own ++ (parents_numbers x ++ side_numbers x.parents))))
+    pos x.student ∷ pos x.year ∷ pos x.transaction ∷ pos x.birth_year ∷ region_number x.region ∷ pos x.family
+    ∷ map flag_number (x.married ∷ x.graduate ∷ x.bachelor ∷ x.veteran ∷ x.dependents ∷ x.orphan ∷ x.ward ∷ x.foster ∷ x.emancipated ∷ x.homeless ∷ x.student_file ∷ [])
+    ++ side_numbers x.own ++ flag_number x.parents_married ∷ flag_number x.parents_file ∷ pos x.parent_age ∷ side_numbers x.parents
 
-abbrev pub enrol_numbers : EnrolFacts → List ℤ
-enrol_numbers x = pos x.student ∷ pos x.year ∷ pos x.term ∷ pos x.credits ∷ []
-
-abbrev pub originate_numbers : OriginateFacts → List ℤ
-originate_numbers x = pos x.student ∷ pos x.year ∷ pos x.cost ∷ []
-
+-- a payment, a repayment or an adjustment
 abbrev pub amount_numbers : Amount → List ℤ
 amount_numbers x = pos x.student ∷ pos x.year ∷ pos x.term ∷ pos (rank x.program) ∷ pos x.cents ∷ []
 
--- a withdrawal without what could have been disbursed, and that
-abbrev pub withdrawal_numbers : WithdrawFacts → List ℤ
-withdrawal_numbers x =
-    pos x.student ∷ pos x.year ∷ pos x.term ∷ day_number x.last ∷ day_number x.determined ∷ pos x.charges ∷ []
+-- What is filed: its kind, and its numbers behind those of the key. A withdrawal ends with the cents of each program that could
+-- have been disbursed.
+abbrev pub filed_as : What → Kind × List ℤ
+filed_as (Book x) = (kinds.Book, book_numbers x)
+filed_as (School x) = (kinds.School, pos x.code ∷ pos x.terms ∷ pos x.full ∷ [])
+filed_as (Calendar x) =
+    (kinds.Calendar, pos x.year ∷ pos x.term ∷ flag_number x.extra ∷ day_number x.first ∷ day_number x.last ∷ pos (length x.breaks) ∷ flat_map break_days x.breaks)
+filed_as (Prior x) = (kinds.Prior, pos x.student ∷ pos x.units ∷ [])
+filed_as (Apply x) = (kinds.Apply, application_numbers x)
+filed_as (Enrol x) = (kinds.Enrol, pos x.student ∷ pos x.year ∷ pos x.term ∷ pos x.credits ∷ [])
+filed_as (Originate x) = (kinds.Originate, pos x.student ∷ pos x.year ∷ pos x.cost ∷ [])
+filed_as (Pay x) = (kinds.Pay, amount_numbers x)
+filed_as (Withdraw x) =
+    (kinds.Withdraw, pos x.student ∷ pos x.year ∷ pos x.term ∷ day_number x.last ∷ day_number x.determined ∷ pos x.charges ∷ map (λ cents. pos cents) x.could)
+filed_as (Repay x) = (kinds.Repay, amount_numbers x)
+filed_as (Adjust x) = (kinds.Adjust, amount_numbers x)
 
-abbrev pub could_numbers : List ℕ → List ℤ
-could_numbers could = map (λ cents. pos cents) could
+abbrev pub kind_of : What → Kind
+kind_of what = (filed_as what).0
 
-abbrev pub withdraw_numbers : WithdrawFacts → List ℤ
-withdraw_numbers x = withdrawal_numbers x ++ could_numbers x.could
-
--- the numbers of what is filed
 unfoldable pub facts_of : What → List ℤ
-facts_of (Book b) = book_numbers b
-facts_of (School facts) = school_numbers facts
-facts_of (Calendar facts) = calendar_numbers facts
-facts_of (Prior facts) = prior_numbers facts
-facts_of (Apply application) = application_numbers application
-facts_of (Enrol facts) = enrol_numbers facts
-facts_of (Originate facts) = originate_numbers facts
-facts_of (Pay amount) = amount_numbers amount
-facts_of (Withdraw facts) = withdraw_numbers facts
-facts_of (Repay amount) = amount_numbers amount
-facts_of (Adjust amount) = amount_numbers amount
+facts_of what = (filed_as what).1
 
 -- the numbers of a filing, those of its key first
 abbrev pub numbers_of : Filing → List ℤ

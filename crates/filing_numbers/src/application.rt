@@ -2,9 +2,9 @@
 ghost use Rattle.std.specs.Prelude.{◌≡◌, ◌+◌, ◌≤◌, [], ◌∷◌, ◌++◌, length, map, pos};
 ghost use Rattle.aid_types.specs.Ranges.{IsBetween};
 ghost use Rattle.filing_kinds.specs.Forms.{most_numbers};
-ghost use Rattle.filing_kinds.specs.Kinds.{apply_slots, own_slots};
-ghost use Rattle.filing_numbers.specs.Numbers.{applicant_numbers, application_numbers, flag_number, parents_numbers, region_number, side_numbers, standing_numbers, upbringing_numbers};
-ghost use Rattle.filing_numbers.specs.Parts.{FitAnywhere, FitSomewhere, applicant_slots, parents_slots, standing_slots, upbringing_slots};
+ghost use Rattle.filing_kinds.specs.Kinds.{apply_slots, household_slots};
+ghost use Rattle.filing_numbers.specs.Numbers.{application_numbers, flag_number, region_number, side_numbers};
+ghost use Rattle.filing_numbers.specs.Parts.{FitAnywhere, FitSomewhere, applicant_numbers, applicant_slots, flag_slots, parents_numbers, parents_slots, standing_numbers, upbringing_numbers};
 
 use crate::scalar::{
     flag_from, number_of_flag, number_of_region, number_of_student, number_of_year, region_from,
@@ -167,7 +167,7 @@ fn applicant_of(numbers: &[i64]) -> (Student, Year, u8, u16, Region, u8)
 }
 
 fn standing_of(numbers: &[i64]) -> [bool; 5]
-    requires in_range { FitSomewhere standing_slots numbers.now }
+    requires in_range { FitSomewhere (flag_slots 5) numbers.now }
     ensures value { map flag_number result ≡ numbers.now }
 {
     let [married, graduate, bachelor, veteran, dependents] = numbers else {
@@ -183,7 +183,7 @@ fn standing_of(numbers: &[i64]) -> [bool; 5]
 }
 
 fn upbringing_of(numbers: &[i64]) -> [bool; 6]
-    requires in_range { FitSomewhere upbringing_slots numbers.now }
+    requires in_range { FitSomewhere (flag_slots 6) numbers.now }
     ensures value { map flag_number result ≡ numbers.now }
 {
     let [orphan, ward, foster, emancipated, homeless, student_file] = numbers else {
@@ -211,7 +211,7 @@ fn said_of(numbers: &[i64]) -> (bool, bool, u8)
 }
 
 fn side_of(numbers: &[i64]) -> Side
-    requires in_range { FitSomewhere own_slots numbers.now }
+    requires in_range { FitSomewhere (household_slots []) numbers.now }
     ensures value { side_numbers result ≡ numbers.now }
 {
     let [

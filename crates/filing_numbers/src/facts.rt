@@ -2,10 +2,10 @@
 ghost use Rattle.std.specs.Prelude.{◌≡◌, ℕ, ◌+◌, ◌*◌, ◌≤◌, ◌++◌, drop, flat_map, length, take};
 ghost use Rattle.aid_types.specs.Ranges.{EachIsCents};
 ghost use Rattle.filing_kinds.specs.Forms.{most_numbers};
-ghost use Rattle.filing_kinds.specs.Kinds.{amount_slots, calendar_slots, enrol_slots, key_slots, originate_slots, prior_slots, school_slots, withdraw_slots};
-ghost use Rattle.filing_numbers.specs.Numbers.{amount_numbers, break_days, calendar_numbers, could_numbers, enrol_numbers, key_numbers, originate_numbers, prior_numbers, school_numbers, withdraw_numbers, withdrawal_numbers};
+ghost use Rattle.filing_kinds.specs.Kinds.{amount_slots, calendar_slots, enrol_slots, first_and_last, key_slots, originate_slots, prior_slots, school_slots, withdraw_slots};
+ghost use Rattle.filing_numbers.specs.Numbers.{amount_numbers, break_days, key_numbers};
 ghost use Rattle.filing_kinds.specs.Layout.{rows_again};
-ghost use Rattle.filing_numbers.specs.Parts.{FitAnywhere, FitSomewhere, break_lines};
+ghost use Rattle.filing_numbers.specs.Parts.{FitAnywhere, FitSomewhere, calendar_numbers, cents_slots, could_numbers, enrol_numbers, originate_numbers, prior_numbers, school_numbers, withdraw_numbers, withdrawal_numbers};
 
 use crate::scalar::{
     cents_from, day_from, flag_from, number_of_day, number_of_flag, number_of_program,
@@ -263,7 +263,7 @@ fn withdrawal_of(numbers: &[i64], could: [u64; 6]) -> WithdrawFacts
 }
 
 fn could_of(numbers: &[i64]) -> [u64; 6]
-    requires in_range { FitSomewhere (drop 6 withdraw_slots) numbers.now }
+    requires in_range { FitSomewhere (cents_slots 6) numbers.now }
     ensures value { could_numbers result ≡ numbers.now }
     ensures cents { EachIsCents result }
 {
@@ -300,7 +300,7 @@ pub(crate) fn put_calendar(facts: &CalendarFacts, numbers: &mut Numbers)
 fn put_breaks(breaks: &[(Day, Day)], numbers: &mut Numbers)
     requires room { length numbers.old.items + 2 * length breaks.now ≤ most_numbers }
     ensures added { numbers.new.items ≡ numbers.old.items ++ flat_map break_days breaks.now }
-    ensures in_range { FitAnywhere (rows_again (length breaks.now) break_lines) (flat_map break_days breaks.now) }
+    ensures in_range { FitAnywhere (rows_again (length breaks.now) first_and_last) (flat_map break_days breaks.now) }
 {
     for &(first, last) in breaks {
         add_numbers(&[number_of_day(first), number_of_day(last)], numbers);
@@ -325,7 +325,7 @@ pub(crate) fn calendar_of(numbers: &[i64]) -> CalendarFacts
 }
 
 fn breaks_of(days: &[i64]) -> Breaks
-    requires in_range { (n : ℕ) × (n ≤ 8) × FitSomewhere (rows_again n break_lines) days.now }
+    requires in_range { (n : ℕ) × (n ≤ 8) × FitSomewhere (rows_again n first_and_last) days.now }
     ensures value { flat_map break_days result ≡ days.now }
 {
     let mut breaks = Breaks::new();

@@ -11,7 +11,8 @@ use Rattle.book_numbers.proofs.InRange.{age_put, amounts_put, bracket_put, busin
 use Rattle.book_numbers.specs.Book.{AreBookNumbers, age_numbers, age_row, bracket_numbers, bracket_row}
 use Rattle.filing_kinds.proofs.Laws.{AreNumbers-few}
 use Rattle.filing_kinds.specs.Forms.{most_numbers}
-use Rattle.filing_kinds.specs.Kinds.{age_slots, book_slots, bracket_slots, business_slots, dollars, one, pell_slots, schedule_slots}
+use Rattle.book_numbers.specs.Sections.{age_slots, bracket_slots, business_slots, pell_slots, schedule_slots}
+use Rattle.filing_kinds.specs.Kinds.{book_slots, one}
 use Rattle.filing_kinds.specs.Layout.{AreNumbers}
 use Rattle.filing_kinds.specs.Limits.{is_between}
 use Rattle.filing_kinds.specs.Parts.{Slot}
@@ -63,6 +64,10 @@ one_put field name low high t later zs none at kind range rest =
     let f = field_at field in
     let here = one_of f.kind f.section f.key (range_named f.name) low high t kind range (field_sound t none (field - 1) f at) in
     record { numbers = λ earlier. subst (λ (xs : List ℤ). AreNumbers (one name I64 low high ∷ later) earlier (xs ++ zs)) (sym here.is) (here.in_range, rest.numbers (here.value ∷ earlier)) }
+
+-- a field of an amount
+abbrev dollars : List ℕ → Slot
+dollars name = one name I64 (pos 0) (pos 99999999)
 
 amount_slots : (n : ℕ) (name : List ℕ) → list_all is_amount_slot (replicate n (dollars name)) ≡ true
 amount_slots zero name = refl

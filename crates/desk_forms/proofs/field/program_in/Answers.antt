@@ -1,10 +1,10 @@
 use Rattle.std.proofs.Common.{◌≡◌, ◌<◌, [], pos, sym, refl, ap, ◌∙◌, arith, w64, to_z, bytes_eq}
-use Rattle.std.specs.Prelude.{Some, Ok}
+use Rattle.std.specs.Prelude.{Some, Ok, ok_or, option_map}
 use Rattle.std.specs.List.{position}
 use Rattle.std.proofs.lemmas.Int.{to_z_pos}
 use Rattle.std.proofs.lemmas.List.Quantifiers.{position-Some}
+use Rattle.aid_num.specs.declared.text.Malformed.TheVariants.{Spelling}
 use Rattle.filing_kinds.specs.Kinds.{words_of_programs}
-use Rattle.desk_forms.specs.Fields.{place_number}
 use Rattle.desk_forms.proofs.FieldsLemmas.{place_of-words}
 use Rattle.desk_forms.proofs.field.program_in.Goals as goal
 
@@ -20,4 +20,4 @@ returns-in-Some c =
 pub returns-in-None : goal.returns-in-None
 returns-in-None c =
     let none = sym (place_of-words c.program_words.result.now c.args.text.now c.program_words.ensures) ∙ sym c.place_of.ensures ∙ c.in-None.is in
-    ap place_number (sym none)
+    ap (λ found. ok_or (option_map (λ at. pos at) found) Spelling) (sym none)

@@ -4,6 +4,9 @@ use Rattle.filing_numbers.specs.Numbers.{flag_number}
 use Rattle.filing_numbers.proofs.Applications.{five_flags, parts_of, six_flags}
 use Rattle.filing_numbers.proofs.application.application_of.Goals as goal
 
+pub split_at-requires-2 : goal.split_at-requires-2
+split_at-requires-2 c = let p = parts_of c.args.numbers.now c.requires.in_range in omega (arith, p.many, c.split_at.ensures.back_len)
+
 pub split_at-requires-3 : goal.split_at-requires-3
 split_at-requires-3 c = let p = parts_of c.args.numbers.now c.requires.in_range in omega (arith, p.many, c.split_at.ensures.back_len, c.split_at-2.ensures.back_len)
 

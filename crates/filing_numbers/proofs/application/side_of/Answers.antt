@@ -1,12 +1,12 @@
-use Rattle.std.proofs.Common.{◌≡◌, length, refl, rules}
-use Rattle.filing_kinds.specs.Kinds.{own_slots}
+use Rattle.std.proofs.Common.{◌≡◌, [], length, refl, rules}
+use Rattle.filing_kinds.specs.Kinds.{household_slots}
 use Rattle.filing_numbers.proofs.Applications.{side_is}
 use Rattle.filing_numbers.proofs.Slots.{as_many}
 use Rattle.filing_numbers.proofs.application.side_of.Goals as goal
 
 pub unreachable-requires : goal.unreachable-requires
 unreachable-requires c =
-    let len : length c.args.numbers.now ≡ 16 = as_many own_slots c.requires.in_range.0 c.args.numbers.now refl c.requires.in_range.1 in
+    let len : length c.args.numbers.now ≡ 16 = as_many (household_slots []) c.requires.in_range.0 c.args.numbers.now refl c.requires.in_range.1 in
     search rules
 
 pub invariant_of-result : goal.invariant_of-result

@@ -1,14 +1,15 @@
 use Rattle.std.proofs.Common.{◌≡◌, ◌+◌, ◌-◌, ◌*◌, ◌≤◌, ◌++◌, length, take}
 use Rattle.std.specs.Prelude.{flat_map}
+use Rattle.filing_kinds.specs.Kinds.{first_and_last}
 use Rattle.filing_kinds.specs.Forms.{most_numbers}
 use Rattle.filing_kinds.specs.Layout.{rows_again}
 use Rattle.filing_numbers.specs.Numbers.{break_days}
-use Rattle.filing_numbers.specs.Parts.{FitAnywhere, break_lines}
+use Rattle.filing_numbers.specs.Parts.{FitAnywhere}
 use Rattle.filing_numbers.proofs.facts.put_breaks.Given as goal
 
 abbrev pub invariant-loop-first : goal.invariant-loop-first
 invariant-loop-first l = record {
   room : length l.numbers.items + 2 * (length l.breaks - l.first-index) ≤ most_numbers;
   added : l.numbers.items ≡ l.initial.numbers.items ++ flat_map break_days (take l.first-index l.breaks);
-  in_range : FitAnywhere (rows_again l.first-index break_lines) (flat_map break_days (take l.first-index l.breaks));
+  in_range : FitAnywhere (rows_again l.first-index first_and_last) (flat_map break_days (take l.first-index l.breaks));
 }

@@ -1,7 +1,6 @@
 use Rattle.std.proofs.Common.{ℕ, List, drop, subst, take}
 use Rattle.filing_kinds.specs.Kinds.{withdraw_slots}
-use Rattle.filing_numbers.specs.Numbers.{could_numbers, withdrawal_numbers}
-use Rattle.filing_numbers.specs.Parts.{FitAnywhere}
+use Rattle.filing_numbers.specs.Parts.{FitAnywhere, could_numbers, withdrawal_numbers}
 use Rattle.filing_numbers.proofs.Slots.{fit_joined}
 use Rattle.filing_numbers.proofs.facts.put_withdraw.Goals as goal
 
