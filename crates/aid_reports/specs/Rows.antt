@@ -13,8 +13,7 @@ use Rattle.aid_filings.specs.declared.filing.What.TheVariants.{Prior, Apply, Pay
 use Rattle.aid_filings.specs.declared.filing.WithdrawFacts.{WithdrawFacts}
 use Rattle.enrolment.specs.CivilDays.{LAST_DAY}
 use Rattle.office_history.specs.Answer.{standing_of}
-use Rattle.office_history.specs.FactsOf.{cell_at}
-use Rattle.office_history.specs.Net.{net_at, sheet, used}
+use Rattle.office_history.specs.Net.{cell_at, net_at, sheet, used}
 use Rattle.office_history.specs.Past.{given, prior_units}
 use Rattle.withdrawal_returns.specs.declared.Lines.{Lines}
 use Rattle.aid_reports.specs.InOrder.{in_order}

@@ -8,14 +8,14 @@ use Rattle.aid_num.proofs.NearestLemmas.{half_up-most}
 use Rattle.aid_types.specs.Ranges.{IsBetween, IsIndex}
 use Rattle.aid_types.specs.declared.application.Application.{Application}
 use Rattle.aid_types.specs.declared.award.Formula.{Formula}
-use Rattle.aid_types.specs.declared.award.Formula.TheVariants.{A, B, C}
 use Rattle.aid_books.specs.declared.book.Book.{Book}
 use Rattle.aid_filings.specs.declared.filing.Filing.{Filing}
 use Rattle.enrolment.specs.Terms.{intensity_of}
 use Rattle.pell_schedule.specs.Award.{calculated, decision_under, is_barred, is_maximum, is_minimum, must_file}
 use Rattle.pell_schedule.specs.declared.Decision.{Decision}
 use Rattle.sai_index.specs.Formulas.{formula}
-use Rattle.sai_index.specs.Index.{bounded, index_lines, lines_of}
+use Rattle.sai_index.specs.Index.{bounded}
+use Rattle.sai_index.specs.Indices.{index_of, raw_index}
 use Rattle.office_history.specs.Answer.{standing_of, standing_under}
 use Rattle.office_history.specs.Net.{pell_year, used}
 use Rattle.office_history.specs.Past.{application, the_book}
@@ -23,11 +23,6 @@ use Rattle.office_history.specs.Past.{application, the_book}
 -- a raw index that is brought to the range is in it
 bounded_fits : (raw : ℤ) → IsIndex (bounded raw)
 bounded_fits raw = (omega (arith, ints, clamps), omega (arith, ints, clamps))
-
-line_fits : (f : Formula) (book : Book) (a : Application) → IsIndex (lines_of f book a).index
-line_fits A book a = bounded_fits (lines_of A book a).raw
-line_fits B book a = bounded_fits (lines_of B book a).raw
-line_fits C book a = bounded_fits (lines_of C book a).raw
 
 -- so is the final index of each case
 either : (b : Bool) (d e : Decision) → IsIndex d.sai → IsIndex e.sai → IsIndex (cond b d e).sai
@@ -57,7 +52,7 @@ pub index_fits : (past : List Filing) (student year : ℕ) → IsIndex (standing
 index_fits past student year = go (the_book past year) (application past student year) (pell_year past student year) (used past student)
   where
     go : (b : Option Book) (a : Option Application) (paid units : ℕ) → IsIndex (standing_under b a paid units).sai
-    go (Some b) (Some a) paid units = decided_fits (formula b a) b a (index_lines b a).index (line_fits (formula b a) b a)
+    go (Some b) (Some a) paid units = decided_fits (formula b a) b a (index_of b a) (bounded_fits (raw_index (formula b a) b a))
     go (Some b) None paid units = none_fits
     go None (Some a) paid units = none_fits
     go None None paid units = none_fits

@@ -13,7 +13,7 @@ use Rattle.enrolment.specs.Terms.{intensity_of}
 use Rattle.fund_policy.specs.Order.{IsInOrder}
 use Rattle.fund_policy.specs.declared.candidate.Candidate.{Candidate}
 use Rattle.office_history.specs.Answer.{standing_of}
-use Rattle.office_history.specs.FactsOf.{full_of}
+use Rattle.office_history.specs.Positions.{full_of}
 use Rattle.office_history.specs.Past.{credits, the_school}
 use Rattle.award_rounds.specs.Candidates.{AreCandidates, IsCandidate, is_alike, need_of, originated}
 use Rattle.award_rounds.specs.declared.request.RoundRequest.{RoundRequest}

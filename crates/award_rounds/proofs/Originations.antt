@@ -9,9 +9,9 @@ use Rattle.aid_filings.specs.declared.filing.Filing.{Filing}
 use Rattle.aid_filings.specs.declared.filing.OriginateFacts.{OriginateFacts}
 use Rattle.aid_filings.specs.declared.filing.What.{What}
 use Rattle.aid_filings.specs.declared.filing.What.TheVariants.{Book as BookFiled, School, Calendar, Prior, Apply, Enrol, Originate, Pay, Withdraw, Repay, Adjust}
-use Rattle.filing_rules.specs.Rules.{lines_of}
 use Rattle.office_history.specs.Answer.{breaks, IsLegal}
-use Rattle.office_history.specs.FactsOf.{cost_at, facts_of, full_of, school_at}
+use Rattle.office_history.specs.Positions.{cost_at, full_of, school_at}
+use Rattle.office_history.specs.Rules.{rules_of}
 use Rattle.office_history.specs.Past.{at_school, cost_in, first_of_two, given, if_here, school_in, the_school}
 use Rattle.office_history.proofs.Among.{among_reverse}
 use Rattle.office_history.proofs.Checks.{all_hold, lacks_holds}
@@ -120,7 +120,7 @@ school_known (f ∷ past) legal school student year some =
         → 0 < first_of_two (is_some (if_here b (given d o.cost))) (cost_at past school student year) (length past + 1)
         → (0 < cost_at past school student year → 0 < school_at past school) → 0 < school_at past school
     there key o true d e rule some ih =
-        let k = all_hold (lines_of (facts_of past key (Originate o)) key.school (Originate o)) rule in
+        let k = all_hold (rules_of past key (Originate o)) rule in
         subst (λ (s : ℕ). 0 < school_at past s) (eqb-true key.school school e) (lacks_holds 12 (school_at past key.school) key.school 0 k.1.0)
     there key o false true e rule some ih = ih some
     there key o false false e rule some ih = ih some

@@ -11,8 +11,8 @@ use Rattle.enrolment.specs.Terms.{intensity_of}
 use Rattle.fund_policy.specs.Order.{IsInOrder}
 use Rattle.fund_policy.specs.declared.candidate.Candidate.{Candidate}
 use Rattle.office_history.specs.Answer.{standing_of}
-use Rattle.office_history.specs.FactsOf.{cell_at, cost_at, full_of, withdrawn_at}
-use Rattle.office_history.specs.Net.{Cell, at_school_in_year, net, net_at}
+use Rattle.office_history.specs.Net.{cell_at, Cell, at_school_in_year, net, net_at}
+use Rattle.office_history.specs.Positions.{cost_at, full_of, withdrawn_at}
 use Rattle.office_history.specs.Past.{cost, credits, given, the_school}
 use Rattle.award_rounds.specs.declared.request.RoundRequest.{RoundRequest}
 

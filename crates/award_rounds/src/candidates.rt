@@ -1,7 +1,7 @@
 //! Whom a fund may award.
 ghost use Rattle.std.specs.Prelude.{◌≡◌, ◌≢◌, ◌<◌, ◌≤◌, true, IfOk, IfSome, IsNone, length};
 ghost use Rattle.std.specs.List.{Any, Contains};
-ghost use Rattle.office_history.specs.FactsOf.{cost_at, full_of};
+ghost use Rattle.office_history.specs.Positions.{cost_at, full_of};
 ghost use Rattle.office_history.specs.Past.{the_school};
 ghost use Rattle.fund_policy.specs.Order.{IsInOrder};
 ghost use Rattle.fund_policy.specs.declared.candidate.Candidate.{Candidate as AnyCandidate};

@@ -1,3 +1,4 @@
 pub mod InRange
-pub mod Quote
 pub mod Rules
+pub mod Lines
+pub mod Quote

@@ -1,7 +1,8 @@
 //! The rules on applications and their corrections.
 ghost use Rattle.std.specs.Prelude.{◌≡◌};
 ghost use Rattle.aid_filings.specs.declared.filing.What.TheVariants.{Apply};
-ghost use Rattle.filing_rules.specs.Rules.{first_broken as first_broken_of, lines_of, rule_93};
+ghost use Rattle.filing_rules.specs.Lines.{lines_of, rule_93};
+ghost use Rattle.filing_rules.specs.Rules.{first_broken as first_broken_of};
 
 use crate::check::{first_broken, lacks, over, where_true};
 use crate::facts::Facts;

@@ -1,7 +1,8 @@
 //! The rules on a term that a school files.
 ghost use Rattle.std.specs.Prelude.{◌≡◌};
 ghost use Rattle.aid_filings.specs.declared.filing.What.TheVariants.{Calendar};
-ghost use Rattle.filing_rules.specs.Rules.{breaks_in_order, first_broken as first_broken_of, lines_of, rule_21, rule_23};
+ghost use Rattle.filing_rules.specs.Lines.{lines_of};
+ghost use Rattle.filing_rules.specs.Rules.{breaks_in_order, first_broken as first_broken_of, rule_21, rule_23};
 
 use crate::check::{first_broken, stands, too_early, where_true};
 use crate::facts::Facts;

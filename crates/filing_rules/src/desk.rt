@@ -1,6 +1,7 @@
 //! The rules on what the office's own desk files: books, schools and prior use.
 ghost use Rattle.std.specs.Prelude.{◌≡◌};
-ghost use Rattle.filing_rules.specs.Rules.{first_broken as first_broken_of, lines_of};
+ghost use Rattle.filing_rules.specs.Lines.{lines_of};
+ghost use Rattle.filing_rules.specs.Rules.{first_broken as first_broken_of};
 ghost use Rattle.aid_filings.specs.declared.filing.What.TheVariants.{Book as BookFiled, School as SchoolFiled, Prior as PriorFiled};
 
 use crate::check::{first_broken, over, stands};

@@ -3,7 +3,7 @@
 
 ghost use Rattle.std.specs.Prelude.{◌≡◌};
 ghost use Rattle.filing_rules.specs.InRange.{AreFactsInRange};
-ghost use Rattle.filing_rules.specs.Rules.{broken_of};
+ghost use Rattle.filing_rules.specs.Lines.{broken_of};
 
 mod award;
 mod calendar;

@@ -7,6 +7,8 @@ ghost use Rattle.lifetime_ledger.specs.Used.{use_of as use_in_units};
 ghost use Rattle.filing_rules.specs.Rules.{
   first_broken as first_broken_of,
   is_half_time_extra,
+};
+ghost use Rattle.filing_rules.specs.Lines.{
   past_cost as past_cost_of,
   past_fseog as past_fseog_of,
   past_lifetime,
@@ -53,7 +55,7 @@ pub fn payment_at(scheduled: u32, credits: u8, full: u8, terms: u8) -> u64
 fn is_half_time_extra_term(f: &Facts) -> bool
     requires credits { IsBetween 1 40 f.now.credits }
     requires full { IsBetween 1 40 f.now.full }
-    ensures { result ≡ is_half_time_extra f.now f.now.term }
+    ensures { result ≡ is_half_time_extra f.now.term (intensity_of f.now.credits f.now.full) }
 {
     match &f.term {
         Some(term) => term.extra && intensity(f.credits, f.full) >= HALF_TIME,

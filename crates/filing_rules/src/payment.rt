@@ -3,7 +3,8 @@ ghost use Rattle.std.specs.Prelude.{◌≡◌, ◌≤◌};
 ghost use Rattle.aid_types.specs.Programs.{rank};
 ghost use Rattle.aid_filings.specs.declared.filing.What.TheVariants.{Pay};
 ghost use Rattle.filing_rules.specs.InRange.{AreFactsInRange};
-ghost use Rattle.filing_rules.specs.Rules.{amount_lines, first_broken as first_broken_of, lines_of, rule_53 as rule_53_of};
+ghost use Rattle.filing_rules.specs.Lines.{amount_lines, lines_of};
+ghost use Rattle.filing_rules.specs.Rules.{first_broken as first_broken_of, rule_53 as rule_53_of};
 
 use crate::check::{Check, first_broken, over, stands, where_true};
 use crate::facts::Facts;

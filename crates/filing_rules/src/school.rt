@@ -1,9 +1,11 @@
 //! The rules on what a school files of its students: credits, costs, repayments and downward adjustments.
-ghost use Rattle.std.specs.Prelude.{◌≡◌};
+ghost use Rattle.std.specs.Prelude.{◌≡◌, ◌*◌};
 ghost use Rattle.aid_types.specs.Ranges.{IsBetween};
 ghost use Rattle.aid_filings.specs.declared.filing.What.TheVariants.{Enrol, Originate, Repay, Adjust};
 ghost use Rattle.filing_rules.specs.InRange.{AreFactsInRange};
-ghost use Rattle.filing_rules.specs.Rules.{first_broken as first_broken_of, lines_of, rule_33 as rule_33_of};
+ghost use Rattle.enrolment.specs.Terms.{intensity_of, payment_of};
+ghost use Rattle.filing_rules.specs.Lines.{lines_of};
+ghost use Rattle.filing_rules.specs.Rules.{first_broken as first_broken_of, over as over_of};
 
 use crate::check::{Check, first_broken, over, stands, where_true};
 use crate::facts::Facts;
@@ -43,7 +45,7 @@ fn rule_33(f: &Facts, credits: u8) -> Check
     requires facts { AreFactsInRange f.now }
     requires on_file { f.now.school_at ≡ 0 → ⊥ }
     requires credits { IsBetween 1 40 credits }
-    ensures { result ≡ rule_33_of f.now credits }
+    ensures { result ≡ over_of 33 f.now.pell_term (100 * payment_of f.now.scheduled (intensity_of credits f.now.full) f.now.terms) }
 {
     over(
         33,

@@ -3,7 +3,8 @@ ghost use Rattle.std.specs.Prelude.{◌≡◌, ◌≤◌, ◌++◌, [], ◌∷�
 ghost use Rattle.aid_types.specs.Ranges.{EachIsCents};
 ghost use Rattle.aid_filings.specs.declared.filing.What.TheVariants.{Withdraw};
 ghost use Rattle.filing_rules.specs.InRange.{AreFactsInRange};
-ghost use Rattle.filing_rules.specs.Rules.{first_broken as first_broken_of, lines_of, rule_62, rule_63, too_early as too_early_of};
+ghost use Rattle.filing_rules.specs.Lines.{lines_of, rule_63};
+ghost use Rattle.filing_rules.specs.Rules.{first_broken as first_broken_of, rule_62, too_early as too_early_of};
 
 use crate::check::{first_broken, over, stands, too_early};
 use crate::facts::Facts;

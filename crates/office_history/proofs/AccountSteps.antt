@@ -2,8 +2,7 @@
 use Rattle.std.proofs.Common.{◌≡◌, ℕ, refl, sym, ◌∙◌, ◌≤◌, arith, Bool, List, ◌∷◌}
 use Rattle.aid_types.specs.Programs.{minus, plus, six}
 use Rattle.aid_filings.specs.declared.filing.Filing.{Filing}
-use Rattle.office_history.specs.Net.{Cell, Move, is_cell, in_term, moved, onto, net_at, paid, taken, owed, repaid, post, paid_after, payments_in, takings_in, owings_in, repayments_in, payments_after, posts_in}
-use Rattle.office_history.specs.FactsOf.{cell_at}
+use Rattle.office_history.specs.Net.{Cell, Move, is_cell, in_term, moved, onto, net_at, paid, taken, owed, repaid, post, paid_after, payments_in, takings_in, owings_in, repayments_in, payments_after, posts_in, cell_at}
 use Rattle.office_history.specs.Answer.{IsLegal}
 use Rattle.office_history.proofs.Cells.{onto_is}
 use Rattle.office_history.specs.declared.account.Account.{Account}

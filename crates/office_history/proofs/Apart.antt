@@ -15,9 +15,10 @@ use Rattle.aid_filings.specs.declared.filing.What.TheVariants.{Book as BookFiled
 use Rattle.enrolment.specs.Terms.{shares_day}
 use Rattle.aid_types.specs.Programs.{rank}
 use Rattle.office_history.specs.Past.{first_of_two, if_here, given, earlier, school_in, the_term, OnFile, terms_on_file}
-use Rattle.office_history.specs.Net.{Cell, is_cell, cell_of, pell_cell, paid, payments_in, pell_term}
-use Rattle.filing_rules.specs.Rules.{lines_of}
-use Rattle.office_history.specs.FactsOf.{facts_of, school_at, least_code, lesser_code, is_paid_beside}
+use Rattle.office_history.specs.Net.{Cell, is_cell, cell_of, cell_at, paid, payments_in, pell_term}
+use Rattle.office_history.specs.FactsOf.{facts_of}
+use Rattle.office_history.specs.Positions.{school_at, least_code, lesser_code, is_paid_beside}
+use Rattle.office_history.specs.Rules.{rules_of}
 use Rattle.office_history.specs.Answer.{breaks, IsLegal}
 use Rattle.office_history.proofs.Checks.{all_hold, lacks_holds}
 use Rattle.office_history.proofs.Cells.{same_cell}
@@ -63,7 +64,7 @@ coded_paid past key a ih h c pos = go (is_cell c (cell_of key a)) refl
         subst (λ (b : Bool). 0 < cond b a.cents 0 + paid past (is_cell c)) e pos in
         ih c (omega arith)
     go true e =
-        let k = all_hold (lines_of (facts_of past key (Pay a)) key.school (Pay a)) h in
+        let k = all_hold (rules_of past key (Pay a)) h in
         subst (λ (d : Cell). 0 < d.school) (same_cell c (cell_of key a) e)
         (known_code past key.school (lacks_holds 12 (school_at past key.school) key.school 0 k.1.0))
 
@@ -155,7 +156,7 @@ beside past student school school' year' number' t u coded there differ shared p
     let p = and_parts (not (o.school == school)) _ e in
     let q = and_parts (shares_day t o.term) _ p.1 in
     let some : 0 < pell_term past o.school student o.year o.term.number = ltb-true 0 _ q.1 in
-    coded (pell_cell o.school student o.year o.term.number) (omega arith))
+    coded (cell_at o.school student o.year o.term.number 3) (omega arith))
     (term_stands past school' year' number' u there (is_paid_beside past school student (Some t))
     (λ k n.
     let a : (school' == school) ≡ false = ne_eqb school' school (λ e. differ (sym e)) in
@@ -172,8 +173,8 @@ apart_kept : (past : List Filing) (key : Key) (what : What) → ApartHolds past 
     ((school year number : ℕ) → the_term (record { key = key; what = what } ∷ past) school year number ≡ the_term past school year number) →
     ApartHolds (record { key = key; what = what } ∷ past)
 apart_kept past key what ih none same student school year number school' year' number' t u ht hu differ shared pos =
-    let n = net_unpaid past key what (is_cell (pell_cell school student year number)) none in
-    let m = net_unpaid past key what (is_cell (pell_cell school' student year' number')) none in
+    let n = net_unpaid past key what (is_cell (cell_at school student year number 3)) none in
+    let m = net_unpaid past key what (is_cell (cell_at school' student year' number' 3)) none in
     let old = ih student school year number school' year' number' t u (sym (same school year number) ∙ ht) (sym (same school' year' number') ∙ hu) differ shared (omega arith) in
     omega arith
 
@@ -197,29 +198,29 @@ alone past key a h c three e =
 apart_paid : (past : List Filing) (key : Key) (a : Amount) → ApartHolds past → CodedHolds past → breaks past (record { key = key; what = Pay a }) ≡ None →
     ApartHolds (record { key = key; what = Pay a } ∷ past)
 apart_paid past key a ih coded h student school year number school' year' number' t u ht hu differ shared pos =
-    go (is_cell (pell_cell school student year number) (cell_of key a)) (is_cell (pell_cell school' student year' number') (cell_of key a)) refl refl
-    (net_paid past key a (is_cell (pell_cell school student year number))) (net_paid past key a (is_cell (pell_cell school' student year' number')))
+    go (is_cell (cell_at school student year number 3) (cell_of key a)) (is_cell (cell_at school' student year' number' 3) (cell_of key a)) refl refl
+    (net_paid past key a (is_cell (cell_at school student year number 3))) (net_paid past key a (is_cell (cell_at school' student year' number' 3)))
   where
     zero_or : (n : ℕ) → (0 < n → ⊥) → n ≡ 0
     zero_or zero never = refl
     zero_or (suc n) never = absurd (never (omega arith))
 
-    go : (b b' : Bool) → is_cell (pell_cell school student year number) (cell_of key a) ≡ b → is_cell (pell_cell school' student year' number') (cell_of key a) ≡ b' →
+    go : (b b' : Bool) → is_cell (cell_at school student year number 3) (cell_of key a) ≡ b → is_cell (cell_at school' student year' number' 3) (cell_of key a) ≡ b' →
         pell_term (record { key = key; what = Pay a } ∷ past) school student year number
-        ≤ cond (is_cell (pell_cell school student year number) (cell_of key a)) a.cents 0 + pell_term past school student year number →
+        ≤ cond (is_cell (cell_at school student year number 3) (cell_of key a)) a.cents 0 + pell_term past school student year number →
         pell_term (record { key = key; what = Pay a } ∷ past) school' student year' number'
-        ≤ cond (is_cell (pell_cell school' student year' number') (cell_of key a)) a.cents 0 + pell_term past school' student year' number' →
+        ≤ cond (is_cell (cell_at school' student year' number' 3) (cell_of key a)) a.cents 0 + pell_term past school' student year' number' →
         pell_term (record { key = key; what = Pay a } ∷ past) school' student year' number' ≡ 0
     go true true e e' n n' =
-        let s : key.school ≡ school = ap (λ (d : Cell). d.school) (same_cell (pell_cell school student year number) (cell_of key a) e) in
-        let s' : key.school ≡ school' = ap (λ (d : Cell). d.school) (same_cell (pell_cell school' student year' number') (cell_of key a) e') in
+        let s : key.school ≡ school = ap (λ (d : Cell). d.school) (same_cell (cell_at school student year number 3) (cell_of key a) e) in
+        let s' : key.school ≡ school' = ap (λ (d : Cell). d.school) (same_cell (cell_at school' student year' number' 3) (cell_of key a) e') in
         absurd (differ (sym s ∙ s'))
     go true false e e' n n' =
         let m : pell_term (record { key = key; what = Pay a } ∷ past) school' student year' number' ≤ cond false a.cents 0 + pell_term past school' student year' number' =
         subst (λ (b : Bool). pell_term (record { key = key; what = Pay a } ∷ past) school' student year' number' ≤ cond b a.cents 0 + pell_term past school' student year' number') e' n' in
         let l : least_code (is_paid_beside past school student (Some t)) (terms_on_file past) ≡ 0 =
         subst (λ (o : Option Term). least_code (is_paid_beside past school student o) (terms_on_file past) ≡ 0) ht
-        (alone past key a h (pell_cell school student year number) refl e) in
+        (alone past key a h (cell_at school student year number 3) refl e) in
         let old : pell_term past school' student year' number' ≡ 0 =
         zero_or (pell_term past school' student year' number') (λ k. beside past student school school' year' number' t u coded hu differ shared k l) in
         omega arith
@@ -228,7 +229,7 @@ apart_paid past key a ih coded h student school year number school' year' number
         subst (λ (b : Bool). pell_term (record { key = key; what = Pay a } ∷ past) school student year number ≤ cond b a.cents 0 + pell_term past school student year number) e n in
         let l : least_code (is_paid_beside past school' student (Some u)) (terms_on_file past) ≡ 0 =
         subst (λ (o : Option Term). least_code (is_paid_beside past school' student o) (terms_on_file past) ≡ 0) hu
-        (alone past key a h (pell_cell school' student year' number') refl e') in
+        (alone past key a h (cell_at school' student year' number' 3) refl e') in
         absurd (beside past student school' school year number u t coded ht (λ k. differ (sym k)) (shares_sym t u shared) (omega arith) l)
     go false false e e' n n' =
         let m : pell_term (record { key = key; what = Pay a } ∷ past) school student year number ≤ cond false a.cents 0 + pell_term past school student year number =
@@ -275,7 +276,7 @@ same_term past new student school year number t filed pos h = go (the_term past 
   where
     go : (o : Option Term) → the_term past school year number ≡ o → earlier new o ≡ Some t → o ≡ Some t
     go None e h =
-        let a : is_filed past school year number ≡ true = filed (pell_cell school student year number) (omega arith) in
+        let a : is_filed past school year number ≡ true = filed (cell_at school student year number 3) (omega arith) in
         let b : is_filed past school year number ≡ false = not_there past school year number e in
         cc
     go (Some x) e h = keeps new h

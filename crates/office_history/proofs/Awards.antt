@@ -9,13 +9,17 @@ use Rattle.aid_filings.specs.declared.filing.Filing.{Filing}
 use Rattle.aid_types.specs.declared.award.Refusal.{Refusal}
 use Rattle.aid_filings.specs.declared.filing.What.{What}
 use Rattle.aid_filings.specs.declared.filing.What.TheVariants.{Book as BookFiled, School, Calendar, Prior, Apply, Enrol, Originate, Pay, Withdraw, Repay, Adjust}
+use Rattle.enrolment.specs.Terms.{intensity_of}
 use Rattle.lifetime_ledger.specs.Used.{use_of}
 use Rattle.aid_types.specs.Programs.{rank}
 use Rattle.office_history.specs.Past.{earlier, given, the_book, book_in, application, higher}
 use Rattle.office_history.specs.Award.{award_under, scheduled, unfit_under}
 use Rattle.office_history.specs.Net.{cell_of, in_year, payments_in, pell_year}
-use Rattle.filing_rules.specs.Rules.{Check, lines_of, only, told, rule_12, rule_91, rule_93, rule_10, over, is_half_time_extra, year_limit}
-use Rattle.office_history.specs.FactsOf.{facts_of, book_at, transaction_of, apply_facts, if_fit}
+use Rattle.filing_rules.specs.Rules.{Check, only, told, rule_91, lacks, over, is_half_time_extra}
+use Rattle.filing_rules.specs.Lines.{lines_of, rule_93, year_limit}
+use Rattle.office_history.specs.FactsOf.{facts_of, apply_facts}
+use Rattle.office_history.specs.Positions.{book_at, transaction_of, if_fit}
+use Rattle.office_history.specs.Rules.{rules_of}
 use Rattle.office_history.specs.Answer.{breaks, IsLegal}
 use Rattle.office_history.proofs.Asked.{none_told}
 use Rattle.office_history.proofs.Checks.{AllHold, all_hold, over_holds, stands_holds, hold_front, hold_back, told_holds}
@@ -25,7 +29,7 @@ use Rattle.office_history.proofs.Steps.{net_unpaid, net_paid, within_year}
 -- a book that is filed is its year's first
 pub book_new : (past : List Filing) (key : Key) (b : Book) → breaks past (record { key = key; what = BookFiled b }) ≡ None → the_book past b.year ≡ None
 book_new past key b h =
-    let k = all_hold (lines_of (facts_of past key (BookFiled b)) key.school (BookFiled b)) h in
+    let k = all_hold (rules_of past key (BookFiled b)) h in
     none_told (λ f. book_in b.year f.what) past (stands_holds 11 (book_at past b.year) b.year k.1.1.0)
 
 -- a book changes no award above 0
@@ -54,11 +58,11 @@ pub corrects : (f : Facts) (key : Key) (a : Application) → AllHold (lines_of f
 corrects f key a k =
     let l3 : List Check = over 93 f.pell_main (100 * f.next_scheduled) ∷ over 93 f.pell_year (150 * f.next_scheduled)
     ∷ over 93 (f.used_else + use_of f.pell_year f.next_scheduled) 600000 ∷ [] in
-    let r = hold_back (only (nat_lt 0 key.school) (rule_12 f key.school ∷ [])) (rule_10 f a.year ∷ told f.unfit ++ (rule_91 f a.transaction ∷ rule_93 f)) k.1 in
-    let q = hold_back (told f.unfit) (rule_91 f a.transaction ∷ rule_93 f) r.1 in
+    let r = hold_back (only (nat_lt 0 key.school) (lacks 12 f.school_at key.school 0 ∷ [])) (lacks 10 f.book_at a.year 0 ∷ told f.unfit ++ (rule_91 a.transaction f.transaction ∷ rule_93 f)) k.1 in
+    let q = hold_back (told f.unfit) (rule_91 a.transaction f.transaction ∷ rule_93 f) r.1 in
     let t = hold_back (told f.term_over) l3 q.1 in
     record {
-      fit = told_holds f.unfit (hold_front (told f.unfit) (rule_91 f a.transaction ∷ rule_93 f) r.1);
+      fit = told_holds f.unfit (hold_front (told f.unfit) (rule_91 a.transaction f.transaction ∷ rule_93 f) r.1);
       above = leb-false a.transaction f.transaction q.0;
       terms = told_holds f.term_over (hold_front (told f.term_over) l3 q.1);
       main = over_holds 93 f.pell_main (100 * f.next_scheduled) t.0;
@@ -74,7 +78,7 @@ pub correction :
     (past : List Filing) (key : Key) (a : Application) → breaks past (record { key = key; what = Apply a }) ≡ None →
     Corrects (apply_facts past key.school a (award_under (the_book past a.year) (Some a))) a.transaction
 correction past key a h =
-    let k = corrects (facts_of past key (Apply a)) key a (all_hold (lines_of (facts_of past key (Apply a)) key.school (Apply a)) h) in
+    let k = corrects (facts_of past key (Apply a)) key a (all_hold (rules_of past key (Apply a)) h) in
     let e : if_fit (unfit_under (the_book past a.year) a) (award_under (the_book past a.year) (Some a)) ≡ award_under (the_book past a.year) (Some a) =
     ap (λ (o : Option Refusal). if_fit o (award_under (the_book past a.year) (Some a))) k.fit in
     subst (λ n. Corrects (apply_facts past key.school a n) a.transaction) e k
@@ -108,7 +112,7 @@ YearHolds past = (student year : ℕ) → pell_year past student year ≤ 150 * 
 
 -- a year's limit is at most one and a half awards
 limit_below : (f : Facts) → year_limit f ≤ 150 * f.scheduled
-limit_below f = go (is_half_time_extra f f.term)
+limit_below f = go (is_half_time_extra f.term (intensity_of f.credits f.full))
   where
     go : (b : Bool) → cond b 150 100 * f.scheduled ≤ 150 * f.scheduled
     go true = omega arith

@@ -7,10 +7,9 @@ use Rattle.aid_filings.specs.declared.filing.EnrolFacts.{EnrolFacts}
 use Rattle.aid_filings.specs.declared.filing.Filing.{Filing}
 use Rattle.aid_filings.specs.declared.filing.What.{What}
 use Rattle.aid_filings.specs.declared.filing.What.TheVariants.{Book as BookFiled, School, Calendar, Prior, Apply, Enrol, Originate, Pay, Withdraw, Repay, Adjust}
-use Rattle.filing_rules.specs.Rules.{lines_of}
 use Rattle.office_history.specs.Past.{amount_or, if_here, given, later, latest, at_school, credits_in, credits}
 use Rattle.office_history.specs.Net.{Cell, Move, is_cell, cell_of, onto, paid, net_at, payments_in}
-use Rattle.office_history.specs.FactsOf.{facts_of}
+use Rattle.office_history.specs.Rules.{rules_of}
 use Rattle.office_history.specs.Answer.{breaks, IsLegal}
 use Rattle.office_history.specs.Least.{IsEnrolled}
 use Rattle.office_history.proofs.Checks.{all_hold, lacks_holds}
@@ -91,7 +90,7 @@ paid_enrolled (f ∷ past) h c pos =
       where
         go : (b : Bool) → is_cell c (cell_of f.key a) ≡ b → IsEnrolled (record { key = f.key; what = Pay a } ∷ past) c
         go true e =
-            let k = all_hold (lines_of (facts_of past f.key (Pay a)) f.key.school (Pay a)) rule in
+            let k = all_hold (rules_of past f.key (Pay a)) rule in
             let some = lacks_holds 51 (credits past f.key.school a.student a.year a.term) a.student a.term k.1.1.1.1.1.0 in
             let here : IsEnrolled past (cell_of f.key a) = by_credits past (cell_of f.key a) some in
             kept past (record { key = f.key; what = Pay a }) c (subst (IsEnrolled past) (same_cell c (cell_of f.key a) e) here)

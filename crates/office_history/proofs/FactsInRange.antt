@@ -17,13 +17,14 @@ use Rattle.aid_filings.specs.declared.filing.What.TheVariants.{Book as BookFiled
 use Rattle.filing_rules.specs.declared.facts.Facts.{Facts}
 use Rattle.filing_rules.specs.InRange.{AreFactsInRange, IsSum}
 use Rattle.sai_index.specs.Formulas.{formula}
-use Rattle.sai_index.specs.Index.{index_lines}
+use Rattle.sai_index.specs.Indices.{index_of}
 use Rattle.pell_schedule.specs.Award.{decision_of}
 use Rattle.pell_schedule.proofs.AwardLaws.{decision_under-award}
 use Rattle.office_history.specs.Past.{school_in, the_book, the_school, application}
 use Rattle.office_history.specs.Award.{award_under, scheduled, scheduled_of}
 use Rattle.office_history.specs.Net.{Cell, net, paid_after, repaid}
-use Rattle.office_history.specs.FactsOf.{aid_facts, facts_of, full_of, payment_facts, school_at, terms_of}
+use Rattle.office_history.specs.FactsOf.{aid_facts, facts_of, payment_facts}
+use Rattle.office_history.specs.Positions.{full_of, school_at, terms_of}
 use Rattle.office_history.specs.Answer.{IsLegal}
 use Rattle.office_history.proofs.Asked.{some_told}
 use Rattle.office_history.proofs.Legal.{legal_is_short}
@@ -45,7 +46,7 @@ award_below (negsuc m) n h k = omega (arith, ints, clamps)
 -- a Scheduled Award is at most 100,000 dollars
 award_in_range : (b : Book) (a : Application) → scheduled_of b a ≤ 100000
 unfolding scheduled_of
-award_in_range b a = elim (decision_under-award (formula b a) b a (index_lines b a).index) [
+award_in_range b a = elim (decision_under-award (formula b a) b a (index_of b a)) [
   | inl none ↦ omega arith
   | inr within ↦ award_below b.pell.maximum (decision_of b a).scheduled b.pell.maximum_in_range.1 within.1
 ]

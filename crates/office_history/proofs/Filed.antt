@@ -11,7 +11,8 @@ use Rattle.aid_filings.specs.declared.filing.What.{What}
 use Rattle.aid_filings.specs.declared.filing.What.TheVariants.{Book as BookFiled, School, Calendar, Prior, Apply, Enrol, Originate, Pay, Withdraw, Repay, Adjust}
 use Rattle.office_history.specs.Past.{first_of_two, at_school, if_here, given, term_in, OnFile, terms_on_file}
 use Rattle.office_history.specs.Net.{Cell, is_cell, cell_of, paid}
-use Rattle.office_history.specs.FactsOf.{facts_of, term_at}
+use Rattle.office_history.specs.FactsOf.{facts_of}
+use Rattle.office_history.specs.Positions.{term_at}
 use Rattle.office_history.specs.Answer.{breaks, IsLegal}
 use Rattle.office_history.proofs.Cells.{same_cell}
 use Rattle.office_history.proofs.PayRules.{term_filed}

@@ -10,7 +10,7 @@ use Rattle.aid_filings.specs.declared.filing.What.{What}
 use Rattle.aid_filings.specs.declared.filing.What.TheVariants.{Book, School, Calendar, Prior, Apply, Enrol, Originate, Pay, Withdraw, Repay, Adjust}
 use Rattle.enrolment.specs.Terms.{shares_day}
 use Rattle.office_history.specs.Past.{OnFile, on_file, terms_on_file, first_at, first_of_two}
-use Rattle.office_history.specs.FactsOf.{first_term_at}
+use Rattle.office_history.specs.Positions.{first_term_at}
 use Rattle.office_history.specs.FiledTerms.{is_main_term, is_overlapping}
 
 -- a count is the same from either end

@@ -11,10 +11,13 @@ use Rattle.aid_filings.specs.declared.filing.Filing.{Filing}
 use Rattle.aid_filings.specs.declared.filing.What.{What}
 use Rattle.aid_filings.specs.declared.filing.What.TheVariants.{Book as BookFiled, School, Calendar, Prior, Apply, Enrol, Originate, Pay, Withdraw, Repay, Adjust}
 use Rattle.enrolment.specs.Terms.{AreAfter, IsLawful}
-use Rattle.filing_rules.specs.Rules.{breaks_in_order, breaks_inside, rule_21, rule_22, rule_23, rule_24, rule_62, rule_63, too_early, first_break_in_order, lines_of}
-use Rattle.office_history.specs.Past.{at_school, if_here, given, earlier, term_in, the_term}
-use Rattle.office_history.specs.FactsOf.{facts_of, term_at}
+use Rattle.filing_rules.specs.Rules.{breaks_in_order, breaks_inside, stands, rule_21, rule_23, rule_24, rule_62, too_early, first_break_in_order}
+use Rattle.filing_rules.specs.Lines.{rule_63}
+use Rattle.office_history.specs.Past.{at_school, if_here, given, earlier, term_in, the_school, the_term}
+use Rattle.office_history.specs.FactsOf.{facts_of}
+use Rattle.office_history.specs.Positions.{term_at, overlap_at, main_term_count, terms_of}
 use Rattle.office_history.specs.Sheets.{CanBeWorkedOut}
+use Rattle.office_history.specs.Rules.{rules_of}
 use Rattle.office_history.specs.Answer.{breaks, IsLegal}
 use Rattle.office_history.proofs.Asked.{some_told}
 use Rattle.office_history.proofs.Checks.{AllHold, all_hold, hold_front, hold_back, over_holds, lacks_holds}
@@ -53,11 +56,10 @@ lawful_days t order inside = record {
 -- a term that is filed and breaks no rule
 lawful_filed : (past : List Filing) (key : Key) (c : CalendarFacts) → breaks past (record { key = key; what = Calendar c }) ≡ None → IsLawful (term_of c)
 lawful_filed past key c h =
-    let f = facts_of past key (Calendar c) in
     let t = term_of c in
-    let k = (all_hold (lines_of (facts_of past key (Calendar c)) key.school (Calendar c)) h).1.1.1 in
-    let rest = hold_back (rule_21 t) (rule_23 t ++ (rule_22 f t ∷ rule_24 f t)) k in
-    lawful_days t (hold_front (rule_21 t) (rule_23 t ++ (rule_22 f t ∷ rule_24 f t)) k) (hold_front (rule_23 t) (rule_22 f t ∷ rule_24 f t) rest)
+    let k = (all_hold (rules_of past key (Calendar c)) h).1.1.1 in
+    let rest = hold_back (rule_21 t) (rule_23 t ++ (stands 22 (overlap_at past key.school t) c.term ∷ rule_24 t (main_term_count past key.school c.year) (terms_of (the_school past key.school)))) k in
+    lawful_days t (hold_front (rule_21 t) (rule_23 t ++ (stands 22 (overlap_at past key.school t) c.term ∷ rule_24 t (main_term_count past key.school c.year) (terms_of (the_school past key.school)))) k) (hold_front (rule_23 t) (stands 22 (overlap_at past key.school t) c.term ∷ rule_24 t (main_term_count past key.school c.year) (terms_of (the_school past key.school))) rest)
 
 -- each term on file is lawful
 pub term_is_lawful : (past : List Filing) → IsLegal past → (school year number : ℕ) (t : Term) → the_term past school year number ≡ Some t → IsLawful t
@@ -96,13 +98,13 @@ worked_out past key w legal h = go (the_term past key.school w.year w.term) refl
   where
     go : (o : Option Term) → the_term past key.school w.year w.term ≡ o → CanBeWorkedOut past key w
     go None e =
-        let k = all_hold (lines_of (facts_of past key (Withdraw w)) key.school (Withdraw w)) h in
+        let k = all_hold (rules_of past key (Withdraw w)) h in
         let some = some_told (at_school key.school (term_in w.year w.term)) past
         (lacks_holds 30 (term_at past key.school w.year w.term) w.term 0 k.1.1.0) in
         let none : is_some (the_term past key.school w.year w.term) ≡ false = ap (λ (o : Option Term). is_some o) e in
         cc
     go (Some t) e =
-        let k = all_hold (lines_of (facts_of past key (Withdraw w)) key.school (Withdraw w)) h in
+        let k = all_hold (rules_of past key (Withdraw w)) h in
         let within : AllHold (rule_62 w.last (the_term past key.school w.year w.term)) =
         hold_front (rule_62 w.last (the_term past key.school w.year w.term)) (too_early 21 w.determined w.last ∷ rule_63 (facts_of past key (Withdraw w)) w.could) k.1.1.1.1.1.1.1 in
         let both = subst (λ (o : Option Term). AllHold (rule_62 w.last o)) e within in

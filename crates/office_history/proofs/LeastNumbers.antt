@@ -5,7 +5,7 @@ use Rattle.std.specs.List.{All}
 use Rattle.std.proofs.lemmas.Bool.Decides.{nat_tests}
 use Rattle.std.proofs.lemmas.List.Elements.{All-nil, All-cons, All-head, All-tail, All-weaker, All-contains}
 use Rattle.office_history.specs.Past.{OnFile, first_of_two}
-use Rattle.office_history.specs.FactsOf.{lesser_code, least_code, first_term_at}
+use Rattle.office_history.specs.Positions.{lesser_code, least_code, first_term_at}
 use Rattle.office_history.specs.Least.{NonePasses, IsLeastNumber}
 use Rattle.office_history.proofs.Among.{among_head, among_rest}
 

@@ -5,7 +5,7 @@ use Rattle.std.specs.List.{All, Contains, filter}
 use Rattle.std.proofs.lemmas.Bool.Decides.{nat_tests}
 use Rattle.std.proofs.lemmas.List.Elements.{All-nil, All-cons, All-weaker, All-contains, filter_passes}
 use Rattle.office_history.specs.Past.{OnFile}
-use Rattle.office_history.specs.FactsOf.{earlier_term, least_term}
+use Rattle.office_history.specs.Positions.{earlier_term, least_term}
 use Rattle.office_history.specs.Least.{NonePasses, IsLeastBy, is_before}
 use Rattle.office_history.proofs.Among.{among_head, among_rest, among_kept, all_that_pass, none_kept, nothing_kept}
 use Rattle.office_history.proofs.Terms.{least_none}

@@ -9,9 +9,9 @@ use Rattle.aid_filings.specs.declared.filing.Filing.{Filing}
 use Rattle.aid_filings.specs.declared.filing.What.{What}
 use Rattle.aid_filings.specs.declared.filing.What.TheVariants.{Book as BookFiled, School, Calendar, Prior, Apply, Enrol, Originate, Pay, Withdraw, Repay, Adjust}
 use Rattle.aid_types.specs.declared.award.Refusal.{Refusal}
-use Rattle.filing_rules.specs.Rules.{first_broken, lines_of}
+use Rattle.filing_rules.specs.Rules.{first_broken}
 use Rattle.office_history.specs.Past.{same_filing, same_key, first_of_two, key_at, filing_at}
-use Rattle.office_history.specs.FactsOf.{facts_of}
+use Rattle.office_history.specs.Rules.{rules_of}
 use Rattle.office_history.specs.Answer.{IsLegal, is_legal, breaks, answer_of, judged, is_admit}
 use Rattle.office_history.proofs.Cases.{answer_of-new}
 use Rattle.office_history.proofs.Oldest.{reverse-at}
@@ -70,7 +70,7 @@ room_left past f h = by (f.what) h
     first true n r rest e h = cc
     first false n r rest e h = grind (arith, nat_tests)
 
-    by : (what : What) → first_broken (lines_of (facts_of past f.key what) f.key.school what) ≡ None → length past < 200000
+    by : (what : What) → first_broken (rules_of past f.key what) ≡ None → length past < 200000
     by (BookFiled x) h = first (nat_le 200000 (length past)) (length past) _ _ refl h
     by (School x) h = first (nat_le 200000 (length past)) (length past) _ _ refl h
     by (Calendar x) h = first (nat_le 200000 (length past)) (length past) _ _ refl h

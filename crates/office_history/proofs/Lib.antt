@@ -10,6 +10,7 @@ pub mod Numbers
 pub mod Cells
 pub mod Sheets
 pub mod Steps
+pub mod LinesOf
 pub mod PayRules
 pub mod Nets
 pub mod AnyNets

@@ -15,8 +15,9 @@ use Rattle.aid_types.specs.Programs.{rank}
 use Rattle.office_history.specs.Past.{earliest, earlier, given, amount_or, prior_units, prior_in, pell_payment_in, the_book}
 use Rattle.office_history.specs.Award.{award_under, scheduled}
 use Rattle.office_history.specs.Net.{cell_of, net, paid, in_year, payments_in, pell_year, sum_over, all_years, use_in, used_else, used}
-use Rattle.filing_rules.specs.Rules.{lines_of}
-use Rattle.office_history.specs.FactsOf.{facts_of, prior_at, pell_at}
+use Rattle.office_history.specs.FactsOf.{facts_of}
+use Rattle.office_history.specs.Positions.{prior_at, pell_at}
+use Rattle.office_history.specs.Rules.{rules_of}
 use Rattle.office_history.specs.Answer.{breaks, IsLegal}
 use Rattle.office_history.proofs.Checks.{all_hold, over_holds, stands_holds}
 use Rattle.office_history.proofs.Numbers.{use_mono, use_none}
@@ -129,7 +130,7 @@ prior_step past key p ih h student = go (p.student == student) refl
         amount_or (earlier (given t p.units) (earliest (λ f. prior_in student f.what) past)) + sum_over (use_in past student) all_years ≤ 600000
     go false e = ih student
     go true e =
-        let k = all_hold (lines_of (facts_of past key (Prior p)) key.school (Prior p)) h in
+        let k = all_hold (rules_of past key (Prior p)) h in
         let s : p.student ≡ student = eqb-true p.student student e in
         let units : p.units ≤ 600000 = over_holds 81 p.units 600000 k.1.1.0 in
         let none : earliest (λ f. prior_in student f.what) past ≡ None =

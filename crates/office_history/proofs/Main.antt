@@ -16,7 +16,9 @@ use Rattle.aid_types.specs.Programs.{rank}
 use Rattle.office_history.specs.Past.{the_term, is_extra, earlier, at_school, term_in, the_book}
 use Rattle.office_history.specs.Award.{award_under, scheduled}
 use Rattle.office_history.specs.Net.{Cell, Move, cell_of, moved, paid, taken, net, net_at, in_year, in_main_terms, payments_in, takings_in, pell_year, pell_main}
-use Rattle.filing_rules.specs.Rules.{is_half_time_extra, year_limit}
+use Rattle.enrolment.specs.Terms.{intensity_of}
+use Rattle.filing_rules.specs.Rules.{is_half_time_extra}
+use Rattle.filing_rules.specs.Lines.{year_limit}
 use Rattle.office_history.specs.FactsOf.{facts_of}
 use Rattle.office_history.specs.Answer.{breaks, IsLegal}
 use Rattle.office_history.proofs.Cells.{onto_is}
@@ -190,10 +192,10 @@ main_calendar past key c h ih student year =
 -- the year's limit of a main term
 main_limit : (f : Facts) → is_extra f.term ≡ false → year_limit f ≡ 100 * f.scheduled
 main_limit f e =
-    let k : is_half_time_extra f f.term ≡ false = go f.term e in
+    let k : is_half_time_extra f.term (intensity_of f.credits f.full) ≡ false = go f.term e in
     rw k refl
   where
-    go : (o : Option Term) → is_extra o ≡ false → is_half_time_extra f o ≡ false
+    go : (o : Option Term) → is_extra o ≡ false → is_half_time_extra o (intensity_of f.credits f.full) ≡ false
     go None e = refl
     go (Some t) e = rw e refl
 

@@ -10,8 +10,8 @@ use Rattle.aid_filings.specs.declared.filing.What.TheVariants.{Book as BookFiled
 use Rattle.aid_types.specs.Programs.{rank}
 use Rattle.office_history.specs.Past.{first_of_two, at_school, if_here, given, withdrawal_in, the_term}
 use Rattle.office_history.specs.Net.{Cell, is_cell, cell_of, moved, withdrawn_cell, moves_at, paid, taken, owed, repaid, net_at, sheet, days_of, last_of}
-use Rattle.filing_rules.specs.Rules.{lines_of}
-use Rattle.office_history.specs.FactsOf.{facts_of, withdrawn_at}
+use Rattle.office_history.specs.Rules.{rules_of}
+use Rattle.office_history.specs.Positions.{withdrawn_at}
 use Rattle.office_history.specs.Answer.{breaks, IsLegal}
 use Rattle.office_history.proofs.Checks.{all_hold, over_holds, stands_holds}
 use Rattle.office_history.proofs.Cells.{onto_is, within_cell, moved_pair, SumsBelow}
@@ -85,7 +85,7 @@ room past c = (paid past (is_cell c) + repaid past (is_cell c)) - (taken past (i
 pub adjusted : (past : List Filing) (key : Key) (a : Amount) → breaks past (record { key = key; what = Adjust a }) ≡ None →
     (withdrawn_at past key.school a.student a.year a.term ≡ 0) × (a.cents ≤ net_at past (cell_of key a))
 adjusted past key a h =
-    let k = all_hold (lines_of (facts_of past key (Adjust a)) key.school (Adjust a)) h in (
+    let k = all_hold (rules_of past key (Adjust a)) h in (
       stands_holds 34 (withdrawn_at past key.school a.student a.year a.term) a.term k.1.1.1.1.0,
       over_holds 72 a.cents (net_at past (cell_of key a)) k.1.1.1.1.1.0,
     )
@@ -93,13 +93,13 @@ adjusted past key a h =
 pub repaid_within : (past : List Filing) (key : Key) (a : Amount) → breaks past (record { key = key; what = Repay a }) ≡ None →
     repaid past (is_cell (cell_of key a)) + a.cents ≤ owed past (is_cell (cell_of key a))
 repaid_within past key a h =
-    let k = all_hold (lines_of (facts_of past key (Repay a)) key.school (Repay a)) h in
+    let k = all_hold (rules_of past key (Repay a)) h in
     over_holds 70 (repaid past (is_cell (cell_of key a)) + a.cents) (owed past (is_cell (cell_of key a))) k.1.1.1.0
 
 pub withdrawn_first : (past : List Filing) (key : Key) (w : WithdrawFacts) → breaks past (record { key = key; what = Withdraw w }) ≡ None →
     withdrawn_at past key.school w.student w.year w.term ≡ 0
 withdrawn_first past key w h =
-    let k = all_hold (lines_of (facts_of past key (Withdraw w)) key.school (Withdraw w)) h in
+    let k = all_hold (rules_of past key (Withdraw w)) h in
     stands_holds 61 (withdrawn_at past key.school w.student w.year w.term) w.term k.1.1.1.1.1.1.0
 
 pub raised : (g g' : Cell → ℕ) (key : Key) (w : WithdrawFacts) → ((p : ℕ) → g (withdrawn_cell key w p) ≤ g' (withdrawn_cell key w p)) →

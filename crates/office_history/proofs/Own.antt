@@ -13,8 +13,7 @@ use Rattle.aid_filings.specs.declared.filing.What.{What}
 use Rattle.aid_filings.specs.declared.filing.What.TheVariants.{Book, School, Calendar, Prior, Apply, Enrol, Originate, Pay, Withdraw, Repay, Adjust}
 use Rattle.withdrawal_returns.specs.Worksheet.{worksheet_of}
 use Rattle.office_history.specs.Past.{the_withdrawal}
-use Rattle.office_history.specs.Net.{Cell, Move, cell_of, in_term, is_cell, moved, moves_at, net_at, owings_in, payments_after, payments_in, posts_in, repayments_in, sheet, takings_in}
-use Rattle.office_history.specs.FactsOf.{cell_at}
+use Rattle.office_history.specs.Net.{Cell, Move, cell_of, in_term, is_cell, moved, moves_at, net_at, owings_in, payments_after, payments_in, posts_in, repayments_in, sheet, takings_in, cell_at}
 use Rattle.office_history.specs.Accounts.{IsEntry, nothing}
 use Rattle.office_history.specs.Own.{IsEntryAt, IsOwnEntry, is_place, own_place}
 use Rattle.office_history.specs.declared.account.Account.{Account}

@@ -7,7 +7,8 @@ use Rattle.filing_rules.specs.declared.facts.Facts.{Facts}
 use Rattle.aid_filings.specs.declared.filing.What.TheVariants.{Pay}
 use Rattle.lifetime_ledger.specs.Used.{use_of}
 use Rattle.aid_types.specs.Programs.{rank}
-use Rattle.filing_rules.specs.Rules.{Check, over, only, lines_of, broken_of, rule_40, rule_58, rule_52, past_payment, past_year, past_fseog, past_lifetime, past_cost, payment_here, year_limit, year_of_program}
+use Rattle.filing_rules.specs.Rules.{Check, over, only}
+use Rattle.filing_rules.specs.Lines.{lines_of, broken_of, pell_lines, rule_52, past_payment, past_year, past_fseog, past_lifetime, past_cost, payment_here, year_limit}
 use Rattle.office_history.proofs.Checks.{AllHold, all_hold, over_holds, hold_front, hold_back, hold_only, lacks_holds}
 use Rattle.office_history.proofs.Numbers.{use_mono}
 
@@ -36,51 +37,45 @@ module _ (f : Facts) (key : Key) (a : Amount) where
   is_pell = rank a.program == 3
 
   abbrev l1 : List Check
-  l1 = only is_pell (rule_40 f ∷ rule_58 f key.school ∷ [])
+  l1 = only is_pell (pell_lines f key.school)
 
   abbrev l2 : List Check
   l2 = rule_52 f (rank a.program) a.cents
 
+  abbrev pell_limits : List Check
+  pell_limits = past_payment 54 f a.cents ∷ past_year 55 f a.cents ∷ past_lifetime 56 f a.cents ∷ []
+
   abbrev l3 : List Check
-  l3 = only is_pell (past_payment 54 f a.cents ∷ [])
+  l3 = only is_pell pell_limits
 
   abbrev l4 : List Check
-  l4 = year_of_program f (rank a.program) a.cents
+  l4 = only (rank a.program == 4) (past_fseog 55 f a.cents ∷ [])
 
   abbrev l5 : List Check
-  l5 = only is_pell (past_lifetime 56 f a.cents ∷ [])
-
-  abbrev l6 : List Check
-  l6 = past_cost 57 f a.cents ∷ []
+  l5 = past_cost 57 f a.cents ∷ []
 
   -- the lines after the amount's own
-  tail : broken_of f key (Pay a) ≡ None → AllHold (l1 ++ (l2 ++ (l3 ++ (l4 ++ (l5 ++ l6)))))
+  tail : broken_of f key (Pay a) ≡ None → AllHold (l1 ++ (l2 ++ (l3 ++ (l4 ++ l5))))
   tail h = (all_hold (lines_of f key.school (Pay a)) h).1.1.1.1.1.1.1
+
+  within : broken_of f key (Pay a) ≡ None → rank a.program ≡ 3 → AllHold pell_limits
+  within h e = hold_only is_pell pell_limits (eq-eqb _ _ e) (hold_front l3 (l4 ++ l5) (hold_back l2 (l3 ++ (l4 ++ l5)) (hold_back l1 (l2 ++ (l3 ++ (l4 ++ l5))) (tail h))))
 
   pub affords : broken_of f key (Pay a) ≡ None → Affords f (rank a.program) a.cents
   affords h =
-      let k1 = hold_back l1 (l2 ++ (l3 ++ (l4 ++ (l5 ++ l6)))) (tail h) in
-      let k2 = hold_back l2 (l3 ++ (l4 ++ (l5 ++ l6))) k1 in
-      let k3 = hold_back l3 (l4 ++ (l5 ++ l6)) k2 in
-      let k4 = hold_back l4 (l5 ++ l6) k3 in
-      let k5 = hold_back l5 l6 k4 in
-      let y = hold_front l4 (l5 ++ l6) k3 in
+      let k1 = hold_back l1 (l2 ++ (l3 ++ (l4 ++ l5))) (tail h) in
+      let k3 = hold_back l3 (l4 ++ l5) (hold_back l2 (l3 ++ (l4 ++ l5)) k1) in
       record {
         withdrawn = λ w.
             let q = hold_only (nat_lt 0 f.withdrawn_at) (over 52 (f.after + a.cents) (slice_index f.could (rank a.program)) ∷ over 52 (f.after_all + a.cents) f.post ∷ [])
-            (lt-ltb 0 f.withdrawn_at w) (hold_front l2 (l3 ++ (l4 ++ (l5 ++ l6))) k1) in
+            (lt-ltb 0 f.withdrawn_at w) (hold_front l2 (l3 ++ (l4 ++ l5)) k1) in
             (over_holds 52 (f.after + a.cents) (slice_index f.could (rank a.program)) q.0, over_holds 52 (f.after_all + a.cents) f.post q.1.0);
-        payment = λ e. over_holds 54 (f.pell_term + a.cents) (payment_here f)
-            (hold_only is_pell (past_payment 54 f a.cents ∷ []) (eq-eqb _ _ e) (hold_front l3 (l4 ++ (l5 ++ l6)) k2)).0;
-        year = λ e. over_holds 55 (f.pell_year + a.cents) (year_limit f)
-            (hold_only is_pell (past_year 55 f a.cents ∷ []) (eq-eqb _ _ e)
-            (hold_front (only is_pell (past_year 55 f a.cents ∷ [])) (only (rank a.program == 4) (past_fseog 55 f a.cents ∷ [])) y)).0;
+        payment = λ e. over_holds 54 (f.pell_term + a.cents) (payment_here f) (within h e).0;
+        year = λ e. over_holds 55 (f.pell_year + a.cents) (year_limit f) (within h e).1.0;
         fseog = λ e. over_holds 55 (f.fseog_year + a.cents) 400000
-            (hold_only (rank a.program == 4) (past_fseog 55 f a.cents ∷ []) (eq-eqb _ _ e)
-            (hold_back (only is_pell (past_year 55 f a.cents ∷ [])) (only (rank a.program == 4) (past_fseog 55 f a.cents ∷ [])) y)).0;
-        lifetime = λ e. over_holds 56 (f.used_else + use_of (f.pell_year + a.cents) f.scheduled) 600000
-            (hold_only is_pell (past_lifetime 56 f a.cents ∷ []) (eq-eqb _ _ e) (hold_front l5 l6 k4)).0;
-        cost = over_holds 57 (f.net_all + a.cents) (100 * f.cost) k5.0;
+            (hold_only (rank a.program == 4) (past_fseog 55 f a.cents ∷ []) (eq-eqb _ _ e) (hold_front l4 l5 k3)).0;
+        lifetime = λ e. over_holds 56 (f.used_else + use_of (f.pell_year + a.cents) f.scheduled) 600000 (within h e).1.1.0;
+        cost = over_holds 57 (f.net_all + a.cents) (100 * f.cost) (hold_back l4 l5 k3).0;
       }
 
   -- the term is on file, and Pell stands beside no other school's
@@ -89,6 +84,6 @@ module _ (f : Facts) (key : Key) (a : Amount) where
 
   pub none_beside : broken_of f key (Pay a) ≡ None → rank a.program ≡ 3 → f.other_school ≡ 0
   none_beside h e =
-      let q = hold_only is_pell (rule_40 f ∷ rule_58 f key.school ∷ []) (eq-eqb _ _ e) (hold_front l1 (l2 ++ (l3 ++ (l4 ++ (l5 ++ l6)))) (tail h)) in
+      let q = hold_only is_pell (pell_lines f key.school) (eq-eqb _ _ e) (hold_front l1 (l2 ++ (l3 ++ (l4 ++ l5))) (tail h)) in
       let n : f.other_school ≤ 0 = ltb-false 0 f.other_school q.1.0 in
       omega arith

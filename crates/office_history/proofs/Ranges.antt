@@ -6,11 +6,14 @@ use Rattle.aid_types.specs.Programs.{six}
 use Rattle.aid_types.specs.declared.number.Key.{Key}
 use Rattle.aid_filings.specs.declared.filing.What.{What}
 use Rattle.aid_filings.specs.declared.filing.What.TheVariants.{Book as BookFiled, School, Calendar, Prior, Apply, Enrol, Originate, Pay, Withdraw, Repay, Adjust}
-use Rattle.filing_rules.specs.Rules.{lines_of, rule_21, rule_22, rule_23, rule_24, where_true, only, over, too_early, rule_62, rule_63, past_payment, past_year, past_lifetime, past_fseog, past_cost}
+use Rattle.filing_rules.specs.Lines.{rule_63, past_payment, past_year, past_lifetime, past_fseog, past_cost}
+use Rattle.filing_rules.specs.Rules.{rule_21, stands, rule_23, rule_24, where_true, only, over, too_early, rule_62}
 use Rattle.aid_filings.specs.declared.filing.Filing.{Filing}
 use Rattle.office_history.specs.Past.{amount_or, at_school, cost, cost_in, credits, credits_in, earlier, earliest, given, if_here, later, latest, OnFile, terms_on_file, the_school, the_withdrawal, the_term}
 use Rattle.office_history.specs.Net.{Cell, is_cell, paid, net_at, at_school_in_year, Move, onto, cell_of, paid_after, repaid, used_else, use_in, all_years, net, taken, owed, post, sheet, days_of, last_of, withdrawn_cell}
-use Rattle.office_history.specs.FactsOf.{facts_of, terms_of}
+use Rattle.office_history.specs.FactsOf.{facts_of}
+use Rattle.office_history.specs.Positions.{terms_of}
+use Rattle.office_history.specs.Rules.{rules_of}
 use Rattle.office_history.specs.Answer.{breaks, IsLegal}
 use Rattle.office_history.proofs.Checks.{all_hold, hold_back, hold_only, AllHold, over_holds}
 use Rattle.office_history.proofs.Main.{of_sort, not_of_sort, paid_parts, taken_parts, paid_same, taken_same}
@@ -101,7 +104,7 @@ credits_in_range (f ∷ past) legal school student year term =
     go : (key : Key) (what : What) → breaks past (record { key = key; what = what }) ≡ None →
         amount_or (at_school school (credits_in student year term) (record { key = key; what = what })) ≤ 40
     go key (Enrol e) h =
-        let k = all_hold (lines_of (facts_of past key (Enrol e)) key.school (Enrol e)) h in
+        let k = all_hold (rules_of past key (Enrol e)) h in
         told_here 40 (key.school == school) (e.student == student && (e.year == year && e.term == term)) e.credits (few_credits e.credits k.1.1.1.0)
     go key (BookFiled b) h = zero-le
     go key (School b) h = zero-le
@@ -203,7 +206,7 @@ posted past key w h =
     let first = only (nat_lt 0 pell) (past_payment 63 f pell ∷ past_year 63 f pell ∷ past_lifetime 63 f pell ∷ []) in
     let second = only (nat_lt 0 fseog) (past_fseog 63 f fseog ∷ []) in
     let third = only (nat_lt 0 (sum w.could)) (past_cost 63 f (sum w.could) ∷ []) in
-    let k = (all_hold (lines_of (facts_of past key (Withdraw w)) key.school (Withdraw w)) h).1.1.1.1.1.1.1 in
+    let k = (all_hold (rules_of past key (Withdraw w)) h).1.1.1.1.1.1.1 in
     let r = hold_back (rule_62 w.last (the_term past key.school w.year w.term)) (too_early 21 w.determined w.last ∷ rule_63 f w.could) k in
     let line = hold_back second third (hold_back first (second ++ third) r.1) in
     let below = post_below (days_of (the_term past key.school w.year w.term) w.last)
@@ -265,9 +268,9 @@ main_terms_are_few (f ∷ past) legal school year = go f.key f.what legal.2 (mai
     room_for_one key c h main =
         let f = facts_of past key (Calendar c) in
         let t = term_of c in
-        let k = (all_hold (lines_of (facts_of past key (Calendar c)) key.school (Calendar c)) h).1.1.1 in
-        let after_21 = hold_back (rule_21 t) (rule_23 t ++ (rule_22 f t ∷ rule_24 f t)) k in
-        let after_23 = hold_back (rule_23 t) (rule_22 f t ∷ rule_24 f t) after_21 in
+        let k = (all_hold (rules_of past key (Calendar c)) h).1.1.1 in
+        let after_21 = hold_back (rule_21 t) (rule_23 t ++ (stands 22 f.overlap_at c.term ∷ rule_24 t f.main_terms f.terms)) k in
+        let after_23 = hold_back (rule_23 t) (stands 22 f.overlap_at c.term ∷ rule_24 t f.main_terms f.terms) after_21 in
         let line = hold_only (not c.extra) (where_true 24 (nat_le f.terms f.main_terms) f.main_terms f.terms ∷ []) main after_23.1 in
         let below = leb-false f.terms f.main_terms line.0 in
         let most = few_terms (the_school past key.school) in

@@ -16,9 +16,10 @@ use Rattle.enrolment.specs.Terms.{intensity_of, payment_of}
 use Rattle.aid_types.specs.Programs.{rank}
 use Rattle.office_history.specs.Past.{at_school, if_here, given, later, latest, earlier, amount_or, credits, credits_in, the_school, school_in, the_book, OnFile, terms_on_file}
 use Rattle.office_history.specs.Award.{award_under, scheduled}
-use Rattle.office_history.specs.Net.{is_cell, cell_of, pell_cell, paid, payments_in, pell_term}
-use Rattle.filing_rules.specs.Rules.{lines_of}
-use Rattle.office_history.specs.FactsOf.{facts_of, school_at, terms_of, full_of, payment_at, told_over, is_over, least_term, earlier_term}
+use Rattle.office_history.specs.Net.{is_cell, cell_of, cell_at, paid, payments_in, pell_term}
+use Rattle.office_history.specs.FactsOf.{facts_of}
+use Rattle.office_history.specs.Positions.{school_at, terms_of, full_of, payment_at, told_over, is_over, least_term, earlier_term}
+use Rattle.office_history.specs.Rules.{rules_of}
 use Rattle.office_history.specs.Answer.{breaks, IsLegal}
 use Rattle.office_history.proofs.Checks.{all_hold, over_holds, stands_holds}
 use Rattle.office_history.proofs.Numbers.{no_award, no_terms}
@@ -39,11 +40,11 @@ term_paid past key a ih h school student year number =
     let rule : rank a.program ≡ 3 → pell_term past key.school a.student a.year a.term + a.cents
     ≤ payment_at past (scheduled past a.student a.year) key.school a.student a.year a.term =
     (affords (facts_of past key (Pay a)) key a h).payment in
-    let x : cond (is_cell (pell_cell school student year number) (cell_of key a)) a.cents 0
+    let x : cond (is_cell (cell_at school student year number 3) (cell_of key a)) a.cents 0
     ≤ payment_at past (scheduled past student year) school student year number - pell_term past school student year number =
     within_program (λ c. payment_at past (scheduled past c.student c.year) c.school c.student c.year c.term - pell_term past c.school c.student c.year c.term)
-    (pell_cell school student year number) (cell_of key a) a.cents (λ e. let r = rule e in omega arith) in
-    let n = net_paid past key a (is_cell (pell_cell school student year number)) in
+    (cell_at school student year number 3) (cell_of key a) a.cents (λ e. let r = rule e in omega arith) in
+    let n = net_paid past key a (is_cell (cell_at school student year number 3)) in
     let old = ih school student year number in
     omega arith
 
@@ -53,7 +54,7 @@ term_kept : (past : List Filing) (key : Key) (what : What) → TermHolds past �
     ≤ payment_at (record { key = key; what = what } ∷ past) (scheduled (record { key = key; what = what } ∷ past) student year) school student year number) →
     TermHolds (record { key = key; what = what } ∷ past)
 term_kept past key what ih none up school student year number =
-    let n = net_unpaid past key what (is_cell (pell_cell school student year number)) none in
+    let n = net_unpaid past key what (is_cell (cell_at school student year number 3)) none in
     let old = ih school student year number in
     let u = up school student year number in
     omega arith
@@ -69,7 +70,7 @@ school_payment past key s h school student year number = go (s.code == school) r
         ≤ 100 * payment_of (scheduled past student year) (intensity_of (credits past school student year number) (full_of (earlier (given t s) (the_school past school)))) (terms_of (earlier (given t s) (the_school past school)))
     go false e = omega arith
     go true e =
-        let k = all_hold (lines_of (facts_of past key (School s)) key.school (School s)) h in
+        let k = all_hold (rules_of past key (School s)) h in
         let none : the_school past school ≡ None =
         subst (λ c. the_school past c ≡ None) (eqb-true s.code school e)
         (none_told (λ f. school_in s.code f.what) past (stands_holds 13 (school_at past s.code) s.code k.1.1.0)) in
@@ -96,7 +97,7 @@ term_enrolled past key e ih h school student year number = go (key.school == sch
         (intensity_of (amount_or (later (if_here a (given (b && (c && d)) e.credits)) (latest (at_school school (credits_in student year number)) past)))
         (full_of (the_school past school))) (terms_of (the_school past school))
     go true true true true p q r s =
-        let k = all_hold (lines_of (facts_of past key (Enrol e)) key.school (Enrol e)) h in
+        let k = all_hold (rules_of past key (Enrol e)) h in
         let rule : pell_term past key.school e.student e.year e.term ≤ 100 * payment_of (scheduled past e.student e.year)
         (intensity_of e.credits (full_of (the_school past key.school))) (terms_of (the_school past key.school)) =
         over_holds 33 (pell_term past key.school e.student e.year e.term) (100 * payment_of (scheduled past e.student e.year)
@@ -148,10 +149,10 @@ term_applied past key a ih filed h school student year number = go (award_by_app
     own : nat_lt (payment_at past (award_under (the_book past a.year) (Some a)) school a.student a.year number) (pell_term past school a.student a.year number) ≡ true → ⊥
     own over_it =
         let lt = ltb-true _ _ over_it in
-        let pos : 0 < paid past (is_cell (pell_cell school a.student a.year number)) = omega arith in
+        let pos : 0 < paid past (is_cell (cell_at school a.student a.year number 3)) = omega arith in
         none_pass (is_over past (award_under (the_book past a.year) (Some a)) a.student a.year) (is_term school a.year number) (terms_on_file past)
         (least_none _ (told_none past (award_under (the_book past a.year) (Some a)) a.student a.year _ (correction past key a h).terms))
-        (filed (pell_cell school a.student a.year number) pos)
+        (filed (cell_at school a.student a.year number 3) pos)
         (λ o e.
         let p = and_parts (o.school == school) _ e in
         let q = and_parts (o.year == a.year) (o.term.number == number) p.1 in

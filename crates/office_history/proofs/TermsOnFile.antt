@@ -11,9 +11,9 @@ use Rattle.aid_filings.specs.declared.filing.CalendarFacts.{CalendarFacts}
 use Rattle.aid_filings.specs.declared.filing.Filing.{Filing}
 use Rattle.aid_filings.specs.declared.filing.What.{What}
 use Rattle.aid_filings.specs.declared.filing.What.TheVariants.{Book as BookFiled, School, Calendar, Prior, Apply, Enrol, Originate, Pay, Withdraw, Repay, Adjust}
-use Rattle.filing_rules.specs.Rules.{lines_of}
 use Rattle.office_history.specs.Past.{OnFile, on_file, at_school, term_in, terms_on_file}
-use Rattle.office_history.specs.FactsOf.{facts_of, school_at, term_at, is_over, least_term}
+use Rattle.office_history.specs.Rules.{rules_of}
+use Rattle.office_history.specs.Positions.{school_at, term_at, is_over, least_term}
 use Rattle.office_history.specs.Answer.{breaks, IsLegal}
 use Rattle.office_history.specs.Least.{NonePasses, IsFiledTerm, IsLeastBy, AreOrdered, is_before}
 use Rattle.office_history.proofs.Checks.{all_hold, lacks_holds, stands_holds}
@@ -104,20 +104,20 @@ terms_filed (f ∷ past) =
 calendar_rules : (past : List Filing) (key : Key) (c : CalendarFacts) → breaks past (record { key = key; what = Calendar c }) ≡ None →
     (0 < key.school) × (term_at past key.school c.year c.term ≡ 0)
 calendar_rules past key c h =
-    let k = all_hold (lines_of (facts_of past key (Calendar c)) key.school (Calendar c)) h in (
+    let k = all_hold (rules_of past key (Calendar c)) h in (
       known_code past key.school (lacks_holds 12 (school_at past key.school) key.school 0 k.1.0),
       stands_holds 20 (term_at past key.school c.year c.term) c.term k.1.1.0,
     )
 
-rules_of : (past : List Filing) (f : Filing) (c : CalendarFacts) → breaks past f ≡ None → f.what ≡ Calendar c →
+term_rules : (past : List Filing) (f : Filing) (c : CalendarFacts) → breaks past f ≡ None → f.what ≡ Calendar c →
     (0 < f.key.school) × (term_at past f.key.school c.year c.term ≡ 0)
-rules_of past f c h e = calendar_rules past f.key c (subst (λ (what : What). breaks past (record { key = f.key; what = what }) ≡ None) e h)
+term_rules past f c h e = calendar_rules past f.key c (subst (λ (what : What). breaks past (record { key = f.key; what = what }) ≡ None) e h)
 
 pub coded_terms : (past : List Filing) → IsLegal past → All (λ t. 0 < t.school) (terms_on_file past)
 coded_terms [] h = All-nil (λ t. 0 < t.school)
 coded_terms (f ∷ past) h =
     by_calendar (λ ts. All (λ t. 0 < t.school) ts) past f
-    (λ c e. All-cons (λ t. 0 < t.school) (put_on_file past f.key c) (terms_on_file past) (rules_of past f c h.2 e).0 (coded_terms past h.0))
+    (λ c e. All-cons (λ t. 0 < t.school) (put_on_file past f.key c) (terms_on_file past) (term_rules past f c h.2 e).0 (coded_terms past h.0))
     (coded_terms past h.0)
 
 -- a term that isn't there is none of those on file
@@ -152,7 +152,7 @@ pub year_ordered : (past : List Filing) → IsLegal past → (year : ℕ) → Ar
 year_ordered [] h year = λ x y hx hy px py a b. absurd (omega (arith, hx.1))
 year_ordered (f ∷ past) h year =
     by_calendar (λ ts. AreOrdered is_before (λ t. t.year == year) ts) past f
-    (λ c e x y hx hy px py a b. go c (rules_of past f c h.2 e).1 (year_ordered past h.0 year) x y
+    (λ c e x y hx hy px py a b. go c (term_rules past f c h.2 e).1 (year_ordered past h.0 year) x y
     (among_cases (put_on_file past f.key c) (terms_on_file past) x hx) (among_cases (put_on_file past f.key c) (terms_on_file past) y hy) px py a b)
     (year_ordered past h.0 year)
   where

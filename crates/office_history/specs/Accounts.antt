@@ -4,8 +4,7 @@ use Rattle.aid_types.specs.Programs.{plus, six}
 use Rattle.aid_types.specs.declared.number.Key.{Key}
 use Rattle.aid_filings.specs.declared.filing.Filing.{Filing}
 use Rattle.aid_filings.specs.declared.filing.What.{What}
-use Rattle.office_history.specs.Net.{is_cell, in_term, moved, net_at, paid, taken, owed, repaid, post, paid_after, payments_in, takings_in, owings_in, repayments_in, payments_after, posts_in}
-use Rattle.office_history.specs.FactsOf.{cell_at}
+use Rattle.office_history.specs.Net.{is_cell, in_term, moved, net_at, paid, taken, owed, repaid, post, paid_after, payments_in, takings_in, owings_in, repayments_in, payments_after, posts_in, cell_at}
 use Rattle.office_history.specs.declared.account.Account.{Account}
 
 -- by program the sums of what moved at its cell, and the sums over all programs of the term

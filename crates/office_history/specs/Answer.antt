@@ -18,15 +18,15 @@ use Rattle.aid_replies.specs.declared.reply.Verdict.{Verdict}
 use Rattle.aid_replies.specs.declared.reply.Verdict.TheVariants.{Again, Refused, Admit, Quoted, Standing}
 use Rattle.sai_index.specs.Formulas.{formula}
 use Rattle.filing_rules.specs.Quote.{greatest_payment}
-use Rattle.filing_rules.specs.Rules.{broken_of}
+use Rattle.filing_rules.specs.Rules.{first_broken}
 use Rattle.office_history.specs.Past.{key_at, filing_at, the_book, application}
 use Rattle.pell_schedule.specs.Award.{decision_of}
 use Rattle.office_history.specs.Net.{net, in_year, pell_year, sheet, used}
-use Rattle.office_history.specs.FactsOf.{facts_of, payment_facts}
+use Rattle.office_history.specs.Rules.{rules_of, payment_rules}
 
 -- the first rule that a filing breaks after the filings past
 abbrev pub breaks : List Filing → Filing → Option Refusal
-breaks past f = broken_of (facts_of past f.key f.what) f.key f.what
+breaks past f = first_broken (rules_of past f.key f.what)
 
 -- no key stands twice, and each filing breaks no rule on those before it
 abbrev pub IsLegal : List Filing → Type 0
@@ -87,7 +87,7 @@ answer_of past f = answer_at past f (filing_at f past)
 
 -- the quote in cents: the greatest whole-dollar Pell payment that a school could file under a new key, 0 where there is none
 abbrev pub quote_of : List Filing → ℕ → ℕ → ℕ → ℕ → ℕ
-quote_of past school student year term = greatest_payment (payment_facts past school student year term 3) school student year term
+quote_of past school student year term = greatest_payment (payment_rules past school student year term 3)
 
 -- where a student stands in a year
 abbrev pub standing_under : Option Book → Option Application → ℕ → ℕ → StandingRow

@@ -1,9 +1,10 @@
-pub use Rattle.filing_rules.specs.Rules
 pub mod Places
 pub mod Past
 pub mod Award
 pub mod Net
 pub mod Sheets
+pub mod Positions
+pub mod Rules
 pub mod FactsOf
 pub mod Answer
 pub mod Within

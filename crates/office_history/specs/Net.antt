@@ -32,6 +32,10 @@ pub record Move : Type 0 where
 abbrev pub cell_of : Key → Amount → Cell
 cell_of key a = record { student = a.student; school = key.school; year = a.year; term = a.term; program = rank a.program }
 
+-- the cell of a student's program in a term of a school's year
+abbrev pub cell_at : ℕ → ℕ → ℕ → ℕ → ℕ → Cell
+cell_at school student year term program = record { student = student; school = school; year = year; term = term; program = program }
+
 abbrev pub is_cell : Cell → Cell → Bool
 is_cell c d =
     d.student == c.student && (d.school == c.school && (d.year == c.year && (d.term == c.term && d.program == c.program)))
@@ -156,12 +160,9 @@ in_term school student year term c =
 abbrev pub at_school_in_year : ℕ → ℕ → ℕ → Cell → Bool
 at_school_in_year school student year c = c.school == school && (c.student == student && c.year == year)
 
-abbrev pub pell_cell : ℕ → ℕ → ℕ → ℕ → Cell
-pell_cell school student year term = record { student = student; school = school; year = year; term = term; program = 3 }
-
 -- net Pell of a term, of the year, of the year's main terms
 abbrev pub pell_term : List Filing → ℕ → ℕ → ℕ → ℕ → ℕ
-pell_term past school student year term = net_at past (pell_cell school student year term)
+pell_term past school student year term = net_at past (cell_at school student year term 3)
 
 abbrev pub pell_year : List Filing → ℕ → ℕ → ℕ
 pell_year past student year = net past (in_year student year 3)

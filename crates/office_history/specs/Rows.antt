@@ -9,8 +9,8 @@ use Rattle.aid_filings.specs.declared.filing.What.TheVariants.{Enrol}
 use Rattle.aid_types.specs.Programs.{six}
 use Rattle.enrolment.specs.Terms.{shares_day}
 use Rattle.office_history.specs.Award.{scheduled}
-use Rattle.office_history.specs.FactsOf.{cell_at, cost_at, could_of, first_term_at, full_of, pell_at, prior_at, school_at, term_at, terms_of, withdrawn_at}
-use Rattle.office_history.specs.Net.{at_school_in_year, in_term, in_year, is_cell, net, owed, paid, paid_after, pell_main, post, repaid, taken, used}
+use Rattle.office_history.specs.Net.{cell_at, at_school_in_year, in_term, in_year, is_cell, net, owed, paid, paid_after, pell_main, post, repaid, taken, used}
+use Rattle.office_history.specs.Positions.{cost_at, could_of, first_term_at, full_of, pell_at, prior_at, school_at, term_at, terms_of, withdrawn_at}
 use Rattle.office_history.specs.Past.{application, cost, credits, terms_on_file, the_school, the_term, the_withdrawal}
 use Rattle.office_history.specs.declared.account.Account.{Account}
 use Rattle.office_history.specs.declared.rows.CalendarRow.{CalendarRow}

@@ -6,7 +6,7 @@ use Rattle.enrolment.specs.Terms.{shares_day}
 use Rattle.office_history.specs.Past.{cost, the_term}
 use Rattle.office_history.specs.Award.{scheduled}
 use Rattle.office_history.specs.Net.{Cell, net, paid, taken, pell_term, pell_year, pell_main, in_year, at_school_in_year, used}
-use Rattle.office_history.specs.FactsOf.{payment_at}
+use Rattle.office_history.specs.Positions.{payment_at}
 
 pub record IsWithinEveryLimit (past : List Filing) : Type 0 where
   pub term : (school student year number : ℕ) →

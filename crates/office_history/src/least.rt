@@ -5,7 +5,7 @@ ghost use Rattle.std.specs.List.{All, filter};
 ghost use Rattle.aid_filings.specs.declared.filing.Filing.{Filing};
 ghost use Rattle.office_history.specs.Past.{OnFile, first_at, terms_on_file};
 ghost use Rattle.office_history.specs.Net.{pell_term};
-ghost use Rattle.office_history.specs.FactsOf.{first_term_at, least_code, least_term, is_over, payment_at, term_over};
+ghost use Rattle.office_history.specs.Positions.{first_term_at, least_code, least_term, is_over, payment_at, term_over};
 ghost use Rattle.office_history.specs.Answer.{IsLegal};
 ghost use Rattle.office_history.specs.Least.{NonePasses, IsLeastBy, IsLeastNumber, AreOrdered, IsFirst, IsFiledTerm, is_before};
 

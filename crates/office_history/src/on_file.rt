@@ -3,7 +3,7 @@ ghost use Rattle.std.specs.Prelude.{◌≡◌, ◌+◌, ◌*◌, ◌≤◌, ℕ,
 ghost use Rattle.std.specs.Option.{option_copied};
 ghost use Rattle.aid_filings.specs.declared.filing.Filing.{Filing as Filed};
 ghost use Rattle.office_history.specs.Answer.{IsLegal, outcome_at};
-ghost use Rattle.office_history.specs.FactsOf.{book_at as book_position, is_paid_beside, least_code, term_over};
+ghost use Rattle.office_history.specs.Positions.{book_at as book_position, is_paid_beside, least_code, term_over};
 ghost use Rattle.office_history.specs.Past.{key_at as key_position, terms_on_file, the_book};
 ghost use Rattle.office_history.specs.Rows.{calendar_row, enrolments_of, filing_in, place_row, school_row, school_year_row, student_row, term_row, terms_at, year_row};
 

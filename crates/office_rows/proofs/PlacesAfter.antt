@@ -9,8 +9,8 @@ use Rattle.aid_filings.specs.declared.filing.What.{What}
 use Rattle.aid_filings.specs.declared.filing.What.TheVariants.{Book as BookFiled, School, Calendar, Prior, Apply, Enrol, Originate, Pay, Withdraw, Repay, Adjust}
 use Rattle.aid_filings.specs.declared.filing.WithdrawFacts.{WithdrawFacts}
 use Rattle.office_history.specs.Answer.{IsLegal, breaks}
-use Rattle.office_history.specs.FactsOf.{cell_at, could_of, withdrawn_at}
-use Rattle.office_history.specs.Net.{in_term, moved}
+use Rattle.office_history.specs.Net.{cell_at, in_term, moved}
+use Rattle.office_history.specs.Positions.{could_of, withdrawn_at}
 use Rattle.office_history.specs.Past.{amount_or, at_school, credits_in, earlier, first_of_two, given, if_here, later, latest, the_withdrawal, withdrawal_in}
 use Rattle.office_history.proofs.Asked.{none_told}
 use Rattle.office_history.proofs.Nets.{withdrawn_first}

@@ -1,7 +1,8 @@
 -- What a filing changes of a student's year at a school.
-use Rattle.std.proofs.Common.{◌≡◌, ℕ, ◌+◌, ◌-◌, ◌≤◌, inl, inr, refl, sym, ap, subst, ◌∙◌, arith, Bool, true, List, ◌∷◌, length, Option, Some, None, eq-eqb}
+use Rattle.std.proofs.Common.{◌≡◌, ℕ, ◌+◌, ◌-◌, ◌≤◌, inl, inr, refl, sym, ap, subst, ◌∙◌, arith, cond, Bool, true, false, zero-le, List, ◌∷◌, length, Option, Some, None, eq-eqb}
 use Rattle.std.specs.Prelude.{◌==◌, sum, is_some}
 use Rattle.aid_types.specs.Ranges.{EachIsCents}
+use Rattle.aid_types.specs.Programs.{six}
 use Rattle.aid_types.specs.declared.number.Key.{Key}
 use Rattle.aid_filings.specs.declared.filing.Amount.{Amount}
 use Rattle.aid_filings.specs.declared.filing.Filing.{Filing}
@@ -9,10 +10,10 @@ use Rattle.aid_filings.specs.declared.filing.OriginateFacts.{OriginateFacts}
 use Rattle.aid_filings.specs.declared.filing.What.{What}
 use Rattle.aid_filings.specs.declared.filing.What.TheVariants.{Originate, Pay, Withdraw, Repay, Adjust}
 use Rattle.aid_filings.specs.declared.filing.WithdrawFacts.{WithdrawFacts}
-use Rattle.filing_rules.specs.Rules.{lines_of}
 use Rattle.office_history.specs.Answer.{IsLegal, breaks}
-use Rattle.office_history.specs.FactsOf.{cell_at, cost_at, facts_of}
-use Rattle.office_history.specs.Net.{Cell, at_school_in_year, is_cell, moved, net, net_at, paid, payments_in, taken, takings_in}
+use Rattle.office_history.specs.Net.{cell_at, cell_of, Cell, at_school_in_year, is_cell, moved, net, net_at, paid, payments_in, taken, takings_in}
+use Rattle.office_history.specs.Positions.{cost_at}
+use Rattle.office_history.specs.Rules.{rules_of}
 use Rattle.office_history.specs.Past.{amount_or, at_school, cost_in, earlier, earliest, first_of_two}
 use Rattle.office_history.proofs.AnyNets.{any_net_stands}
 use Rattle.office_history.proofs.Asked.{none_told}
@@ -37,7 +38,7 @@ use Rattle.office_rows.proofs.RowNames.{IsSchoolYearWritten, school_year_written
 cost_first : (past : List Filing) (key : Key) (o : OriginateFacts) → breaks past (record { key = key; what = Originate o }) ≡ None →
     cost_at past key.school o.student o.year ≡ 0
 cost_first past key o h =
-    let k = all_hold (lines_of (facts_of past key (Originate o)) key.school (Originate o)) h in
+    let k = all_hold (rules_of past key (Originate o)) h in
     stands_holds 41 (cost_at past key.school o.student o.year) o.year k.1.1.1.0
 
 -- a student's year at a school is its own
@@ -196,6 +197,26 @@ pub withdraw-cents : (past : List Filing) (f : Filing) (w : WithdrawFacts) (e : 
 withdraw-cents past f w e is =
     subst (λ (what : What). IsLegal (record { key = f.key; what = what } ∷ past) → IsOwnEntry past f.key what e → EachIsCents e.taken) (sym is)
     (cents-filed past f.key w e)
+
+-- a payment pays no more than an amount may be, and a repayment and an adjustment pay nothing
+pub amount-cents : (past : List Filing) (f : Filing) (a : Amount) (e : Account) → IsAmount f.what a → IsOwnEntry past f.key f.what e → EachIsCents e.paid
+amount-cents past f a e is k = by is
+  where
+    below : (b : Bool) → cond b a.cents 0 + 0 ≤ 99999999
+    below true = let few = a.in_range.1 in omega arith
+    below false = omega arith
+
+    within : (what : What) → ((p : ℕ) → moved (is_cell (cell_at f.key.school a.student a.year a.term p)) (payments_in f.key what) ≤ 99999999) →
+        e.paid ≡ six (λ p. moved (is_cell (cell_at f.key.school a.student a.year a.term p)) (payments_in f.key what)) → EachIsCents e.paid
+    within what few same = rw same (six-cents (λ p. moved (is_cell (cell_at f.key.school a.student a.year a.term p)) (payments_in f.key what)) few)
+
+    own : (what : What) → f.what ≡ what → IsOwnEntry past f.key what e
+    own what same = subst (λ (w : What). IsOwnEntry past f.key w e) same k
+
+    by : IsAmount f.what a → EachIsCents e.paid
+    by (inl pays) = within (Pay a) (λ p. below (is_cell (cell_at f.key.school a.student a.year a.term p) (cell_of f.key a))) (own (Pay a) pays).paid
+    by (inr (inl repays)) = within (Repay a) (λ p. zero-le) (own (Repay a) repays).paid
+    by (inr (inr adjusts)) = within (Adjust a) (λ p. zero-le) (own (Adjust a) adjusts).paid
 
 -- a pair that is the name and the row
 pub year_placed : (past : List Filing) (f : Filing) (own : StudentSchoolYear) (row : SchoolYearRow) (r : StudentSchoolYear × SchoolYearRow) →

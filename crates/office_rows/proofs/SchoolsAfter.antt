@@ -8,9 +8,9 @@ use Rattle.aid_filings.specs.declared.filing.Filing.{Filing}
 use Rattle.aid_filings.specs.declared.filing.SchoolFacts.{SchoolFacts}
 use Rattle.aid_filings.specs.declared.filing.What.{What}
 use Rattle.aid_filings.specs.declared.filing.What.TheVariants.{School}
-use Rattle.filing_rules.specs.Rules.{lines_of}
 use Rattle.office_history.specs.Answer.{IsLegal, breaks}
-use Rattle.office_history.specs.FactsOf.{facts_of, full_of, school_at, terms_of}
+use Rattle.office_history.specs.Rules.{rules_of}
+use Rattle.office_history.specs.Positions.{full_of, school_at, terms_of}
 use Rattle.office_history.specs.Past.{earlier, first_of_two, given, school_in, the_school}
 use Rattle.office_history.proofs.Asked.{none_told}
 use Rattle.office_history.proofs.Checks.{all_hold, stands_holds}
@@ -23,7 +23,7 @@ use Rattle.office_rows.proofs.RowNames.{picked}
 -- a school that breaks no rule is filed for the first time
 school_first : (past : List Filing) (key : Key) (s : SchoolFacts) → breaks past (record { key = key; what = School s }) ≡ None → school_at past s.code ≡ 0
 school_first past key s h =
-    let k = all_hold (lines_of (facts_of past key (School s)) key.school (School s)) h in
+    let k = all_hold (rules_of past key (School s)) h in
     stands_holds 13 (school_at past s.code) s.code k.1.1.0
 
 -- the position of what comes next is small

@@ -10,9 +10,9 @@ use Rattle.aid_filings.specs.declared.filing.Filing.{Filing}
 use Rattle.aid_filings.specs.declared.filing.PriorFacts.{PriorFacts}
 use Rattle.aid_filings.specs.declared.filing.What.{What}
 use Rattle.aid_filings.specs.declared.filing.What.TheVariants.{Book as BookFiled, School, Calendar, Prior, Apply, Enrol, Originate, Pay, Withdraw, Repay, Adjust}
-use Rattle.filing_rules.specs.Rules.{lines_of}
 use Rattle.office_history.specs.Answer.{IsLegal, breaks}
-use Rattle.office_history.specs.FactsOf.{facts_of, pell_at, prior_at}
+use Rattle.office_history.specs.Rules.{rules_of}
+use Rattle.office_history.specs.Positions.{pell_at, prior_at}
 use Rattle.office_history.specs.Net.{all_years, sum_over, use_in, used}
 use Rattle.office_history.specs.Past.{amount_or, earliest, earlier, first_of_two, given, prior_in, prior_units}
 use Rattle.office_history.proofs.Asked.{none_told}
@@ -202,7 +202,7 @@ student_prior_written past f p n row named is legal sound at =
   where
     go : (key : Key) → breaks past (record { key = key; what = Prior p }) ≡ None → IsStudentAfter past (record { key = key; what = Prior p }) (Some (n, row))
     go key rule =
-        let k = all_hold (lines_of (facts_of past key (Prior p)) key.school (Prior p)) rule in
+        let k = all_hold (rules_of past key (Prior p)) rule in
         let first : prior_at past p.student ≡ 0 = stands_holds 80 (prior_at past p.student) p.student k.1.1.1.0 in
         let none : earliest (λ g. prior_in p.student g.what) past ≡ None = none_told (λ g. prior_in p.student g.what) past first in
         let same : (p.student == p.student) ≡ true = eq-eqb p.student p.student refl in
@@ -221,7 +221,7 @@ student_prior_written past f p n row named is legal sound at =
 pub prior_fits : (past : List Filing) (f : Filing) (p : PriorFacts) → f.what ≡ Prior p → breaks past f ≡ None → p.units ≤ 600000
 prior_fits past f p is sound =
     let rule : breaks past (record { key = f.key; what = Prior p }) ≡ None = subst (λ (g : Filing). breaks past g ≡ None) (of_kind f (Prior p) is) sound in
-    let k = all_hold (lines_of (facts_of past f.key (Prior p)) f.key.school (Prior p)) rule in
+    let k = all_hold (rules_of past f.key (Prior p)) rule in
     over_holds 81 p.units 600000 k.1.1.0
 
 -- ---- all other kinds

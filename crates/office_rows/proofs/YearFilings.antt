@@ -12,11 +12,11 @@ use Rattle.aid_filings.specs.declared.filing.Filing.{Filing}
 use Rattle.aid_filings.specs.declared.filing.WithdrawFacts.{WithdrawFacts}
 use Rattle.aid_filings.specs.declared.filing.What.{What}
 use Rattle.aid_filings.specs.declared.filing.What.TheVariants.{Book as BookFiled, School, Calendar, Prior, Apply, Enrol, Originate, Pay, Withdraw, Repay, Adjust}
-use Rattle.filing_rules.specs.declared.facts.Facts.{Facts}
-use Rattle.filing_rules.specs.Rules.{lines_of, only, told, rule_10, rule_12, rule_91, rule_93}
+use Rattle.filing_rules.specs.Rules.{lacks, only, told, rule_91}
+use Rattle.office_history.specs.Rules.{rule_93, rules_of}
 use Rattle.office_history.specs.Answer.{IsLegal, breaks}
-use Rattle.office_history.specs.Award.{award_under}
-use Rattle.office_history.specs.FactsOf.{book_at, facts_of, transaction_of}
+use Rattle.office_history.specs.Award.{award_under, unfit_under}
+use Rattle.office_history.specs.Positions.{award_filed, book_at, school_at, transaction_of}
 use Rattle.office_history.specs.Net.{Cell, in_main_terms, in_year, net, paid, pell_main, sheet, taken}
 use Rattle.office_history.specs.Past.{application, at_school, book_in, earlier, given, higher, is_extra, term_in, the_book, the_term}
 use Rattle.office_history.proofs.AnyNets.{any_net_stands}
@@ -142,10 +142,10 @@ applied_changes past f a is s y off =
 book_stands : (past : List Filing) (key : Key) (a : Application) → breaks past (record { key = key; what = Apply a }) ≡ None →
     is_some (the_book past a.year) ≡ true
 book_stands past key a rule =
-    let f : Facts = facts_of past key (Apply a) in
-    let k = all_hold (lines_of (facts_of past key (Apply a)) key.school (Apply a)) rule in
-    let r = hold_back (only (nat_lt 0 key.school) (rule_12 (facts_of past key (Apply a)) key.school ∷ []))
-    (rule_10 (facts_of past key (Apply a)) a.year ∷ told (facts_of past key (Apply a)).unfit ++ (rule_91 (facts_of past key (Apply a)) a.transaction ∷ rule_93 (facts_of past key (Apply a)))) k.1 in
+    let k = all_hold (rules_of past key (Apply a)) rule in
+    let r = hold_back (only (nat_lt 0 key.school) (lacks 12 (school_at past key.school) key.school 0 ∷ []))
+    (lacks 10 (book_at past a.year) a.year 0 ∷ told (unfit_under (the_book past a.year) a)
+    ++ (rule_91 a.transaction (transaction_of (application past a.student a.year)) ∷ rule_93 past a.student a.year (award_filed past a))) k.1 in
     some_told (λ g. book_in a.year g.what) past (lacks_holds 10 (book_at past a.year) a.year 0 r.0)
 
 -- so without a book none is in force

@@ -7,8 +7,7 @@ use Rattle.aid_filings.specs.declared.filing.Filing.{Filing}
 use Rattle.aid_filings.specs.declared.filing.WithdrawFacts.{WithdrawFacts}
 use Rattle.aid_filings.specs.declared.filing.What.{What}
 use Rattle.office_history.specs.Answer.{IsLegal}
-use Rattle.office_history.specs.FactsOf.{cell_at}
-use Rattle.office_history.specs.Net.{Cell, Move, in_main_terms, in_year, is_cell, moved, moves_at, net, net_at, paid, payments_in, pell_main, taken, takings_in}
+use Rattle.office_history.specs.Net.{cell_at, Cell, Move, in_main_terms, in_year, is_cell, moved, moves_at, net, net_at, paid, payments_in, pell_main, taken, takings_in}
 use Rattle.office_history.specs.Past.{is_extra, the_term}
 use Rattle.office_history.proofs.AnyNets.{any_net_stands}
 use Rattle.office_history.proofs.Cells.{onto_is}

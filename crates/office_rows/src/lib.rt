@@ -11,4 +11,4 @@ pub use after_places::place_after;
 pub use after_schools::{school_after, school_year_after};
 pub use after_years::{student_after, year_after};
 pub use changed::{place_changed, school_year_changed, student_changed, year_changed};
-pub use uncounted::{book_of, place_of, school_of, school_year_of, term_of};
+pub use uncounted::{place_of, school_of, school_year_of, term_of};

@@ -1,10 +1,7 @@
 //! What is on file, asked where no looks are counted.
 ghost use Rattle.std.specs.Prelude.{◌≡◌, ◌<◌};
-ghost use Rattle.std.specs.Option.{option_copied};
-ghost use Rattle.office_history.specs.Past.{the_book};
 ghost use Rattle.office_history.specs.Rows.{place_row, school_row, school_year_row, term_row};
 
-use aid_books::Book;
 use aid_types::{School, Student, Year};
 use office_history::{OnFile, PlaceRow, SchoolRow, SchoolYearRow, TermRow};
 use std::marker::Brand;
@@ -18,22 +15,6 @@ fn blank_steps<L: Ledger>(blank: Blank) -> Steps<L>
     requires some { 0 < blank.parts }
 {
     Steps::<L>::new(blank)
-}
-
-fn book_on<'a, P: OnFile, L: Ledger>(past: &'a P, year: Year, blank: Blank) -> Option<&'a Book>
-    requires name { blank.name ≡ L.name }
-    requires parts { blank.parts ≡ L.parts }
-    requires some { 0 < blank.parts }
-    ensures { option_copied result ≡ the_book (P.history past.now) year }
-{
-    past.book(year, &mut blank_steps::<L>(blank))
-}
-
-/// A year's book.
-pub fn book_of<P: OnFile>(past: &P, year: Year) -> Option<&Book>
-    ensures { option_copied result ≡ the_book (P.history past.now) year }
-{
-    book_on::<P, Brand>(past, year, Blank::new(1))
 }
 
 fn term_on<P: OnFile, L: Ledger>(

@@ -1,7 +1,7 @@
 -- The most whole dollars within all that bounds them.
 use Rattle.std.proofs.Common.{◌≡◌, ℕ, ◌+◌, ◌*◌, ◌≤◌, ◌<◌, min, arith, slice_index}
 use Rattle.filing_rules.specs.declared.facts.Facts.{Facts}
-use Rattle.filing_rules.specs.Rules.{payment_here, year_limit}
+use Rattle.filing_rules.specs.Lines.{payment_here, year_limit}
 use Rattle.lifetime_ledger.specs.Used.{use_of}
 use Rattle.pell_quote.specs.Limits.{IsAffordable, IsMostDollars, IsWithinLimits, IsWithinPost}
 

@@ -3,7 +3,8 @@ use Rattle.std.proofs.Common.{◌≡◌, ℕ, ◌*◌, ◌≤◌, ◌<◌, min, 
 use Rattle.std.proofs.lemmas.Grind.{common_steps}
 use Rattle.aid_types.specs.declared.award.Refusal.{Refusal}
 use Rattle.filing_rules.specs.declared.facts.Facts.{Facts}
-use Rattle.filing_rules.specs.Rules.{first_broken, payment_lines}
+use Rattle.filing_rules.specs.Rules.{first_broken}
+use Rattle.filing_rules.specs.Lines.{payment_lines}
 use Rattle.filing_rules.specs.Quote.{is_payable, greatest_payment}
 use Rattle.pell_quote.specs.Limits.{MayBePaid, IsAffordable, IsMostDollars}
 use Rattle.pell_quote.proofs.Greatest.{greatest_is}
@@ -38,19 +39,19 @@ module _ (f : Facts) (school student year term : ℕ) where
 
   -- where it may be paid, the most affordable dollars are the greatest payment, up to what a filing may hold
   pub greatest_within : (most : ℕ) → MayBePaid f → IsMostDollars (IsAffordable f) most →
-      greatest_payment f school student year term ≡ 100 * min most 999999
+      greatest_payment (payment_lines f school student year term 3) ≡ 100 * min most 999999
   unfolding greatest_payment
   greatest_within most may is_most =
       ap (λ (n : ℕ). 100 * n)
-      (greatest_is (is_payable f school student year term) (min most 999999) 999999 (omega arith)
+      (greatest_is (is_payable (payment_lines f school student year term 3)) (min most 999999) 999999 (omega arith)
       (λ pos. ap is_none (pays (min most 999999) pos may ((is_most (min most 999999) pos).0 (omega arith))))
       (λ n above le. not_none (first_broken (payment_lines f school student year term 3 (100 * n)))
       (λ h. let k : n ≤ most = (is_most n (omega arith)).1 (within (100 * n) h) in absurd (omega arith))))
 
   -- where it may not, no payment is left
-  pub greatest_none : (MayBePaid f → ⊥) → greatest_payment f school student year term ≡ 0
+  pub greatest_none : (MayBePaid f → ⊥) → greatest_payment (payment_lines f school student year term 3) ≡ 0
   unfolding greatest_payment
   greatest_none may_not =
       ap (λ (n : ℕ). 100 * n)
-      (greatest_is (is_payable f school student year term) 0 999999 (omega arith) (λ pos. absurd (omega arith))
+      (greatest_is (is_payable (payment_lines f school student year term 3)) 0 999999 (omega arith) (λ pos. absurd (omega arith))
       (λ n above le. not_none (first_broken (payment_lines f school student year term 3 (100 * n))) (λ h. may_not (stands (100 * n) h))))

@@ -2,7 +2,7 @@
 use Rattle.std.specs.Prelude.{◌≡◌, ◌≤◌, ◌<◌, ◌↔◌, ◌+◌, ◌*◌, ℕ, slice_index}
 use Rattle.lifetime_ledger.specs.Used.{use_of}
 use Rattle.filing_rules.specs.declared.facts.Facts.{Facts}
-use Rattle.filing_rules.specs.Rules.{payment_here, year_limit}
+use Rattle.filing_rules.specs.Lines.{payment_here, year_limit}
 
 -- What a Pell payment of any amount asks: room in the office; the school, the term, an application and an origination on
 -- file; a student who is enrolled and is awarded Pell; no Pell paid for a term of another school that shares a day.

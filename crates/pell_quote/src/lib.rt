@@ -6,7 +6,8 @@ mod limits;
 ghost use Rattle.std.specs.Prelude.{◌≡◌, ◌≤◌, ◌<◌, ◌*◌, ℕ, None};
 ghost use Rattle.filing_rules.specs.InRange.{AreFactsInRange};
 ghost use Rattle.filing_rules.specs.Quote.{greatest_payment};
-ghost use Rattle.filing_rules.specs.Rules.{first_broken, payment_lines};
+ghost use Rattle.filing_rules.specs.Rules.{first_broken};
+ghost use Rattle.filing_rules.specs.Lines.{payment_lines};
 
 use aid_types::{School, Student, Year};
 use filing_rules::Facts;
@@ -20,7 +21,7 @@ const MOST_DOLLARS: u64 = 999_999;
 /// them, and no rule reads the names themselves.
 pub fn quote(f: &Facts, school: School, student: Student, year: Year, term: u8) -> u64
     requires in_range { AreFactsInRange f.now }
-    ensures value { result ≡ greatest_payment f.now school student year term }
+    ensures value { result ≡ greatest_payment (payment_lines f.now school student year term 3) }
     ensures payable { 0 < result → first_broken (payment_lines f.now school student year term 3 result) ≡ None }
     // Each smaller payment of whole dollars breaks no rule either.
     ensures below { (dollars : ℕ) → 0 < dollars → 100 * dollars ≤ result

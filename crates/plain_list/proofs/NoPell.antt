@@ -9,7 +9,7 @@ use Rattle.aid_filings.specs.declared.filing.What.{What}
 use Rattle.aid_filings.specs.declared.filing.What.TheVariants.{Pay}
 use Rattle.lifetime_ledger.specs.Used.{use_of}
 use Rattle.office_history.specs.Award.{scheduled}
-use Rattle.office_history.specs.FactsOf.{pell_at}
+use Rattle.office_history.specs.Positions.{pell_at}
 use Rattle.office_history.specs.Net.{all_years, in_year, onto, paid, payments_in, pell_year, sum_over, use_in}
 use Rattle.office_history.specs.Past.{pell_payment_in}
 use Rattle.office_history.proofs.Nets.{none_before}

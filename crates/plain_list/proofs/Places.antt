@@ -7,7 +7,7 @@ use Rattle.aid_filings.specs.declared.filing.Filing.{Filing}
 use Rattle.aid_filings.specs.declared.filing.What.{What}
 use Rattle.aid_filings.specs.declared.filing.What.TheVariants.{Book as BookFiled, School, Calendar, Prior, Apply, Enrol, Originate, Pay, Withdraw, Repay, Adjust}
 use Rattle.office_history.specs.Past.{OnFile, on_file, terms_on_file}
-use Rattle.office_history.specs.FactsOf.{earlier_term, is_paid_beside, least_code, least_term, lesser_code, payment_at, told_over}
+use Rattle.office_history.specs.Positions.{earlier_term, is_paid_beside, least_code, least_term, lesser_code, payment_at, told_over}
 use Rattle.office_history.specs.Net.{pell_term}
 use Rattle.plain_list.specs.Terms.{calendar_in, earlier_place, first_place, on_file_at, place_of}
 

@@ -5,7 +5,7 @@ use Rattle.aid_filings.specs.declared.filing.CalendarFacts.{CalendarFacts}
 use Rattle.aid_filings.specs.declared.filing.What.{What}
 use Rattle.aid_filings.specs.declared.filing.What.TheVariants.{Calendar}
 use Rattle.std.specs.List.{filter}
-use Rattle.office_history.specs.FactsOf.{least_term}
+use Rattle.office_history.specs.Positions.{least_term}
 use Rattle.office_history.specs.Past.{OnFile}
 
 -- the calendar that is filed

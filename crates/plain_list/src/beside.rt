@@ -3,7 +3,7 @@ ghost use Rattle.std.specs.Prelude.{◌≡◌, ℕ, ◌≤◌, ◌∷◌, true, 
 ghost use Rattle.std.specs.Option.{option_copied};
 ghost use Rattle.aid_filings.specs.declared.filing.Filing.{Filing as AnyFiling};
 ghost use Rattle.office_history.specs.Answer.{IsLegal};
-ghost use Rattle.office_history.specs.FactsOf.{is_over as is_over_of, is_paid_beside as is_paid_beside_of, least_code, lesser_code, payment_at as payment_of_term, term_over as term_over_of};
+ghost use Rattle.office_history.specs.Positions.{is_over as is_over_of, is_paid_beside as is_paid_beside_of, least_code, lesser_code, payment_at as payment_of_term, term_over as term_over_of};
 ghost use Rattle.office_history.specs.Past.{terms_on_file};
 ghost use Rattle.plain_list.specs.Terms.{calendar_in as calendar_filed, earlier_place, first_place, on_file_at};
 

@@ -4,7 +4,7 @@ ghost use Rattle.office_history.specs.Answer.{IsLegal};
 
 use crate::plain::Plain;
 use aid_filings::Filing;
-use office_answers::is_admitted;
+use office_answers::rule_on;
 
 /// Whether a list of filings, the oldest first, is legal: no key stands twice, and each filing breaks no rule on those
 /// before it.
@@ -12,7 +12,7 @@ pub fn is_legal(filings: &[Filing]) -> bool
     ensures { IsTrue result ↔ IsLegal (reverse filings.now) }
 {
     for (index, filing) in filings.iter().enumerate() {
-        if !is_admitted(&Plain::new(&filings[..index]), filing) {
+        if rule_on(&Plain::new(&filings[..index]), filing).is_none() {
             return false;
         }
     }

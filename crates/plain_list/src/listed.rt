@@ -2,7 +2,7 @@
 ghost use Rattle.std.specs.Prelude.{◌≡◌, reverse};
 ghost use Rattle.aid_types.specs.Programs.{six};
 ghost use Rattle.office_history.specs.Answer.{IsLegal};
-ghost use Rattle.office_history.specs.FactsOf.{could_of};
+ghost use Rattle.office_history.specs.Positions.{could_of};
 ghost use Rattle.office_history.specs.Net.{in_year, net};
 ghost use Rattle.office_history.specs.Past.{the_withdrawal};
 ghost use Rattle.office_history.specs.Rows.{calendar_row as calendar_of, place_row as place_of, school_row as school_of, school_year_row as school_year_of, student_row as student_of, term_row as term_of, year_row as year_of};

@@ -1,7 +1,7 @@
 //! Where something stands in a list of filings, the oldest first. A position counts from 1, and is 0 where there is none.
 ghost use Rattle.std.specs.Prelude.{◌≡◌, ◌+◌, ◌^◌, ◌<◌, IfSome, reverse, length};
 ghost use Rattle.office_history.specs.Past.{key_at};
-ghost use Rattle.office_history.specs.FactsOf.{book_at, cost_at, pell_at, prior_at, school_at, term_at, withdrawn_at};
+ghost use Rattle.office_history.specs.Positions.{book_at, cost_at, pell_at, prior_at, school_at, term_at, withdrawn_at};
 ghost use Rattle.office_history.specs.Places.{place_of};
 
 use crate::questions::{

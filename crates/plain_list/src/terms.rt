@@ -2,7 +2,7 @@
 ghost use Rattle.std.specs.Prelude.{◌≡◌, ◌==◌, ◌&&◌, ◌^◌, ◌<◌, not, filter, reverse, length};
 ghost use Rattle.enrolment.specs.Terms.{shares_day};
 ghost use Rattle.office_history.specs.Past.{terms_on_file};
-ghost use Rattle.office_history.specs.FactsOf.{first_term_at};
+ghost use Rattle.office_history.specs.Positions.{first_term_at};
 ghost use Rattle.office_history.specs.FiledTerms.{is_main_term as main_term_told, is_overlapping as overlapping_told};
 
 use crate::positions::place;

@@ -2,7 +2,7 @@ use Rattle.std.proofs.Common.{◌≡◌, ◌<◌, ap, arith, subst, sym, w32}
 use Rattle.std.proofs.lemmas.Int.{to_z-of_z}
 use Rattle.aid_types.specs.Ranges.{IsBetween, IsIndex}
 use Rattle.office_history.specs.Answer.{standing_of}
-use Rattle.office_history.specs.FactsOf.{withdrawn_at}
+use Rattle.office_history.specs.Positions.{withdrawn_at}
 use Rattle.office_history.specs.Net.{net_at}
 use Rattle.office_history.specs.Past.{credits}
 use Rattle.office_history.proofs.Ranges.{credits_in_range}

@@ -1,5 +1,5 @@
 use Rattle.std.proofs.Common.{◌<◌, Some, ap, refl, subst, sym, ◌∙◌}
-use Rattle.office_history.specs.FactsOf.{cost_at}
+use Rattle.office_history.specs.Positions.{cost_at}
 use Rattle.award_rounds.specs.Candidates.{AreCandidates}
 use Rattle.award_rounds.proofs.Gathered.{IsGathered, gather_none, gather_one, gathered}
 use Rattle.award_rounds.proofs.Originations.{cost_on_file, some_same}

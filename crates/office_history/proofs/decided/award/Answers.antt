@@ -11,7 +11,7 @@ returns-clause-value c =
     let fits : FitsSigned w32 c.index.result.index = search rules in
     ap (λ d. d.scheduled) c.decide.ensures.value
     ∙ ap (λ i. (decision c.args.book.now c.args.application.now i).scheduled) (to_z-of_z w32 c.index.result.index fits)
-    ∙ ap (λ i. (decision c.args.book.now c.args.application.now i.index).scheduled) c.index.ensures.value
+    ∙ ap (λ i. (decision c.args.book.now c.args.application.now i).scheduled) c.index.ensures.index
 
 pub returns-clause-at_most : goal.returns-clause-at_most
 returns-clause-at_most c = award_at_most c.args.book.now.pell c.decide.result.scheduled c.decide.ensures.award

@@ -8,4 +8,4 @@ returns c =
     let fits : FitsSigned w32 c.index.result.index = search rules in
     c.decide.ensures.value
     ∙ ap (decision c.args.book.now c.args.application.now) (to_z-of_z w32 c.index.result.index fits)
-    ∙ ap (λ i. decision c.args.book.now c.args.application.now i.index) c.index.ensures.value
+    ∙ ap (decision c.args.book.now c.args.application.now) c.index.ensures.index

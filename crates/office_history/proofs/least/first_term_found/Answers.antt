@@ -3,7 +3,7 @@ use Rattle.std.proofs.lemmas.List.{reverse-reverse}
 use Rattle.aid_filings.specs.declared.filing.Filing.{Filing}
 use Rattle.office_history.specs.Least.{IsFiledTerm}
 use Rattle.office_history.specs.Past.{terms_on_file}
-use Rattle.office_history.specs.FactsOf.{first_term_at}
+use Rattle.office_history.specs.Positions.{first_term_at}
 use Rattle.office_history.proofs.LeastNumbers.{position_tells, told_least, told_none}
 use Rattle.office_history.proofs.TermsOnFile.{positions_fall, terms_filed}
 use Rattle.office_history.proofs.least.first_term_found.Goals as goal

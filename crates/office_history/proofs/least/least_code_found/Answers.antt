@@ -1,6 +1,6 @@
 use Rattle.std.proofs.Common.{reverse}
 use Rattle.office_history.specs.Past.{terms_on_file}
-use Rattle.office_history.specs.FactsOf.{least_code}
+use Rattle.office_history.specs.Positions.{least_code}
 use Rattle.office_history.proofs.LeastNumbers.{code_tells, told_least, told_none}
 use Rattle.office_history.proofs.TermsOnFile.{coded_terms}
 use Rattle.office_history.proofs.least.least_code_found.Goals as goal

@@ -1,7 +1,7 @@
 use Rattle.std.proofs.Common.{reverse, ap}
 use Rattle.std.specs.List.{filter}
 use Rattle.office_history.specs.Past.{terms_on_file}
-use Rattle.office_history.specs.FactsOf.{is_over, least_term, told_over}
+use Rattle.office_history.specs.Positions.{is_over, least_term, told_over}
 use Rattle.office_history.proofs.LeastTerms.{none_found, nothing_found}
 use Rattle.office_history.proofs.Terms.{told_none}
 use Rattle.office_history.proofs.TermsOnFile.{over_found}

@@ -8,7 +8,7 @@ use Rattle.office_history.specs.declared.rows.SchoolYearRow.{SchoolYearRow}
 use Rattle.office_history.proofs.Bounds.{paid-most}
 use Rattle.office_rows.specs.Changed.{school_year_changed}
 use Rattle.office_rows.proofs.NamesChanged.{amount_school_year, named_as}
-use Rattle.office_rows.proofs.SchoolYearsAfter.{amount-school_year, originate-school_year, withdraw-cents, withdraw-school_year, with_cost, with_net, year_placed}
+use Rattle.office_rows.proofs.SchoolYearsAfter.{amount-cents, amount-school_year, originate-school_year, withdraw-cents, withdraw-school_year, with_cost, with_net, year_placed}
 use Rattle.office_rows.proofs.after_schools.school_year_after.Goals as goal
 
 -- the net of the row before is small
@@ -23,6 +23,10 @@ with_moved-requires-in-Pay-clause-before g c =
     let f = c.args.filing.now in
     before_net (g.P.OnFile.history c.args.past.now) _ c.args.before.now c.requires.legal.0
     (c.requires.before _ (amount_school_year f.key.school f.what c.in-Pay.amount c.in-Pay.is))
+
+pub with_moved-requires-in-Pay-clause-paid : goal.with_moved-requires-in-Pay-clause-paid
+with_moved-requires-in-Pay-clause-paid g c =
+    amount-cents (g.P.OnFile.history c.args.past.now) c.args.filing.now c.in-Pay.amount c.args.moved.now c.in-Pay.is c.requires.moved
 
 pub with_moved-requires-clause-before : goal.with_moved-requires-clause-before
 with_moved-requires-clause-before g c =

@@ -1,5 +1,5 @@
 use Rattle.std.proofs.Common.{◌≡◌, reverse, take}
-use Rattle.office_history.specs.FactsOf.{is_over as is_over_of}
+use Rattle.office_history.specs.Positions.{is_over as is_over_of}
 use Rattle.office_history.specs.Past.{terms_on_file}
 use Rattle.plain_list.specs.Terms.{first_place}
 use Rattle.plain_list.proofs.beside.least_over.Given as goal

@@ -1,6 +1,6 @@
 use Rattle.std.proofs.Common.{◌∙◌, sym, ap, reverse, Option}
 use Rattle.aid_types.specs.declared.term.Term.{Term}
-use Rattle.office_history.specs.FactsOf.{is_paid_beside, least_code}
+use Rattle.office_history.specs.Positions.{is_paid_beside, least_code}
 use Rattle.office_history.specs.Past.{terms_on_file}
 use Rattle.plain_list.proofs.Places.{none_beside}
 use Rattle.plain_list.proofs.beside.other_school.Goals as goal

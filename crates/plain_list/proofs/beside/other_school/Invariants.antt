@@ -1,5 +1,5 @@
 use Rattle.std.proofs.Common.{◌≡◌, reverse, take, Some}
-use Rattle.office_history.specs.FactsOf.{is_paid_beside as is_paid_beside_of, least_code}
+use Rattle.office_history.specs.Positions.{is_paid_beside as is_paid_beside_of, least_code}
 use Rattle.office_history.specs.Past.{terms_on_file}
 use Rattle.plain_list.proofs.beside.other_school.Given as goal
 

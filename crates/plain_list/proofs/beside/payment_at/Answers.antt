@@ -2,7 +2,7 @@ use Rattle.std.proofs.Common.{◌≡◌, ℕ, ◌*◌, reverse, arith, sym, ap, 
 use Rattle.aid_filings.specs.declared.filing.SchoolFacts.{SchoolFacts}
 use Rattle.enrolment.specs.Terms.{intensity_of, payment_of}
 use Rattle.office_history.specs.Past.{credits, the_school}
-use Rattle.office_history.specs.FactsOf.{full_of, terms_of}
+use Rattle.office_history.specs.Positions.{full_of, terms_of}
 use Rattle.office_history.proofs.Numbers.{no_terms}
 use Rattle.office_history.proofs.Ranges.{credits_in_range}
 use Rattle.office_history.proofs.NoCredits.{no_credits}

@@ -1,6 +1,6 @@
 use Rattle.std.proofs.Common.{◌∙◌, sym, reverse, Some}
 use Rattle.std.specs.List.{filter}
-use Rattle.office_history.specs.FactsOf.{is_over, least_term}
+use Rattle.office_history.specs.Positions.{is_over, least_term}
 use Rattle.office_history.specs.Past.{terms_on_file}
 use Rattle.plain_list.proofs.Places.{told}
 use Rattle.plain_list.proofs.beside.term_over.Goals as goal

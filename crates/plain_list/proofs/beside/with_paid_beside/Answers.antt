@@ -1,6 +1,6 @@
 use Rattle.std.proofs.Common.{◌≡◌, ◌+◌, ◌∙◌, true, false, sym, ap, length, reverse, Some, None}
 use Rattle.std.specs.Option.{option_copied}
-use Rattle.office_history.specs.FactsOf.{is_paid_beside, least_code, lesser_code}
+use Rattle.office_history.specs.Positions.{is_paid_beside, least_code, lesser_code}
 use Rattle.plain_list.specs.Terms.{calendar_in}
 use Rattle.plain_list.proofs.Places.{code-step, terms-none}
 use Rattle.plain_list.proofs.beside.with_paid_beside.Goals as goal

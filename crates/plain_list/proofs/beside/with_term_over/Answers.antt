@@ -1,6 +1,6 @@
 use Rattle.std.proofs.Common.{◌≡◌, ◌+◌, ◌∙◌, sym, ap, length, reverse, Some, None}
 use Rattle.std.specs.Option.{option_copied}
-use Rattle.office_history.specs.FactsOf.{is_over}
+use Rattle.office_history.specs.Positions.{is_over}
 use Rattle.plain_list.specs.Terms.{calendar_in, earlier_place, first_place}
 use Rattle.plain_list.proofs.Places.{place-stays, place-step, terms-none}
 use Rattle.plain_list.proofs.beside.with_term_over.Goals as goal
