@@ -1,5 +1,6 @@
 // An office that takes the asks of a generated year.
-ghost use Rattle.std.specs.Prelude.{◌≡◌, ◌<◌};
+ghost use Rattle.std.specs.Prelude.{◌≡◌, ◌<◌, IfSome};
+ghost use Rattle.kept_list.specs.Added.{entry_of};
 ghost use Rattle.generated_year.specs.Payments.{paid, paid_adds, payment as payment_of, quoted, year_added, year_answer};
 
 use crate::{QuotePayment, YearAsk, YearVerdict};
@@ -52,9 +53,10 @@ fn pay_cents<R: Docket<Entry = Filing, Ask = Ask, Verdict = Verdict>>(
     office: &R,
     pay: &QuotePayment,
     quote: u64,
-) -> Judged<Filing, YearVerdict>
+) -> Judged<Filing, R::Ruling, YearVerdict>
     ensures verdict { result.verdict ≡ paid R.judging (R.history office.now) pay.now quote }
-    ensures added { result.added ≡ paid_adds R.judging (R.history office.now) pay.now quote }
+    ensures added { entry_of result.added ≡ paid_adds R.judging (R.history office.now) pay.now quote }
+    ensures ruled { IfSome result.added (λ a. R.IsRuling (R.history office.now) a.entry a.ruling) }
 {
     if quote == 0 {
         return Judged {
@@ -76,9 +78,10 @@ fn pay_cents<R: Docket<Entry = Filing, Ask = Ask, Verdict = Verdict>>(
 fn pay<R: Docket<Entry = Filing, Ask = Ask, Verdict = Verdict>>(
     office: &R,
     pay: &QuotePayment,
-) -> Judged<Filing, YearVerdict>
+) -> Judged<Filing, R::Ruling, YearVerdict>
     ensures verdict { result.verdict ≡ year_answer R.judging (R.history office.now) (YearAsk.PayQuote pay.now) }
-    ensures added { result.added ≡ year_added R.judging (R.history office.now) (YearAsk.PayQuote pay.now) }
+    ensures added { entry_of result.added ≡ year_added R.judging (R.history office.now) (YearAsk.PayQuote pay.now) }
+    ensures ruled { IfSome result.added (λ a. R.IsRuling (R.history office.now) a.entry a.ruling) }
 {
     let quoted = office.judge(Ask::Quote {
         school: pay.key.school,
@@ -95,6 +98,8 @@ impl<R: Docket<Entry = Filing, Ask = Ask, Verdict = Verdict>> Docket for Generat
 
     type Entry = Filing;
 
+    type Ruling = R::Ruling;
+
     type Ask = YearAsk;
 
     type Verdict = YearVerdict;
@@ -102,6 +107,8 @@ impl<R: Docket<Entry = Filing, Ask = Ask, Verdict = Verdict>> Docket for Generat
     ghost scheme = { R.scheme };
 
     ghost judging = { year_judging R.judging };
+
+    ghost IsRuling = { R.IsRuling };
 
     ghost history = { λ docket. R.history docket.office };
 
@@ -139,7 +146,7 @@ impl<R: Docket<Entry = Filing, Ask = Ask, Verdict = Verdict>> Docket for Generat
         self.office.reserve(n)
     }
 
-    fn judge(&self, ask: YearAsk) -> Judged<Filing, YearVerdict> {
+    fn judge(&self, ask: YearAsk) -> Judged<Filing, R::Ruling, YearVerdict> {
         match ask {
             YearAsk::File(filing) => {
                 let judged = self.office.judge(Ask::File(filing));
@@ -152,12 +159,12 @@ impl<R: Docket<Entry = Filing, Ask = Ask, Verdict = Verdict>> Docket for Generat
         }
     }
 
-    fn admits(&self, filing: &Filing) -> bool {
-        self.office.admits(filing)
+    fn rule(&self, filing: &Filing) -> Option<R::Ruling> {
+        self.office.rule(filing)
     }
 
-    fn admit(&mut self, filing: Filing) {
-        self.office.admit(filing);
+    fn admit(&mut self, filing: Filing, ruling: R::Ruling) {
+        self.office.admit(filing, ruling);
     }
 
     fn put(filing: &Filing, room: &mut Room) {

@@ -1,5 +1,6 @@
 -- The parts of a kept list stay whole.
 use Rattle.std.proofs.Common.{◌≡◌, ◌≢◌, ◌+◌, ◌<◌, ◌≤◌, ◌^◌, ◌++◌, [], ℕ, IsTrue, inl, inr, arith, List, ◌∷◌, length, Option, Some, None, refl, sym, ◌∙◌, subst}
+use Rattle.std.specs.Prelude.{IfSome}
 use Rattle.disk_model.specs.Telling.{Telling, IsHonest, EachMoment}
 use Rattle.disk_model.specs.declared.disk.Disk.{Ghosts}
 use Rattle.disk_model.proofs.Moments.{started, weaken}
@@ -8,10 +9,17 @@ use Rattle.filing_journal.specs.Journal.{Keeps, MayKeep, IsDecided, HasUndecided
 use Rattle.filing_journal.specs.declared.header.Header.{Header}
 use Rattle.filing_journal.specs.declared.journal.Journal.{Journal}
 use Rattle.kept_list.specs.Scheme.{Scheme, Judging}
+use Rattle.kept_list.specs.declared.docket.Added.{Added}
+use Rattle.kept_list.specs.Added.{entry_of}
 use Rattle.kept_list.specs.Recovers.{payloads_of, RecoversEither}
 use Rattle.kept_list.specs.Turns.{MayRecover, with_entry}
 use Rattle.kept_list.specs.Kept.{IsSettled, IsPending, IsSound, IsWhole}
 use Rattle.kept_list.proofs.Images.{IsKeepable, PastIsLegal, recovers_from, keepable_from, keepable_more, either_from, keepable_either}
+
+-- where nothing is undecided, no ruling is asked for
+pub none_ruled : {Entry Ruling : Type 0} (o : Option (Added Entry Ruling)) (IsRuling : Added Entry Ruling → Type 0) → entry_of o ≡ None → IfSome o IsRuling
+none_ruled None IsRuling none = tt
+none_ruled (Some added) IsRuling none = absurd (let bad : ⊥ = cc in bad)
 
 -- the moments of a put of this entry, or of its settling
 pub entry_moments : {Entry : Type 0} (scheme : Scheme Entry) (old new : Telling) (h : List Entry) (e : Entry) (payload : List ℕ)

@@ -3,6 +3,7 @@ pub use Rattle.filing_journal.specs.Stands
 pub use Rattle.filing_journal.specs.Founded
 pub mod Scheme
 pub mod Recovers
+pub mod Added
 pub mod Faulty
 pub mod Reading
 pub mod Turns

@@ -1,19 +1,29 @@
 // What judges and spells the entries of a list.
-ghost use Rattle.std.specs.Prelude.{◌≡◌, ◌≢◌, ◌+◌, ◌<◌, ◌≤◌, ◌^◌, ◌∷◌, ◌++◌, [], ℕ, List, Some, IsTrue, IsOk, IfOk, OnOk, OnErr, length};
+ghost use Rattle.std.specs.Prelude.{◌≡◌, ◌≢◌, ◌+◌, ◌<◌, ◌≤◌, ◌^◌, ◌∷◌, ◌++◌, [], ℕ, List, Some, IsTrue, IfSome, IsOk, IfOk, OnOk, OnErr, is_some, length};
 ghost use Rattle.filing_journal.specs.Stands.{IsPayload};
 ghost use Rattle.kept_list.specs.Scheme.{Scheme, Judging};
+ghost use Rattle.kept_list.specs.Added.{entry_of};
 
 use filing_journal::Header;
 use payload::Room;
 use std::alloc::{AllocError, Global};
 
+/// An entry that may follow those that stand.
+#[derive(Drop)]
+pub struct Added<E, R> {
+    /// The entry.
+    pub entry: E,
+    /// What judging it worked out.
+    pub ruling: R,
+}
+
 /// An ask as it was judged.
 #[derive(Drop)]
-pub struct Judged<E, V> {
+pub struct Judged<E, R, V> {
     /// The answer.
     pub verdict: V,
     /// The entry that the ask adds to the list, where it adds one.
-    pub added: Option<E>,
+    pub added: Option<Added<E, R>>,
 }
 
 /// Why bytes give no entry.
@@ -30,6 +40,9 @@ pub trait Docket: Drop {
     /// What stands in the list.
     type Entry: Drop;
 
+    /// What judging an entry works out that admitting it needs.
+    type Ruling: Drop;
+
     /// What is asked.
     type Ask: Drop;
 
@@ -41,6 +54,9 @@ pub trait Docket: Drop {
 
     /// What an ask is answered, and what it adds.
     ghost judging: { Judging Self.Entry Self.Ask Self.Verdict };
+
+    /// What is worked out of an entry that may follow these.
+    ghost IsRuling: { List Self.Entry → Self.Entry → Self.Ruling → Type 0 };
 
     /// The entries that stand, the newest first.
     ghost history: { Self → List Self.Entry };
@@ -73,18 +89,21 @@ pub trait Docket: Drop {
         ensures same_room { OnErr result (spare self.new ≡ spare self.old) };
 
     /// Judges an ask. It changes nothing and takes no memory.
-    fn judge(&self, ask: Self::Ask) -> Judged<Self::Entry, Self::Verdict>
+    fn judge(&self, ask: Self::Ask) -> Judged<Self::Entry, Self::Ruling, Self::Verdict>
         ensures verdict { result.verdict ≡ judging.answer (history self.now) ask }
-        ensures added { result.added ≡ judging.added (history self.now) ask };
+        ensures added { entry_of result.added ≡ judging.added (history self.now) ask }
+        ensures ruled { IfSome result.added (λ a. IsRuling (history self.now) a.entry a.ruling) };
 
-    /// Whether an entry may follow those that stand. It takes no memory.
-    fn admits(&self, entry: &Self::Entry) -> bool
-        ensures { result ≡ scheme.admits (history self.now) entry.now };
+    /// What admitting an entry needs, where the entry may follow those that stand. It takes no memory.
+    fn rule(&self, entry: &Self::Entry) -> Option<Self::Ruling>
+        ensures admitted { is_some result ≡ scheme.admits (history self.now) entry.now }
+        ensures ruled { IfSome result (λ ruling. IsRuling (history self.now) entry.now ruling) };
 
     /// Adds an entry that may follow. It takes no memory.
-    fn admit(&mut self, entry: Self::Entry)
+    fn admit(&mut self, entry: Self::Entry, ruling: Self::Ruling)
         requires room { 1 ≤ spare self.old }
         requires admitted { IsTrue (scheme.admits (history self.old) entry) }
+        requires ruled { IsRuling (history self.old) entry ruling }
         ensures history { history self.new ≡ entry ∷ history self.old }
         ensures room { spare self.old ≡ spare self.new + 1 };
 

@@ -8,7 +8,7 @@ ghost use Rattle.filing_journal.specs.Founded.{UnbornOrEmpty};
 
 use crate::reading::read_all;
 use crate::writing::lengthen_and_put;
-use crate::{Docket, Judged, ListReply};
+use crate::{Added, Docket, Judged, ListReply};
 use disk_model::Disk;
 use filing_journal::{FoundError, Journal, OpenError, PutError};
 use payload::Room;
@@ -35,15 +35,16 @@ pub struct KeptList<D: Disk, R: Docket> {
     docket: R,
     journal: Journal<D>,
     // The entry that is undecided. One of the docket's spare places is its own.
-    pending: Option<R::Entry>,
+    pending: Option<Added<R::Entry, R::Ruling>>,
     room: Room,
     // What the next ask may add.
     ahead: Room,
 }
 
 impl<D: Disk, R: Docket> Model for KeptList<D, R> {
-    ghost use Rattle.std.specs.Prelude.{◌-◌};
+    ghost use Rattle.std.specs.Prelude.{◌-◌, IfSome};
     ghost use Rattle.filing_journal.specs.Journal.{journal_disk};
+    ghost use Rattle.kept_list.specs.Added.{entry_of};
     ghost use Rattle.kept_list.specs.Kept.{Kept, IsWhole, places_of};
 
     ghost Value = { Kept D R.Entry };
@@ -51,11 +52,12 @@ impl<D: Disk, R: Docket> Model for KeptList<D, R> {
     ghost view = { λ k. record {
       disk = journal_disk k.journal;
       history = R.history k.docket;
-      pending = k.pending;
-      room = R.spare k.docket - places_of k.pending;
+      pending = entry_of k.pending;
+      room = R.spare k.docket - places_of (entry_of k.pending);
     } };
 
-    ghost invariant = { λ k. IsWhole D.Disk R.scheme k.journal (R.history k.docket) (R.spare k.docket) k.pending };
+    ghost invariant = { λ k. IsWhole D.Disk R.scheme k.journal (R.history k.docket) (R.spare k.docket) (entry_of k.pending)
+        × IfSome k.pending (λ a. R.IsRuling (R.history k.docket) a.entry a.ruling) };
 }
 
 impl<D: Disk, R: Docket> KeptList<D, R> {
@@ -300,8 +302,8 @@ impl<D: Disk, R: Docket> KeptList<D, R> {
             return Ok(());
         }
         self.journal.settle()?;
-        if let Some(entry) = self.pending.take() {
-            self.docket.admit(entry);
+        if let Some(added) = self.pending.take() {
+            self.docket.admit(added.entry, added.ruling);
         }
         Ok(())
     }
@@ -323,39 +325,45 @@ impl<D: Disk, R: Docket> KeptList<D, R> {
         let front = self.docket.front();
         let Judged { verdict, added } = self.docket.judge(ask);
         match added {
-            Some(entry) => self.keep(entry, verdict, front),
+            Some(added) => self.keep(added, verdict, front),
             None => ListReply::Answered { verdict, front },
         }
     }
 
     // Keeps an entry that is to be admitted, and then gives the verdict that adds it.
-    fn keep(&mut self, entry: R::Entry, verdict: R::Verdict, front: u32) -> ListReply<R::Verdict>
+    fn keep(
+        &mut self,
+        added: Added<R::Entry, R::Ruling>,
+        verdict: R::Verdict,
+        front: u32,
+    ) -> ListReply<R::Verdict>
         requires decided { self.old.pending ≡ None }
         requires room { 1 ≤ self.old.room }
         requires front { front ≡ length self.old.history }
         requires few { front + 1 < 2 ^ 32 }
-        requires admitted { IsTrue (R.scheme.admits self.old.history entry) }
-        ensures kept { IsKeptOr entry verdict front self.old.history result self.new.history self.new.pending }
+        requires admitted { IsTrue (R.scheme.admits self.old.history added.entry) }
+        requires ruled { R.IsRuling self.old.history added.entry added.ruling }
+        ensures kept { IsKeptOr added.entry verdict front self.old.history result self.new.history self.new.pending }
         ensures honest { (D.tells self.new.disk).honest ≡ (D.tells self.old.disk).honest }
         ensures sound { IsHonest (D.tells self.old.disk) → IsSound R.scheme (D.tells self.new.disk) self.new.history self.new.pending }
         ensures moments { IsHonest (D.tells self.old.disk) → EachMoment (D.tells self.old.disk) (D.tells self.new.disk)
-            (RecoversEither R.scheme self.old.history (entry ∷ self.old.history)) }
+            (RecoversEither R.scheme self.old.history (added.entry ∷ self.old.history)) }
         ensures room { self.old.room ≤ self.new.room + 1 }
         ensures later { D.faults self.old.disk ≤ D.faults self.new.disk }
         ensures cause { IsTrue (is_fault result) → Rose (D.faults self.old.disk) (D.faults self.new.disk) }
         ensures unmoved { is_fault result ≡ false → D.faults self.new.disk ≡ D.faults self.old.disk }
     {
-        R::put(&entry, &mut self.room);
+        R::put(&added.entry, &mut self.room);
         match lengthen_and_put(&mut self.journal, self.room.bytes(), self.ahead.bytes()) {
             Ok(()) => {
-                self.docket.admit(entry);
+                self.docket.admit(added.entry, added.ruling);
                 ListReply::Answered { verdict, front }
             }
             Err(PutError::DiskFault { undecided: false }) => ListReply::DiskFault {
                 undecided: None,
             },
             Err(PutError::DiskFault { undecided: true }) => {
-                self.pending = Some(entry);
+                self.pending = Some(added);
                 ListReply::DiskFault {
                     undecided: Some(front + 1),
                 }

@@ -12,7 +12,7 @@ mod reading;
 mod reply;
 mod writing;
 
-pub use docket::{Docket, Judged, TakeFault};
+pub use docket::{Added, Docket, Judged, TakeFault};
 pub use filing_journal::OpenError;
 pub use kept::{FoundFault, KeptList};
 pub use laws::{lives, once, one_fault, unfaulty};

@@ -64,10 +64,10 @@ fn admit_read<R: Docket>(docket: &mut R, place: u64, entry: R::Entry) -> Result<
     if docket.reserve(1).is_err() {
         return Err(OpenError::NoMemory);
     }
-    if !docket.admits(&entry) {
+    let Some(ruling) = docket.rule(&entry) else {
         return Err(OpenError::Damaged(place));
-    }
-    docket.admit(entry);
+    };
+    docket.admit(entry, ruling);
     Ok(())
 }
 

@@ -1,13 +1,16 @@
 // The office as the docket of a kept list.
-ghost use Rattle.std.specs.Prelude.{◌≡◌, ◌<◌, None, if◌then◌else◌};
+ghost use Rattle.std.specs.Prelude.{◌≡◌, ◌<◌, None, IfSome, if◌then◌else◌};
+ghost use Rattle.aid_replies.specs.declared.reply.Ask.TheVariants.{File as FileAsked};
+ghost use Rattle.aid_replies.specs.declared.reply.Verdict.TheVariants.{Admit};
+ghost use Rattle.kept_list.specs.Added.{entry_of};
 ghost use Rattle.office_history.specs.Answer.{answer_to, is_admit};
 ghost use Rattle.kept_office.specs.Turns.{asked};
 
 use aid_filings::Filing;
-use aid_replies::{Ask, Verdict};
+use aid_replies::{Ask, Outcome, Verdict};
 use filing_codec::TakeError;
 use filing_journal::Header;
-use kept_list::{Docket, Judged, TakeFault};
+use kept_list::{Added, Docket, Judged, TakeFault};
 use office_core::Office;
 use payload::Room;
 use std::alloc::{AllocError, Global};
@@ -48,22 +51,32 @@ fn verdict(office: &Office, ask: &Ask) -> Verdict
     verdict_on::<Brand>(office, ask, Blank::new(1))
 }
 
-// The filing that an ask adds where it has this verdict.
-fn added(ask: Ask, verdict: &Verdict) -> Option<Filing>
-    ensures { result ≡ (if is_admit verdict.now then asked ask else None) }
+// The filing that an ask adds where it has this verdict, with the outcome that the verdict tells.
+fn added(ask: Ask, verdict: &Verdict) -> Option<Added<Filing, Outcome>>
+    ensures entry { entry_of result ≡ (if is_admit verdict.now then asked ask else None) }
+    ensures ask { IfSome result (λ a. ask ≡ FileAsked a.entry) }
+    ensures outcome { IfSome result (λ a. verdict.now ≡ Admit a.ruling) }
 {
     match (ask, verdict) {
-        (Ask::File(filing), Verdict::Admit(_)) => Some(filing),
+        (Ask::File(filing), Verdict::Admit(outcome)) => Some(Added {
+            entry: filing,
+            ruling: *outcome,
+        }),
         _ => None,
     }
 }
 
 impl Docket for FiledOffice {
+    ghost use Rattle.aid_replies.specs.declared.reply.Verdict.TheVariants.{Admit};
+    ghost use Rattle.office_history.specs.Answer.{answer_of};
     ghost use Rattle.kept_office.specs.Scheme.{office_scheme};
     ghost use Rattle.kept_office.specs.Turns.{office_judging};
     ghost use Rattle.kept_office.specs.OfficeLaws.{keepable, alone, admitted_legal, legal_admitted, legal_past, added_admitted};
 
     type Entry = Filing;
+
+    // The outcome of its admission.
+    type Ruling = Outcome;
 
     type Ask = Ask;
 
@@ -72,6 +85,8 @@ impl Docket for FiledOffice {
     ghost scheme = { office_scheme };
 
     ghost judging = { office_judging };
+
+    ghost IsRuling = { λ past filing outcome. answer_of past filing ≡ Admit outcome };
 
     ghost history = { λ docket. docket.office.history };
 
@@ -112,18 +127,18 @@ impl Docket for FiledOffice {
         self.office.reserve(n)
     }
 
-    fn judge(&self, ask: Ask) -> Judged<Filing, Verdict> {
+    fn judge(&self, ask: Ask) -> Judged<Filing, Outcome, Verdict> {
         let verdict = verdict(&self.office, &ask);
         let added = added(ask, &verdict);
         Judged { verdict, added }
     }
 
-    fn admits(&self, filing: &Filing) -> bool {
-        self.office.admits(filing)
+    fn rule(&self, filing: &Filing) -> Option<Outcome> {
+        self.office.rule(filing)
     }
 
-    fn admit(&mut self, filing: Filing) {
-        self.office.admit(filing);
+    fn admit(&mut self, filing: Filing, outcome: Outcome) {
+        self.office.admit_with(filing, outcome);
     }
 
     fn put(filing: &Filing, room: &mut Room) {

@@ -33,6 +33,7 @@ where
     R::Entry: Send,
     R::Ask: Send,
     R::Verdict: Send,
+    R::Ruling: Send,
     P::Link: Send,
     requires { (k : ℕ) (d : WebView R.Entry P) → k < length desks.old → HoldsPass turns.now.id (slice_index_or desks.old k d) }
     ensures works { (k : ℕ) (d : WebView R.Entry P) → k < length desks.old → Works R.judging R.own T.scheme P.tells P.faults turns.now.id sessions (slice_index_or desks.old k d) (slice_index_or desks.new k d) }
@@ -64,6 +65,7 @@ where
     R::Entry: Send,
     R::Ask: Send,
     R::Verdict: Send,
+    R::Ruling: Send,
     P::Link: Send,
     requires few { length desks.old < 64 }
     requires decided { kept.pending ≡ None }

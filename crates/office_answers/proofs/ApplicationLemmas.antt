@@ -9,10 +9,10 @@ use Rattle.aid_types.specs.declared.award.Refusal.{Refusal}
 use Rattle.pell_schedule.proofs.AwardLaws.{decision_under-award}
 use Rattle.pell_schedule.specs.Award.{decision_of}
 use Rattle.sai_index.specs.Formulas.{formula}
-use Rattle.sai_index.specs.Index.{index_lines}
+use Rattle.sai_index.specs.Indices.{index_of}
 use Rattle.office_history.specs.Answer.{breaks, indexed, outcome_in}
 use Rattle.office_history.specs.Award.{award_under, scheduled_of, unfit_under}
-use Rattle.office_history.specs.FactsOf.{if_fit, transaction_of}
+use Rattle.office_history.specs.Positions.{if_fit, transaction_of}
 use Rattle.office_history.specs.Past.{application, given, higher, the_book}
 use Rattle.office_history.proofs.Awards.{correction}
 use Rattle.office_history.proofs.Greatest.{award_at_most}
@@ -27,7 +27,7 @@ award_brought (Some refusal) book a = refl
 
 pub brought_at_most : (unfit : Option Refusal) (book : Option Book) (a : Application) → awarded (brought_by unfit book a) ≤ 100000
 brought_at_most None None a = zero-le
-brought_at_most None (Some b) a = award_at_most b.pell (decision_of b a).scheduled (decision_under-award (formula b a) b a (index_lines b a).index)
+brought_at_most None (Some b) a = award_at_most b.pell (decision_of b a).scheduled (decision_under-award (formula b a) b a (index_of b a))
 brought_at_most (Some refusal) book a = zero-le
 
 -- ---- one that breaks no rule

@@ -6,8 +6,7 @@ use Rattle.aid_filings.specs.declared.filing.Filing.{Filing}
 use Rattle.aid_filings.specs.declared.filing.WithdrawFacts.{WithdrawFacts}
 use Rattle.aid_filings.specs.declared.filing.What.TheVariants.{Withdraw}
 use Rattle.withdrawal_returns.specs.Worksheet.{worksheet_of}
-use Rattle.office_history.specs.Net.{is_cell, moved, moves_at, sheet}
-use Rattle.office_history.specs.FactsOf.{cell_at}
+use Rattle.office_history.specs.Net.{is_cell, moved, moves_at, sheet, cell_at}
 use Rattle.office_history.proofs.Cells.{moved_own}
 use Rattle.office_history.specs.Accounts.{IsEntry}
 use Rattle.office_history.specs.Own.{of_lines}

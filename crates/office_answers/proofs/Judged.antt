@@ -1,5 +1,5 @@
 -- The answer to a filing, by what stands at the position of its key.
-use Rattle.std.proofs.Common.{◌≡◌, ℕ, zero, suc, ◌+◌, ◌≤◌, ◌<◌, refl, sym, ap, subst, ◌∙◌, arith, Bool, true, false, List, [], ◌∷◌, ◌++◌, length, reverse, take, drop, Option, Some, None, is_none}
+use Rattle.std.proofs.Common.{◌≡◌, ℕ, zero, suc, ◌+◌, ◌≤◌, ◌<◌, refl, sym, ap, subst, ◌∙◌, arith, Bool, true, false, List, [], ◌∷◌, ◌++◌, length, reverse, take, drop, Option, Some, None}
 use Rattle.std.specs.List.{slice_get}
 use Rattle.std.proofs.lemmas.List.{length-reverse, length-take-le, reverse-append, reverse-reverse}
 use Rattle.std.proofs.lemmas.Option.{get_or_from_slice_get, none-some, slice_get_within}
@@ -8,7 +8,7 @@ use Rattle.aid_types.proofs.Same.{tells_key}
 use Rattle.aid_filings.specs.declared.filing.Filing.{Filing}
 use Rattle.aid_filings.proofs.SameFiling.{tells_filing}
 use Rattle.aid_replies.specs.declared.reply.Verdict.TheVariants.{Again, Refused}
-use Rattle.office_history.specs.Answer.{IsLegal, answer_of, breaks, is_admit, judged, outcome_at}
+use Rattle.office_history.specs.Answer.{IsLegal, answer_of, breaks, judged, outcome_at}
 use Rattle.office_history.specs.Past.{filing_at, first_at, first_of_two, key_at, same_filing, same_key}
 use Rattle.office_history.proofs.Cases.{answer_of-new, answer_of-used}
 use Rattle.office_history.proofs.Legal.{filing_at-new}
@@ -136,15 +136,6 @@ position_within past (suc i) g at =
     let lt = slice_get_within (reverse past) i g at in
     (omega arith, omega (arith, lt, length-reverse past))
 
--- ---- a filing with a new key
--- is judged by the rules of its kind
+-- ---- a filing with a new key is judged by the rules of its kind
 pub judged_new : (past : List Filing) (f : Filing) (o : Option Refusal) → key_at f.key past ≡ 0 → breaks past f ≡ o → answer_of past f ≡ judged past f o
 judged_new past f o new e = answer_of-new past f (filing_at-new past f new) new ∙ ap (judged past f) e
-
--- and admitted just where it breaks none
-judged_none : (past : List Filing) (f : Filing) (o : Option Refusal) → is_admit (judged past f o) ≡ is_none o
-judged_none past f None = refl
-judged_none past f (Some r) = refl
-
-pub admitted_new : (past : List Filing) (f : Filing) → key_at f.key past ≡ 0 → is_admit (answer_of past f) ≡ is_none (breaks past f)
-admitted_new past f new = ap is_admit (judged_new past f (breaks past f) new refl) ∙ judged_none past f (breaks past f)

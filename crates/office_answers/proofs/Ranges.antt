@@ -12,8 +12,7 @@ use Rattle.enrolment.specs.Terms.{days_upto}
 use Rattle.withdrawal_returns.specs.Worksheet.{worksheet_of}
 use Rattle.withdrawal_returns.specs.declared.Lines.{Lines}
 use Rattle.office_history.specs.Past.{at_school, earlier, earliest, first_at, first_of_two, the_term, the_withdrawal, withdrawal_in}
-use Rattle.office_history.specs.FactsOf.{cell_at}
-use Rattle.office_history.specs.Net.{days_of, last_of, net_at, sheet, withdrawn_cell}
+use Rattle.office_history.specs.Net.{cell_at, days_of, last_of, net_at, sheet, withdrawn_cell}
 use Rattle.office_history.specs.Answer.{IsLegal}
 use Rattle.office_history.proofs.Ranges.{net_is_small}
 use Rattle.office_history.specs.Accounts.{IsAccount}

@@ -11,8 +11,8 @@ use aid_types::{Application, Refusal};
 use office_history::decision;
 use sai_index::{fits, formula_of};
 
-/// What an application brings under its year's book; nothing where there is no book.
-pub fn indexed_under(book: Option<&Book>, application: &Application) -> Outcome
+// What an application brings under its year's book; nothing where there is no book.
+fn indexed_under(book: Option<&Book>, application: &Application) -> Outcome
     ensures { result ≡ indexed (option_copied book.entry) (Some application.now) }
 {
     match book {

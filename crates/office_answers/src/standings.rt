@@ -1,8 +1,8 @@
 //! Quotes, and where a student stands, over whatever keeps what is on file.
 ghost use Rattle.std.specs.Prelude.{◌≡◌, ℕ, ◌+◌, ◌*◌, ◌<◌, ◌≤◌, Some, None};
-ghost use Rattle.filing_rules.specs.Rules.{first_broken, payment_lines};
-ghost use Rattle.office_history.specs.FactsOf.{payment_facts as payment_facts_of};
+ghost use Rattle.filing_rules.specs.Rules.{first_broken};
 ghost use Rattle.office_history.specs.Answer.{quote_of, standing_of, standing_under};
+ghost use Rattle.office_history.specs.Rules.{payment_rules};
 ghost use Rattle.office_answers.specs.Walked.{walked};
 
 use crate::gathered::payment_facts;
@@ -16,6 +16,7 @@ use steps::Steps;
 
 /// The greatest Pell payment in cents, of whole dollars, that the school could file for the student's term under a new
 /// key; 0 where there is none.
+#[tactic(auto, using(office_history::proofs::LinesOf::payment_lines_are))]
 pub fn quote<P: OnFile, L: Ledger>(
     past: &P,
     school: School,
@@ -27,7 +28,7 @@ pub fn quote<P: OnFile, L: Ledger>(
     ensures value { result ≡ quote_of (P.history past.now) school student year term }
     // Each smaller payment of whole dollars breaks no rule either.
     ensures below { (dollars : ℕ) → 0 < dollars → 100 * dollars ≤ result
-        → first_broken (payment_lines (payment_facts_of (P.history past.now) school student year term 3) school student year term 3 (100 * dollars)) ≡ None }
+        → first_broken (payment_rules (P.history past.now) school student year term 3 (100 * dollars)) ≡ None }
     ensures at_most { result ≤ 99999900 }
     ensures cost { steps.new ≤ steps.old + 5 * P.looks past.now + 4 * walked (P.history past.now) school (Some student) }
 {

@@ -1,13 +1,14 @@
 //! What is answered on what is on file, where no looks are counted.
-ghost use Rattle.std.specs.Prelude.{◌≡◌, ℕ, ◌*◌, ◌<◌, ◌≤◌, None};
-ghost use Rattle.filing_rules.specs.Rules.{first_broken, payment_lines};
+ghost use Rattle.std.specs.Prelude.{◌≡◌, ℕ, ◌*◌, ◌<◌, ◌≤◌, None, IfSome, is_some};
+ghost use Rattle.aid_replies.specs.declared.reply.Verdict.TheVariants.{Admit};
+ghost use Rattle.filing_rules.specs.Rules.{first_broken};
 ghost use Rattle.office_history.specs.Answer.{answer_of, is_admit, quote_of, standing_of};
-ghost use Rattle.office_history.specs.FactsOf.{payment_facts as payment_facts_of};
+ghost use Rattle.office_history.specs.Rules.{payment_rules};
 
 use crate::standings::{quote, standing};
-use crate::verdicts::{admits, answer};
+use crate::verdicts::answer;
 use aid_filings::Filing;
-use aid_replies::{StandingRow, Verdict};
+use aid_replies::{Outcome, StandingRow, Verdict};
 use aid_types::{School, Student, Year};
 use office_history::OnFile;
 use std::marker::Brand;
@@ -30,27 +31,22 @@ fn verdict_counted<P: OnFile, L: Ledger>(past: &P, filing: &Filing, blank: Blank
     answer(past, filing, &mut Steps::<L>::new(blank))
 }
 
-/// Whether a filing would be admitted.
-pub fn is_admitted<P: OnFile>(past: &P, filing: &Filing) -> bool
-    ensures { result ≡ is_admit (answer_of (P.history past.now) filing.now) }
+/// With what a filing would be admitted: where its key is new, and it breaks no rule.
+pub fn rule_on<P: OnFile>(past: &P, filing: &Filing) -> Option<Outcome>
+    ensures admitted { is_some result ≡ is_admit (answer_of (P.history past.now) filing.now) }
+    ensures outcome { IfSome result (λ outcome. answer_of (P.history past.now) filing.now ≡ Admit outcome) }
 {
-    is_admitted_counted::<P, Brand>(past, filing, Blank::new(1))
-}
-
-fn is_admitted_counted<P: OnFile, L: Ledger>(past: &P, filing: &Filing, blank: Blank) -> bool
-    requires name { blank.name ≡ L.name }
-    requires parts { blank.parts ≡ L.parts }
-    requires some { 0 < blank.parts }
-    ensures { result ≡ is_admit (answer_of (P.history past.now) filing.now) }
-{
-    admits(past, filing, &mut Steps::<L>::new(blank))
+    match verdict_on(past, filing) {
+        Verdict::Admit(outcome) => Some(outcome),
+        _ => None,
+    }
 }
 
 /// The greatest Pell payment that a school could file for a student's term.
 pub fn quote_on<P: OnFile>(past: &P, school: School, student: Student, year: Year, term: u8) -> u64
     ensures value { result ≡ quote_of (P.history past.now) school student year term }
     ensures below { (dollars : ℕ) → 0 < dollars → 100 * dollars ≤ result
-        → first_broken (payment_lines (payment_facts_of (P.history past.now) school student year term 3) school student year term 3 (100 * dollars)) ≡ None }
+        → first_broken (payment_rules (P.history past.now) school student year term 3 (100 * dollars)) ≡ None }
     ensures at_most { result ≤ 99999900 }
 {
     quote_counted::<P, Brand>(past, school, student, year, term, Blank::new(1))
@@ -69,7 +65,7 @@ fn quote_counted<P: OnFile, L: Ledger>(
     requires some { 0 < blank.parts }
     ensures value { result ≡ quote_of (P.history past.now) school student year term }
     ensures below { (dollars : ℕ) → 0 < dollars → 100 * dollars ≤ result
-        → first_broken (payment_lines (payment_facts_of (P.history past.now) school student year term 3) school student year term 3 (100 * dollars)) ≡ None }
+        → first_broken (payment_rules (P.history past.now) school student year term 3 (100 * dollars)) ≡ None }
     ensures at_most { result ≤ 99999900 }
 {
     quote(

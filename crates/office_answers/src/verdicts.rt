@@ -5,7 +5,7 @@ ghost use Rattle.aid_filings.specs.Students.{student_of};
 ghost use Rattle.aid_replies.specs.declared.reply.Verdict.TheVariants.{Refused};
 ghost use Rattle.aid_types.specs.Ranges.{EachIsCents, IsBetween};
 ghost use Rattle.aid_types.specs.declared.application.Application.{Application as Applied};
-ghost use Rattle.office_history.specs.Answer.{IsLegal, answer_of, breaks, indexed, is_admit, judged, outcome_of};
+ghost use Rattle.office_history.specs.Answer.{IsLegal, answer_of, breaks, indexed, judged, outcome_of};
 ghost use Rattle.office_history.specs.Award.{unfit_under};
 ghost use Rattle.office_history.specs.Net.{sheet as sheet_after};
 ghost use Rattle.office_history.specs.Past.{key_at, the_book, the_term};
@@ -45,21 +45,8 @@ pub fn answer<P: OnFile, L: Ledger>(past: &P, filing: &Filing, steps: &mut Steps
     }
 }
 
-/// Whether a filing would be admitted: its key is new, and it breaks no rule.
-pub fn admits<P: OnFile, L: Ledger>(past: &P, filing: &Filing, steps: &mut Steps<L>) -> bool
-    ensures value { result ≡ is_admit (answer_of (P.history past.now) filing.now) }
-    ensures cost { steps.new ≤ steps.old + 6 * P.looks past.now + 4 * walked (P.history past.now) filing.now.key.school (student_of filing.now.what) }
-{
-    past.key_at(&filing.key, steps) == 0
-        && broken(
-            &gather(past, filing, steps).facts,
-            &filing.key,
-            &filing.what,
-        )
-        .is_none()
-}
-
 // The verdict on a filing with a new key: the first rule that it breaks, or that it is admitted.
+#[tactic(auto, using(office_history::proofs::LinesOf::broken_is))]
 fn judge<P: OnFile, L: Ledger>(past: &P, filing: &Filing, steps: &mut Steps<L>) -> Verdict
     requires legal { IsLegal (P.history past.now) }
     requires new { key_at filing.now.key (P.history past.now) ≡ 0 }
@@ -84,9 +71,9 @@ fn key_used(position: u32, key: &Key) -> Verdict
     })
 }
 
-/// With what a filing is admitted after what is on file: an application with the award it brings, a payment with the year's
-/// net of its program and the lifetime use, both with it, a withdrawal with its worksheet.
-pub fn outcome<P: OnFile>(past: &P, filing: &Filing, basis: &Basis) -> Outcome
+// With what a filing is admitted after what is on file: an application with the award it brings, a payment with the year's
+// net of its program and the lifetime use, both with it, a withdrawal with its worksheet.
+fn outcome<P: OnFile>(past: &P, filing: &Filing, basis: &Basis) -> Outcome
     requires legal { IsLegal (filing.now ∷ P.history past.now) }
     requires basis { IsBasis (P.history past.now) filing.now basis.now }
     ensures { result ≡ outcome_of (P.history past.now) filing.now }

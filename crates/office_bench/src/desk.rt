@@ -52,8 +52,8 @@ impl Desk {
         let filing = Filing { key, what };
         self.office.reserve(1)?;
         let verdict = self.office.judge(&filing);
-        if let Verdict::Admit(_) = verdict {
-            self.office.admit(filing);
+        if let Verdict::Admit(outcome) = verdict {
+            self.office.admit_with(filing, outcome);
         }
         self.tally.count(cents, verdict);
         Ok(())

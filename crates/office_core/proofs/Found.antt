@@ -11,7 +11,7 @@ use Rattle.aid_filings.specs.declared.filing.What.{What}
 use Rattle.aid_filings.specs.declared.filing.What.TheVariants.{Book as BookFiled, School, Calendar, Prior, Apply, Enrol, Originate, Pay, Withdraw, Repay, Adjust}
 use Rattle.aid_filings.proofs.SameFiling.{tells_filing}
 use Rattle.office_history.specs.Answer.{IsLegal}
-use Rattle.office_history.specs.FactsOf.{book_at}
+use Rattle.office_history.specs.Positions.{book_at}
 use Rattle.office_history.specs.Past.{book_in, earlier, earliest, filing_at, first_at, first_of_two, given, key_at, same_filing, same_key, the_book}
 use Rattle.office_history.proofs.Legal.{filing_at-new}
 use Rattle.office_history.specs.Rows.{filing_in}

@@ -7,7 +7,7 @@ use Rattle.aid_replies.specs.declared.reply.Outcome.{Outcome}
 use Rattle.sorted_rows.specs.Places.{AreStaying}
 use Rattle.std.specs.List.{slice_get}
 use Rattle.office_history.specs.Answer.{IsLegal, outcome_of}
-use Rattle.office_history.specs.FactsOf.{school_at, term_at}
+use Rattle.office_history.specs.Positions.{school_at, term_at}
 use Rattle.office_history.proofs.Legal.{legal_is_short}
 use Rattle.office_history.specs.declared.rows.PlaceRow.{PlaceRow}
 use Rattle.office_core.specs.Index.{AreBooks, AreKeys, AreSchools, AreSchoolYears, AreStudents, AreYears, IndexRows, IsIndexed, IsWrittenBy}

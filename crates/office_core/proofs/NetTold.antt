@@ -4,8 +4,7 @@ use Rattle.std.specs.Prelude.{slice_index}
 use Rattle.aid_types.specs.Programs.{rank}
 use Rattle.aid_types.specs.declared.number.Program.{Program}
 use Rattle.aid_filings.specs.declared.filing.Filing.{Filing}
-use Rattle.office_history.specs.FactsOf.{cell_at}
-use Rattle.office_history.specs.Net.{is_cell, net_at, paid, taken}
+use Rattle.office_history.specs.Net.{cell_at, is_cell, net_at, paid, taken}
 use Rattle.office_history.proofs.Sixes.{six-rank}
 use Rattle.office_history.specs.Rows.{place_row}
 use Rattle.office_history.specs.declared.rows.PlaceRow.{PlaceRow}

@@ -17,10 +17,13 @@ use Rattle.aid_filings.specs.declared.filing.What.TheVariants.{Book as BookFiled
 use Rattle.sai_index.specs.Fits.{is_size, size_for}
 use Rattle.sai_index.specs.Formulas.{formula}
 use Rattle.filing_rules.specs.declared.facts.Facts.{Facts}
-use Rattle.filing_rules.specs.Rules.{Check, breaks_in_order, breaks_inside, first_break_in_order, first_broken, lines_of, only, past_cost, past_fseog, past_lifetime, past_payment, past_year, rule_10, rule_12, rule_21, rule_22, rule_23, rule_24, rule_40, rule_52, rule_58, rule_62, rule_63, rule_91, rule_93, told, told_by, too_early, where_true, year_of_program, over}
+use Rattle.filing_rules.specs.Rules.{Check, breaks_in_order, breaks_inside, first_break_in_order, first_broken, lacks, only, rule_21, rule_23, rule_24, rule_62, rule_91, stands, told, told_by, too_early, where_true, over}
+use Rattle.filing_rules.specs.Lines.{amount_lines, past_cost, past_fseog, past_lifetime, past_payment, past_year, pell_lines, rule_52, rule_63, rule_93}
 use Rattle.office_history.specs.Award.{unfit_under}
-use Rattle.office_history.specs.FactsOf.{facts_of, told_over}
+use Rattle.office_history.specs.FactsOf.{facts_of}
+use Rattle.office_history.specs.Positions.{told_over}
 use Rattle.office_history.specs.Past.{OnFile, the_book}
+use Rattle.office_history.specs.Rules.{rules_of}
 use Rattle.office_history.specs.Answer.{breaks}
 
 -- no line of a list has rule 15
@@ -85,29 +88,19 @@ others_days : (last : ℕ) (o : Option Term) → are_others (rule_62 last o) ≡
 others_days last None = refl
 others_days last (Some t) = refl
 
-others_payment : (f : Facts) (school program cents : ℕ) →
-    are_others (only (program == 3) (rule_40 f ∷ rule_58 f school ∷ [])
-    ++ (rule_52 f program cents
-    ++ (only (program == 3) (past_payment 54 f cents ∷ [])
-    ++ (year_of_program f program cents
-    ++ (only (program == 3) (past_lifetime 56 f cents ∷ [])
-    ++ (past_cost 57 f cents ∷ [])))))) ≡ true
+others_payment : (f : Facts) (school program cents : ℕ) → are_others (amount_lines f school program cents) ≡ true
 others_payment f school program cents =
     let is_pell = program == 3 in
-    let lifetime = only is_pell (past_lifetime 56 f cents ∷ []) in
+    let limits = past_payment 54 f cents ∷ past_year 55 f cents ∷ past_lifetime 56 f cents ∷ [] in
+    let pell = only is_pell limits in
+    let fseog = only (program == 4) (past_fseog 55 f cents ∷ []) in
     let cost = past_cost 57 f cents ∷ [] in
-    let year = year_of_program f program cents in
-    let payment = only is_pell (past_payment 54 f cents ∷ []) in
     let post = rule_52 f program cents in
-    others_both (only is_pell (rule_40 f ∷ rule_58 f school ∷ [])) (post ++ (payment ++ (year ++ (lifetime ++ cost))))
-    (others_only is_pell (rule_40 f ∷ rule_58 f school ∷ []) refl)
-    (others_both post (payment ++ (year ++ (lifetime ++ cost)))
+    others_both (only is_pell (pell_lines f school)) (post ++ (pell ++ (fseog ++ cost))) (others_only is_pell (pell_lines f school) refl)
+    (others_both post (pell ++ (fseog ++ cost))
     (others_only (nat_lt 0 f.withdrawn_at) (over 52 (f.after + cents) (slice_index f.could program) ∷ over 52 (f.after_all + cents) f.post ∷ []) refl)
-    (others_both payment (year ++ (lifetime ++ cost)) (others_only is_pell (past_payment 54 f cents ∷ []) refl)
-    (others_both year (lifetime ++ cost)
-    (others_both (only is_pell (past_year 55 f cents ∷ [])) (only (program == 4) (past_fseog 55 f cents ∷ []))
-    (others_only is_pell (past_year 55 f cents ∷ []) refl) (others_only (program == 4) (past_fseog 55 f cents ∷ []) refl))
-    (others_both lifetime cost (others_only is_pell (past_lifetime 56 f cents ∷ []) refl) refl))))
+    (others_both pell (fseog ++ cost) (others_only is_pell limits refl)
+    (others_both fseog cost (others_only (program == 4) (past_fseog 55 f cents ∷ []) refl) refl)))
 
 others_withdrawal : (f : Facts) (w : WithdrawFacts) → are_others (rule_62 w.last f.term ++ (too_early 21 w.determined w.last ∷ rule_63 f w.could)) ≡ true
 others_withdrawal f w =
@@ -121,7 +114,7 @@ others_withdrawal f w =
     (others_both (only (nat_lt 0 fseog) (past_fseog 63 f fseog ∷ [])) (only (nat_lt 0 (sum w.could)) cost)
     (others_only (nat_lt 0 fseog) (past_fseog 63 f fseog ∷ []) refl) (others_only (nat_lt 0 (sum w.could)) cost refl)))
 
-others_of : (past : List Filing) (key : Key) (what : What) → are_others (lines_of (facts_of past key what) key.school what) ≡ true
+others_of : (past : List Filing) (key : Key) (what : What) → are_others (rules_of past key what) ≡ true
 others_of past key (BookFiled b) = refl
 others_of past key (School s) = refl
 others_of past key (Prior p) = refl
@@ -132,20 +125,20 @@ others_of past key (Adjust a) = refl
 others_of past key (Calendar c) =
     let f = facts_of past key (Calendar c) in
     let t = term_of c in
-    others_both (rule_21 t) (rule_23 t ++ (rule_22 f t ∷ rule_24 f t)) (others_first t.breaks)
-    (others_both (rule_23 t) (rule_22 f t ∷ rule_24 f t) (others_inside t 1 t.breaks)
+    others_both (rule_21 t) (rule_23 t ++ (stands 22 f.overlap_at c.term ∷ rule_24 t f.main_terms f.terms)) (others_first t.breaks)
+    (others_both (rule_23 t) (stands 22 f.overlap_at c.term ∷ rule_24 t f.main_terms f.terms) (others_inside t 1 t.breaks)
     (others_only (not t.extra) (where_true 24 (nat_le f.terms f.main_terms) f.main_terms f.terms ∷ []) refl))
 others_of past key (Apply a) =
     let f = facts_of past key (Apply a) in
     let own = over 93 f.pell_main (100 * f.next_scheduled) ∷ over 93 f.pell_year (150 * f.next_scheduled)
     ∷ over 93 (f.used_else + use_of f.pell_year f.next_scheduled) 600000 ∷ [] in
-    others_both (only (nat_lt 0 key.school) (rule_12 f key.school ∷ [])) (rule_10 f a.year ∷ told f.unfit ++ (rule_91 f a.transaction ∷ rule_93 f))
-    (others_only (nat_lt 0 key.school) (rule_12 f key.school ∷ []) refl)
-    (others_both (told f.unfit) (rule_91 f a.transaction ∷ rule_93 f) (others_unfit (the_book past a.year) a)
+    others_both (only (nat_lt 0 key.school) (lacks 12 f.school_at key.school 0 ∷ [])) (lacks 10 f.book_at a.year 0 ∷ told f.unfit ++ (rule_91 a.transaction f.transaction ∷ rule_93 f))
+    (others_only (nat_lt 0 key.school) (lacks 12 f.school_at key.school 0 ∷ []) refl)
+    (others_both (told f.unfit) (rule_91 a.transaction f.transaction ∷ rule_93 f) (others_unfit (the_book past a.year) a)
     (others_both (told f.term_over) own (others_over past f.next_scheduled a.student a.year _) refl))
 others_of past key (Pay a) = others_payment (facts_of past key (Pay a)) key.school (rank a.program) a.cents
 others_of past key (Withdraw w) = others_withdrawal (facts_of past key (Withdraw w)) w
 
 -- no filing is refused under rule 15 by a rule of its kind
 pub other_rule : (past : List Filing) (f : Filing) (r : Refusal) → breaks past f ≡ Some r → r.rule ≡ 15 → ⊥
-other_rule past f r h fifteen = told_other (lines_of (facts_of past f.key f.what) f.key.school f.what) r (others_of past f.key f.what) h fifteen
+other_rule past f r h fifteen = told_other (rules_of past f.key f.what) r (others_of past f.key f.what) h fifteen

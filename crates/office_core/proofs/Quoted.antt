@@ -6,10 +6,9 @@ use Rattle.aid_types.specs.declared.award.Refusal.{Refusal}
 use Rattle.aid_filings.specs.declared.filing.Filing.{Filing}
 use Rattle.aid_filings.specs.declared.filing.What.{What}
 use Rattle.filing_rules.specs.Quote.{greatest, greatest_payment, is_payable}
-use Rattle.filing_rules.specs.Rules.{broken_of, first_broken, payment_lines}
-use Rattle.filing_rules.specs.declared.facts.Facts.{Facts}
+use Rattle.filing_rules.specs.Rules.{Check, first_broken}
 use Rattle.office_history.specs.Answer.{breaks, quote_of}
-use Rattle.office_history.specs.FactsOf.{facts_of, payment_facts}
+use Rattle.office_history.specs.Rules.{payment_rules, rules_of}
 use Rattle.office_core.specs.Register.{IsPellPayment}
 
 -- above the greatest number that passes none does
@@ -30,10 +29,9 @@ no_hundreds : (p : ℕ → Bool) (n bound : ℕ) → 100 * greatest p bound < 10
 no_hundreds p n bound above le = none_above p n bound (omega arith) le
 
 -- so no whole dollars above the greatest payment are payable
-none_payable : (facts : Facts) (school student year term dollars : ℕ) → greatest_payment facts school student year term < 100 * dollars → dollars ≤ 999999 →
-    is_payable facts school student year term dollars ≡ false
+none_payable : (rules : ℕ → List Check) (dollars : ℕ) → greatest_payment rules < 100 * dollars → dollars ≤ 999999 → is_payable rules dollars ≡ false
 unfolding greatest_payment
-none_payable facts school student year term dollars above le = no_hundreds (is_payable facts school student year term) dollars 999999 above le
+none_payable rules dollars above le = no_hundreds (is_payable rules) dollars 999999 above le
 
 some_broken : (o : Option Refusal) → is_none o ≡ false → o ≢ None
 some_broken None e none = cc
@@ -41,14 +39,13 @@ some_broken (Some r) e none = cc
 
 -- the first broken rule of a school's payment of so many cents of Pell for a student's term
 abbrev first_of : List Filing → ℕ → ℕ → ℕ → ℕ → ℕ → Option Refusal
-first_of past school student year term cents = first_broken (payment_lines (payment_facts past school student year term 3) school student year term 3 cents)
+first_of past school student year term cents = first_broken (payment_rules past school student year term 3 cents)
 
 breaks_first : (past : List Filing) (f : Filing) (school student year term dollars : ℕ) → IsPellPayment f school student year term dollars →
     breaks past f ≡ first_of past school student year term (100 * dollars)
 breaks_first past f school student year term dollars (a, what, program, cents, at, of, in_year, in_term) =
-    ap (λ (w : What). broken_of (facts_of past f.key w) f.key w) what
-    ∙ (λ i. first_broken (payment_lines (payment_facts past (at i) (of i) (in_year i) (in_term i) (rank (program i)))
-    (at i) (of i) (in_year i) (in_term i) (rank (program i)) (cents i)))
+    ap (λ (w : What). first_broken (rules_of past f.key w)) what
+    ∙ (λ i. first_broken (payment_rules past (at i) (of i) (in_year i) (in_term i) (rank (program i)) (cents i)))
 
 pub payable : (past : List Filing) (f : Filing) (school student year term dollars : ℕ) → IsPellPayment f school student year term dollars →
     first_of past school student year term (100 * dollars) ≡ None → breaks past f ≡ None
@@ -60,5 +57,5 @@ unpayable past f school student year term dollars is above none =
     let few = is.0.in_range.1 in
     let cents = is.3 in
     some_broken (first_of past school student year term (100 * dollars))
-    (none_payable (payment_facts past school student year term 3) school student year term dollars above (omega arith))
+    (none_payable (payment_rules past school student year term 3) dollars above (omega arith))
     (sym (breaks_first past f school student year term dollars is) ∙ none)

@@ -1,5 +1,5 @@
 -- What rows tell once one of them is written.
-use Rattle.std.proofs.Common.{◌≡◌, ℕ, ◌+◌, refl, sym, ap, ◌∙◌, cond, Bool, true, false, ◌&&◌, List, ◌∷◌, length, Option, Some, None}
+use Rattle.std.proofs.Common.{◌≡◌, ℕ, zero, suc, ◌+◌, add-one, refl, sym, ap, ◌∙◌, cond, Bool, true, false, ◌&&◌, List, ◌∷◌, length, Option, Some, None}
 use Rattle.std.specs.Prelude.{◌==◌}
 use Rattle.std.specs.Cmp.{both_tied, unsigned_tied}
 use Rattle.std.specs.List.{slice_get}
@@ -18,7 +18,7 @@ use Rattle.office_history.specs.declared.rows.SchoolYearRow.{SchoolYearRow}
 use Rattle.office_history.specs.declared.rows.YearRow.{YearRow}
 use Rattle.office_rows.specs.After.{IsPlaceAfter, IsSchoolYearAfter, IsYearAfter, after}
 use Rattle.office_history.specs.Names.{place_cmp, school_year_cmp, year_cmp}
-use Rattle.office_core.specs.Index.{AreKeys, AreSchoolYears, AreYears, filing_cmp, filing_name, position_or, school_year_or, written_or, year_or}
+use Rattle.office_core.specs.Index.{AreKeys, AreSchoolYears, AreYears, filing_cmp, filing_name, position_of, position_or, school_year_or, written_or, year_or}
 use Rattle.office_links.specs.Placed.{ArePlaces, place_or}
 use Rattle.office_rows.proofs.RowNames.{at_place, place-same}
 use Rattle.office_core.specs.declared.entries.FilingNumber.{FilingNumber}
@@ -67,15 +67,18 @@ school_years_after past f w old new written told changed school student year =
     (school_year_row past school student year) (school_year_row (f ∷ past) school student year) (written name) (told school student year)
     (changed school student year)
 
--- the position that is told of a name once one is written
-position_written : (b : Bool) (position : ℕ) (o : Option ℕ) → position_or (cond b (Some position) o) ≡ cond b position (position_or o)
-position_written true position o = refl
-position_written false position o = refl
+-- the row of a position tells it
+pub position_is : (n : ℕ) → position_or (position_of n) ≡ n
+position_is zero = refl
+position_is (suc n) = refl
+
+row_of_next : (n : ℕ) → Some (n + 1) ≡ position_of (n + 1)
+row_of_next n = rw add-one refl
 
 -- the first position stays, where there is one
-first_written : (b : Bool) (before here : ℕ) → (b ≡ true → before ≡ 0) → cond b here before ≡ first_of_two b before here
-first_written false before here none = refl
-first_written true before here none = sym (ap (λ (n : ℕ). first_of_two true n here) (none refl))
+first_written : (b : Bool) (before last : ℕ) → (b ≡ true → before ≡ 0) → cond b (Some (last + 1)) (position_of before) ≡ position_of (first_of_two b before (last + 1))
+first_written false before last none = refl
+first_written true before last none = row_of_next last ∙ sym (ap (λ (n : ℕ). position_of (first_of_two true n (last + 1))) (none refl))
 
 -- the order of filings' names tells where two keys are the same
 key-same : (a b : Key) → is_eq (filing_cmp (filing_name a) (filing_name b)) ≡ same_key b a
@@ -94,10 +97,9 @@ key-same a b =
 pub keys_after : (past : List Filing) (f : Filing) (position : ℕ) (old new : List (FilingNumber × ℕ)) → position ≡ length past + 1 → key_at f.key past ≡ 0 →
     IsWritten filing_cmp (filing_name f.key) position old new → AreKeys past old → AreKeys (f ∷ past) new
 keys_after past f position old new here none written told key =
-    ap position_or (written (filing_name key))
-    ∙ position_written (is_eq (filing_cmp (filing_name f.key) (filing_name key))) position (value_at filing_cmp (filing_name key) old)
-    ∙ (λ i. cond (key-same f.key key i) (here i) (told key i))
-    ∙ first_written (same_key key f.key) (key_at key past) (length past + 1) (λ e. ap (λ (k : Key). key_at k past) (tells_key.same key f.key e) ∙ none)
+    written (filing_name key)
+    ∙ (λ i. cond (key-same f.key key i) (Some (here i)) (told key i))
+    ∙ first_written (same_key key f.key) (key_at key past) (length past) (λ e. ap (λ (k : Key). key_at k past) (tells_key.same key f.key e) ∙ none)
 
 -- the row at a key's place has the key
 same_place : (own asked : StudentPlace) → is_eq (place_cmp own asked) ≡ true → own ≡ asked

@@ -1,5 +1,5 @@
 -- What the rows of an index tell of a history.
-use Rattle.std.specs.Prelude.{◌≡◌, ℕ, ◌≤◌, List, cond, length, Option, Some, None}
+use Rattle.std.specs.Prelude.{◌≡◌, ℕ, zero, suc, ◌≤◌, List, cond, length, Option, Some, None}
 use Rattle.std.specs.Ordering.{is_eq, nat_cmp, ordering_then}
 use Rattle.std.specs.declared.cmp.Ordering.{Ordering}
 use Rattle.sorted_rows.specs.Places.{value_at}
@@ -12,7 +12,7 @@ use Rattle.aid_replies.specs.declared.reply.Outcome.{Outcome}
 use Rattle.aid_types.specs.Programs.{six}
 use Rattle.aid_types.specs.declared.number.Key.{Key}
 use Rattle.office_history.specs.Answer.{IsLegal}
-use Rattle.office_history.specs.FactsOf.{book_at}
+use Rattle.office_history.specs.Positions.{book_at}
 use Rattle.office_history.specs.Past.{key_at}
 use Rattle.office_history.specs.Rows.{school_row, school_year_row, student_row, year_row}
 use Rattle.office_history.specs.declared.rows.PlaceRow.{PlaceRow}
@@ -51,6 +51,11 @@ abbrev pub position_or : Option ℕ → ℕ
 position_or None = 0
 position_or (Some position) = position
 
+-- the row of a position: none where there is no filing
+abbrev pub position_of : ℕ → Option ℕ
+position_of zero = None
+position_of (suc n) = Some (suc n)
+
 abbrev pub school_or : Option SchoolEntry → SchoolEntry
 school_or None = record { row = record { at = 0; terms = 0; full = 0 }; newest = 0 }
 school_or (Some entry) = entry
@@ -81,7 +86,7 @@ student_entry past student = record { row = student_row past student; newest = n
 
 -- the rows of each table tell what is on file
 abbrev pub AreKeys : List Filing → List (FilingNumber × ℕ) → Type 0
-AreKeys past rows = (key : Key) → position_or (value_at filing_cmp (filing_name key) rows) ≡ key_at key past
+AreKeys past rows = (key : Key) → value_at filing_cmp (filing_name key) rows ≡ position_of (key_at key past)
 
 abbrev pub AreBooks : List Filing → List (ℕ × ℕ) → Type 0
 AreBooks past rows = (year : ℕ) → position_or (value_at nat_cmp year rows) ≡ book_at past year

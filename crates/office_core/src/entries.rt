@@ -1,5 +1,6 @@
 //! What rows of the index tell.
 ghost use Rattle.std.specs.Prelude.{◌≡◌};
+ghost use Rattle.std.specs.Option.{option_copied};
 ghost use Rattle.office_links.specs.Placed.{place_or};
 ghost use Rattle.office_core.specs.Index.{position_or, school_or, school_year_or, student_or, year_or};
 
@@ -36,10 +37,10 @@ pub(crate) fn position_told(row: Option<u32>) -> u32
 }
 
 /// The school that a row tells, nothing where there is no row.
-pub(crate) fn school_told(row: Option<SchoolEntry>) -> SchoolEntry
-    ensures { result ≡ school_or row }
+pub(crate) fn school_told(row: Option<&SchoolEntry>) -> SchoolEntry
+    ensures { result ≡ school_or (option_copied row.entry) }
 {
-    row.unwrap_or(SchoolEntry {
+    row.copied().unwrap_or(SchoolEntry {
         row: SchoolRow {
             at: 0,
             terms: 0,
@@ -50,10 +51,10 @@ pub(crate) fn school_told(row: Option<SchoolEntry>) -> SchoolEntry
 }
 
 /// The student that a row tells, nothing where there is no row.
-pub(crate) fn student_told(row: Option<StudentEntry>) -> StudentEntry
-    ensures { result ≡ student_or row }
+pub(crate) fn student_told(row: Option<&StudentEntry>) -> StudentEntry
+    ensures { result ≡ student_or (option_copied row.entry) }
 {
-    row.unwrap_or(StudentEntry {
+    row.copied().unwrap_or(StudentEntry {
         row: StudentRow {
             prior_at: 0,
             pell_at: 0,
@@ -64,11 +65,11 @@ pub(crate) fn student_told(row: Option<StudentEntry>) -> StudentEntry
 }
 
 /// The place that a row tells, nothing where there is no row.
-pub(crate) fn place_told(row: Option<PlaceRow>) -> PlaceRow
-    ensures { result ≡ place_or row }
+pub(crate) fn place_told(row: Option<&PlaceRow>) -> PlaceRow
+    ensures { result ≡ place_or (option_copied row.entry) }
 {
     match row {
-        Some(row) => row,
+        Some(row) => *row,
         None => PlaceRow {
             credits: 0,
             withdrawn_at: 0,
@@ -79,11 +80,11 @@ pub(crate) fn place_told(row: Option<PlaceRow>) -> PlaceRow
 }
 
 /// The year that a row tells, nothing where there is no row.
-pub(crate) fn year_told(row: Option<YearRow>) -> YearRow
-    ensures { result ≡ year_or row }
+pub(crate) fn year_told(row: Option<&YearRow>) -> YearRow
+    ensures { result ≡ year_or (option_copied row.entry) }
 {
     match row {
-        Some(row) => row,
+        Some(row) => *row,
         None => YearRow {
             application: None,
             scheduled: 0,
@@ -94,10 +95,10 @@ pub(crate) fn year_told(row: Option<YearRow>) -> YearRow
 }
 
 /// The school's year that a row tells, nothing where there is no row.
-pub(crate) fn school_year_told(row: Option<SchoolYearRow>) -> SchoolYearRow
-    ensures { result ≡ school_year_or row }
+pub(crate) fn school_year_told(row: Option<&SchoolYearRow>) -> SchoolYearRow
+    ensures { result ≡ school_year_or (option_copied row.entry) }
 {
-    row.unwrap_or(SchoolYearRow {
+    row.copied().unwrap_or(SchoolYearRow {
         cost_at: 0,
         cost: 0,
         net: 0,

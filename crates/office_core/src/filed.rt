@@ -1,5 +1,5 @@
 //! Rows of the index after one filing more.
-ghost use Rattle.std.specs.Prelude.{◌≡◌, ◌+◌, ◌<◌, ◌≤◌, ◌∷◌, ℕ, List, Some, IfSome, cond, length};
+ghost use Rattle.std.specs.Prelude.{◌≡◌, ◌+◌, ◌<◌, ◌≤◌, ◌∷◌, ℕ, List, Some, None, IfSome, cond, length};
 ghost use Rattle.std.specs.Ordering.{is_eq, nat_cmp};
 ghost use Rattle.sorted_rows.specs.Places.{AreStaying, IsHere, IsWritten, value_at};
 ghost use Rattle.aid_filings.specs.declared.filing.Filing.{Filing as Filed};
@@ -8,14 +8,14 @@ ghost use Rattle.office_history.specs.Past.{first_of_two, key_at};
 ghost use Rattle.office_history.specs.declared.rows.StudentRow.{StudentRow as OfStudent};
 ghost use Rattle.office_rows.specs.After.{IsSchoolAfter, IsStudentAfter};
 ghost use Rattle.office_rows.specs.Changed.{IsPlaceBefore, student_changed};
-ghost use Rattle.office_core.specs.Index.{AreBooks, AreKeys, AreSchools, AreStudents, position_or, school_or, student_or, written_or};
+ghost use Rattle.office_core.specs.Index.{AreBooks, AreKeys, AreSchools, AreStudents, filing_cmp, filing_name, position_or, school_or, student_or, written_or};
 
 use crate::entries::{FilingNumber, SchoolEntry, StudentEntry, position_told, school_told};
 use aid_filings::{Filing, What};
 use office_history::{PlaceRow, SchoolRow, StudentRow};
 use sorted_rows::{Slots, Table};
 
-/// Writes a row, where one is to be written, and tells its slot; 0 where none is. `slot` is that of a row with its name, where
+/// Writes a row, where one is to be written, and tells its slot; 0 where none is. `slot` is that of the row with its name, where
 /// there is one.
 pub(crate) fn write<K: Ord + Copy, V: Copy>(
     rows: &mut Slots<K, V>,
@@ -23,6 +23,7 @@ pub(crate) fn write<K: Ord + Copy, V: Copy>(
     written: &Option<(K, V)>,
 ) -> u32
     requires slot { (name : K) (row : V) → written.now ≡ Some (name, row) → IfSome slot (IsHere K.cmp name rows.old.rows) }
+    requires new { (name : K) (row : V) → written.now ≡ Some (name, row) → slot ≡ None → value_at K.cmp name rows.old.rows ≡ None }
     requires room { 1 ≤ rows.old.room }
     requires few { length rows.old.rows < 4294967295 }
     ensures values { (name : K) → value_at K.cmp name rows.new.rows ≡ written_or K.cmp written.now name (value_at K.cmp name rows.old.rows) }
@@ -37,7 +38,7 @@ pub(crate) fn write<K: Ord + Copy, V: Copy>(
     }
 }
 
-// Writes the row of a name, and tells its slot. `slot` is that of a row with this name, where there is one.
+// Writes the row of a name, and tells its slot. `slot` is that of the row with this name, where there is one.
 fn put_at<K: Ord + Copy, V: Copy>(
     rows: &mut Slots<K, V>,
     slot: Option<u32>,
@@ -45,6 +46,7 @@ fn put_at<K: Ord + Copy, V: Copy>(
     row: &V,
 ) -> u32
     requires slot { IfSome slot (IsHere K.cmp name rows.old.rows) }
+    requires new { slot ≡ None → value_at K.cmp name rows.old.rows ≡ None }
     requires room { 1 ≤ rows.old.room }
     requires few { length rows.old.rows < 4294967295 }
     ensures values { IsWritten K.cmp name row.now rows.old.rows rows.new.rows }
@@ -58,12 +60,13 @@ fn put_at<K: Ord + Copy, V: Copy>(
             rows.set(slot, *row);
             slot
         }
-        None => rows.put(name, *row),
+        None => rows.add(name, *row),
     }
 }
 
 /// Writes the position of a filing under its key, which is new.
 pub(crate) fn write_key(keys: &mut Table<FilingNumber, u32>, filing: &Filing, position: u32)
+    requires new { value_at filing_cmp (filing_name filing.now.key) keys.old.rows ≡ None }
     requires room { 1 ≤ keys.old.room }
     ensures rows { (past : List Filed) → position ≡ length past + 1 → key_at filing.now.key past ≡ 0 → AreKeys past keys.old.rows → AreKeys (filing.now ∷ past) keys.new.rows }
     ensures room { keys.old.room ≤ keys.new.room + 1 }
@@ -73,7 +76,7 @@ pub(crate) fn write_key(keys: &mut Table<FilingNumber, u32>, filing: &Filing, po
         number: filing.key.number,
         school: filing.key.school.0,
     };
-    keys.set(name, position);
+    keys.add(name, position);
 }
 
 /// Writes the position of a book under its year, where the year has none yet.
@@ -160,6 +163,7 @@ pub(crate) fn write_student(
     position: u32,
 )
     requires slot { (student : ℕ) → student_changed filing.now.what ≡ Some student → IfSome slot (IsHere nat_cmp student students.old.rows) }
+    requires new { (student : ℕ) → student_changed filing.now.what ≡ Some student → slot ≡ None → value_at nat_cmp student students.old.rows ≡ None }
     requires before { (student : ℕ) → student_changed filing.now.what ≡ Some student → before.now ≡ student_or (value_at nat_cmp student students.old.rows) }
     requires named { (student : ℕ) (row : OfStudent) → written ≡ Some (student, row) → student_changed filing.now.what ≡ Some student }
     requires room { 1 ≤ students.old.room }
@@ -188,6 +192,7 @@ fn write_student_row(
     row: StudentRow,
 )
     requires slot { IfSome slot (IsHere nat_cmp student students.old.rows) }
+    requires new { slot ≡ None → value_at nat_cmp student students.old.rows ≡ None }
     requires before { before.now ≡ student_or (value_at nat_cmp student students.old.rows) }
     requires room { 1 ≤ students.old.room }
     requires few { length students.old.rows < 4294967295 }
@@ -208,6 +213,7 @@ fn write_newest_enrolment(
     newest: u32,
 )
     requires slot { IfSome slot (IsHere nat_cmp student students.old.rows) }
+    requires new { slot ≡ None → value_at nat_cmp student students.old.rows ≡ None }
     requires before { before.now ≡ student_or (value_at nat_cmp student students.old.rows) }
     requires room { 1 ≤ students.old.room }
     requires few { length students.old.rows < 4294967295 }

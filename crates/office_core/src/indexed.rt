@@ -4,13 +4,12 @@ ghost use Rattle.std.specs.Option.{option_copied};
 ghost use Rattle.aid_filings.specs.declared.filing.EnrolFacts.{EnrolFacts as Enrolment};
 ghost use Rattle.aid_filings.specs.declared.filing.What.TheVariants.{Enrol};
 ghost use Rattle.office_history.specs.Answer.{IsLegal, outcome_of};
-ghost use Rattle.office_history.specs.FactsOf.{school_at, term_at};
+ghost use Rattle.office_history.specs.Positions.{school_at, term_at};
 ghost use Rattle.office_rows.specs.Changed.{IsPlaceBefore};
 ghost use Rattle.office_core.specs.Digits.{digits_of};
 ghost use Rattle.office_core.specs.Index.{book_filed, school_entry, student_entry};
 ghost use Rattle.office_links.specs.Links.{before_in};
 
-use crate::bases::outcome_after;
 use crate::entries::{
     FilingNumber, SchoolEntry, StudentEntry, place_told, position_told, school_told,
     school_year_told, student_told, year_told,
@@ -128,13 +127,13 @@ impl Indexed {
         self.filings.as_slice()
     }
 
-    /// Appends a filing that makes the history a legal one of one more, and answers with what it is admitted. It takes no
-    /// memory, but one of the places of `reserve`. The rows of a student that it may change are each looked for once.
-    pub fn admit(&mut self, filing: Filing) -> Outcome
+    /// Appends a filing that makes the history a legal one of one more, with what it is admitted with. It takes no memory,
+    /// but one of the places of `reserve`. The rows of a student that it may change are each looked for once.
+    pub fn admit(&mut self, filing: Filing, outcome: Outcome)
         requires legal { IsLegal (filing ∷ self.old.history) }
+        requires outcome { outcome ≡ outcome_of self.old.history filing }
         requires room { 1 ≤ self.old.spare }
         ensures history { self.new.history ≡ filing ∷ self.old.history }
-        ensures outcome { result ≡ outcome_of self.old.history filing }
         ensures spare { self.new.spare + 1 ≡ self.old.spare }
     {
         let position = self.front() + 1;
@@ -146,7 +145,6 @@ impl Indexed {
         let year = year_told(year);
         let cost = school_year_told(cost);
         let student = student_told(student);
-        let outcome = outcome_after(self, &filing, &place, &year, &student.row);
         let before = self.newest_before(&filing, &place, &student);
         let (school_at, term_at) = self.term_of(&filing);
         let written = rows_after(self, &filing, &outcome, &place, &year, &cost, &student.row);
@@ -170,7 +168,6 @@ impl Indexed {
         self.filings.push_reserved(filing);
         self.outcomes.push_reserved(outcome);
         self.spare -= 1;
-        outcome
     }
 
     // The position of the term before a term that is filed, of the same school, or of the first enrolment before an enrolment

@@ -2,7 +2,6 @@
 //! outcomes of their admissions and with sorted rows that tell what is on file.
 #![tactic(auto)]
 
-mod bases;
 mod entries;
 mod filed;
 mod indexed;

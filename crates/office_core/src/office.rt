@@ -1,5 +1,5 @@
 //! The office.
-ghost use Rattle.std.specs.Prelude.{◌≡◌, ◌≢◌, ◌↔◌, ◌+◌, ◌*◌, ◌^◌, ◌<◌, ◌≤◌, ◌∷◌, [], ℕ, Some, None, max, length, reverse, IsTrue, IsOk, IsSome, IfSome, OnOk, OnErr};
+ghost use Rattle.std.specs.Prelude.{◌≡◌, ◌≢◌, ◌↔◌, ◌+◌, ◌*◌, ◌^◌, ◌<◌, ◌≤◌, ◌∷◌, [], ℕ, Some, None, max, length, reverse, IsTrue, is_some, IsOk, IsSome, IfSome, OnOk, OnErr};
 ghost use Rattle.std.specs.List.{AllPairs};
 ghost use Rattle.std.specs.Option.{option_copied};
 ghost use Rattle.aid_filings.specs.declared.filing.Amount.{Amount};
@@ -13,8 +13,7 @@ ghost use Rattle.aid_replies.specs.declared.reply.StandingRow.{StandingRow as Ro
 ghost use Rattle.aid_replies.specs.declared.reply.Verdict.TheVariants.{Admit, Again, Quoted, Refused, Standing};
 ghost use Rattle.aid_types.specs.Programs.{rank as rank_of};
 ghost use Rattle.office_history.specs.Answer.{breaks, outcome_of, outcome_at, answer_of, answer_to, is_admit, quote_of, standing_of, IsLegal};
-ghost use Rattle.office_history.specs.FactsOf.{cell_at};
-ghost use Rattle.office_history.specs.Net.{net_at as net_of_cell};
+ghost use Rattle.office_history.specs.Net.{cell_at, net_at as net_of_cell};
 ghost use Rattle.office_history.specs.Past.{key_at};
 ghost use Rattle.office_history.specs.Within.{IsWithinEveryLimit};
 ghost use Rattle.office_history.specs.Rows.{filing_in, place_row, school_row, school_year_row};
@@ -25,7 +24,7 @@ use crate::indexed::Indexed;
 use aid_filings::Filing;
 use aid_replies::{Ask, Outcome, StandingRow, Verdict};
 use aid_types::{Program, School, Student, Year};
-use office_answers::{answer, is_admitted, quote, quote_on, standing, standing_on, verdict_on};
+use office_answers::{answer, quote, quote_on, rule_on, standing, standing_on, verdict_on};
 use office_history::{OnFile, PlaceRow, SchoolRow, SchoolYearRow};
 use office_rows::{place_of, school_of, school_year_of};
 use std::alloc::{AllocError, Global};
@@ -255,11 +254,12 @@ impl Office {
         }
     }
 
-    /// Whether the office would admit a filing. It changes nothing and takes no memory.
-    pub fn admits(&self, filing: &Filing) -> bool
-        ensures { result ≡ is_admit (answer_of self.now.history filing.now) }
+    /// The outcome with which a filing would be admitted; `None` where it would not be. It changes nothing and takes no memory.
+    pub fn rule(&self, filing: &Filing) -> Option<Outcome>
+        ensures admitted { is_some result ≡ is_admit (answer_of self.now.history filing.now) }
+        ensures outcome { IfSome result (λ outcome. answer_of self.now.history filing.now ≡ Admit outcome) }
     {
-        is_admitted(&self.indexed, filing)
+        rule_on(&self.indexed, filing)
     }
 
     /// Appends a filing that the office admits, and answers its outcome. It takes no memory, but one of the places of
@@ -271,8 +271,24 @@ impl Office {
         ensures outcome { answer_of self.old.history filing ≡ Admit result }
         ensures spare { self.new.spare + 1 ≡ self.old.spare }
     {
+        match self.rule(&filing) {
+            Some(outcome) => {
+                self.admit_with(filing, outcome);
+                outcome
+            }
+            None => unreachable!(),
+        }
+    }
+
+    /// The same with the outcome, which `judge` and `rule` work out.
+    pub fn admit_with(&mut self, filing: Filing, outcome: Outcome)
+        requires admitted { answer_of self.old.history filing ≡ Admit outcome }
+        requires room { 1 ≤ self.old.spare }
+        ensures history { self.new.history ≡ filing ∷ self.old.history }
+        ensures spare { self.new.spare + 1 ≡ self.old.spare }
+    {
         // The front tells that the history is legal.
         let _filings = self.indexed.front();
-        self.indexed.admit(filing)
+        self.indexed.admit(filing, outcome);
     }
 }

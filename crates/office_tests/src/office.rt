@@ -113,8 +113,8 @@ fn assert_steps<L: Ledger>(
 pub(crate) fn file(office: &mut Office, filing: Filing) -> Result<Verdict, AllocError> {
     office.reserve(1)?;
     let verdict = office.judge(&filing);
-    if let Verdict::Admit(_) = verdict {
-        office.admit(filing);
+    if let Verdict::Admit(outcome) = verdict {
+        office.admit_with(filing, outcome);
     }
     Ok(verdict)
 }

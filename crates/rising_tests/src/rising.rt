@@ -1,6 +1,8 @@
 // Numbers that rise, as a docket.
+ghost use Rattle.std.specs.Prelude.{◌≡◌};
+
 use filing_journal::Header;
-use kept_list::{Docket, Judged, TakeFault};
+use kept_list::{Added, Docket, Judged, TakeFault};
 use kept_session::Report;
 use payload::Room;
 use std::alloc::{AllocError, Global};
@@ -25,11 +27,28 @@ impl Model for Rising {
         × (vec_len r.numbers + r.spare ≤ vec_capacity r.numbers) };
 }
 
+impl Rising {
+    ghost use Rattle.rising_tests.specs.Rising.{is_next};
+
+    // Whether a number may follow those that stand.
+    fn takes(&self, number: u8) -> bool
+        ensures { result ≡ is_next self.now.list number }
+    {
+        match self.numbers.last() {
+            Some(last) => *last < number,
+            None => true,
+        }
+    }
+}
+
 impl Docket for Rising {
+    ghost use Rattle.std.specs.Prelude.{⊤};
     ghost use Rattle.rising_tests.specs.Rising.{rising_scheme, rising_judging};
     ghost use Rattle.rising_tests.specs.RisingLaws.{keepable, alone, added_admitted};
 
     type Entry = u8;
+
+    type Ruling = ();
 
     type Ask = u8;
 
@@ -52,6 +71,8 @@ impl Docket for Rising {
     ghost legal_past = { λ past n legal. legal.0 };
 
     ghost added_admitted = { added_admitted };
+
+    ghost IsRuling = { λ past n ruling. ⊤ };
 
     ghost history = { λ r. r.list };
 
@@ -87,22 +108,24 @@ impl Docket for Rising {
         Ok(())
     }
 
-    fn judge(&self, ask: u8) -> Judged<u8, bool> {
-        let verdict = self.admits(&ask);
-        Judged {
-            verdict,
-            added: verdict.then_some(ask),
+    fn judge(&self, ask: u8) -> Judged<u8, (), bool> {
+        match self.rule(&ask) {
+            Some(ruling) => Judged {
+                verdict: true,
+                added: Some(Added { entry: ask, ruling }),
+            },
+            None => Judged {
+                verdict: false,
+                added: None,
+            },
         }
     }
 
-    fn admits(&self, entry: &u8) -> bool {
-        match self.numbers.last() {
-            Some(last) => *last < *entry,
-            None => true,
-        }
+    fn rule(&self, entry: &u8) -> Option<()> {
+        if self.takes(*entry) { Some(()) } else { None }
     }
 
-    fn admit(&mut self, entry: u8) {
+    fn admit(&mut self, entry: u8, _ruling: ()) {
         self.numbers.push_reserved(entry);
         self.spare -= 1;
     }

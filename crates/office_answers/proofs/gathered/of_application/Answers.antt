@@ -4,7 +4,7 @@ use Rattle.std.specs.Option.{option_copied}
 use Rattle.aid_books.specs.declared.book.Book.{Book}
 use Rattle.aid_types.specs.declared.award.Refusal.{Refusal}
 use Rattle.office_history.specs.Award.{award_under, unfit_under}
-use Rattle.office_history.specs.FactsOf.{award_filed, if_fit}
+use Rattle.office_history.specs.Positions.{award_filed, if_fit}
 use Rattle.office_answers.specs.Brought.{awarded}
 use Rattle.office_answers.proofs.ApplicationLemmas.{award_brought, brought_at_most}
 use Rattle.office_answers.proofs.gathered.of_application.Goals as goal

@@ -1,8 +1,9 @@
 use Rattle.std.proofs.Common.{◌≡◌, ◌∙◌, arith, slice_index}
 use Rattle.std.proofs.lemmas.Grind.{common_steps}
 use Rattle.aid_types.specs.Programs.{rank}
-use Rattle.office_history.specs.FactsOf.{aid_facts, cell_at, is_paid_beside, least_code}
-use Rattle.office_history.specs.Net.{is_cell, paid_after}
+use Rattle.office_history.specs.FactsOf.{aid_facts}
+use Rattle.office_history.specs.Net.{cell_at, is_cell, paid_after}
+use Rattle.office_history.specs.Positions.{is_paid_beside, least_code}
 use Rattle.office_history.specs.Past.{terms_on_file, the_term}
 use Rattle.office_history.proofs.Sixes.{six-rank}
 use Rattle.office_answers.proofs.gathered.of_payment.Goals as goal

@@ -3,8 +3,7 @@ use Rattle.aid_filings.specs.declared.filing.WithdrawFacts.{WithdrawFacts}
 use Rattle.aid_types.specs.Programs.{minus}
 use Rattle.aid_types.specs.Ranges.{EachIsCents}
 use Rattle.aid_types.specs.declared.term.Term.{Term}
-use Rattle.office_history.specs.FactsOf.{cell_at}
-use Rattle.office_history.specs.Net.{days_of, last_of, net_at, sheet}
+use Rattle.office_history.specs.Net.{cell_at, days_of, last_of, net_at, sheet}
 use Rattle.office_history.proofs.Ranges.{net_is_small}
 use Rattle.withdrawal_returns.specs.Worksheet.{worksheet_of}
 use Rattle.withdrawal_returns.specs.declared.Lines.{Lines}

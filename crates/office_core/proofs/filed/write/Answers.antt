@@ -9,6 +9,9 @@ same_name {K} {V} o a b r s one other = let same : (a, r) ≡ (b, s) = cc in ap 
 pub put_at-requires-clause-slot : goal.put_at-requires-clause-slot
 put_at-requires-clause-slot g c = c.requires.slot c.in-Some.name c.in-Some.row c.in-Some.is
 
+pub put_at-requires-clause-new : goal.put_at-requires-clause-new
+put_at-requires-clause-new g c = c.requires.new c.in-Some.name c.in-Some.row c.in-Some.is
+
 pub returns-in-Some-clause-slot : goal.returns-in-Some-clause-slot
 returns-in-Some-clause-slot g c =
     λ name row written.

@@ -1,7 +1,8 @@
 use Rattle.std.proofs.Common.{◌∙◌, IsTrue, Option, None, ap, arith, rules, subst, sym}
 use Rattle.kept_list.specs.Kept.{Kept, IsWhole}
 use Rattle.kept_list.specs.Recovers.{payloads_of}
-use Rattle.kept_list.proofs.Sound.{IsPut, left_whole, refused_whole, kept_whole, put_moments}
+use Rattle.kept_list.specs.Added.{entry_of}
+use Rattle.kept_list.proofs.Sound.{IsPut, none_ruled, left_whole, refused_whole, kept_whole, put_moments}
 use Rattle.kept_list.proofs.kept.KeptList.keep.Goals as goal
 
 pub invariant_of-self-then-this : goal.invariant_of-self-then-this
@@ -9,44 +10,50 @@ invariant_of-self-then-this g c =
     let scheme = g.R.Docket.scheme in
     let i = c.self.inside in
     let h = g.R.Docket.history i.docket in
-    let admitted : IsTrue (scheme.admits h c.args.entry) = subst (λ (k : Kept g.row.D.Denot g.row.R-Entry.Denot). IsTrue (scheme.admits k.history c.args.entry)) (sym c.self.view_is) c.requires.admitted in
-    let put : IsPut g.D.Disk scheme i.journal c.lengthen_and_put.new.journal h (g.R.Docket.spare i.docket) i.pending c.args.entry c.bytes.result.now = record {
+    let admitted : IsTrue (scheme.admits h c.args.added.entry) = subst (λ (k : Kept g.row.D.Denot g.row.R-Entry.Denot). IsTrue (scheme.admits k.history c.args.added.entry)) (sym c.self.view_is) c.requires.admitted in
+    let ruled : g.R.Docket.IsRuling h c.args.added.entry c.args.added.ruling =
+    subst (λ (k : Kept g.row.D.Denot g.row.R-Entry.Denot). g.R.Docket.IsRuling k.history c.args.added.entry c.args.added.ruling) (sym c.self.view_is) c.requires.ruled in
+    let put : IsPut g.D.Disk scheme i.journal c.lengthen_and_put.new.journal h (g.R.Docket.spare i.docket) (entry_of i.pending) c.args.added.entry c.bytes.result.now = record {
       none = ap (λ k. k.pending) c.self.view_is ∙ c.requires.decided;
-      whole = c.self.invariant;
+      whole = c.self.invariant.0;
       same = c.lengthen_and_put.ensures.honest;
       spelled = c.bytes.ensures.held ∙ c.put.ensures.spelled;
       is_entry = c.put.ensures.in_range;
       admitted = admitted;
-      legal = λ legal. g.met.R.Docket.admitted_legal h c.args.entry legal admitted;
-    } in
-    left_whole g.D.Disk scheme g.met.D.Disk.reads_as_image g.met.R.Docket.legal_past i.journal c.lengthen_and_put.new.journal h (g.R.Docket.spare i.docket) i.pending c.args.entry c.bytes.result.now put
-    c.in-Err-DiskFault-true.ensures.count_err (search rules) (omega (arith, ap (λ k. k.room) c.self.view_is, c.requires.room))
-    (λ honest keeps. c.in-Err-DiskFault-true.ensures.undecided honest scheme.header (payloads_of scheme.spelling h) keeps (search rules))
+      legal = λ legal. g.met.R.Docket.admitted_legal h c.args.added.entry legal admitted;
+    } in (
+      left_whole g.D.Disk scheme g.met.D.Disk.reads_as_image g.met.R.Docket.legal_past i.journal c.lengthen_and_put.new.journal h (g.R.Docket.spare i.docket) (entry_of i.pending) c.args.added.entry c.bytes.result.now put
+          c.in-Err-DiskFault-true.ensures.count_err (search rules) (omega (arith, ap (λ k. k.room) c.self.view_is, c.requires.room))
+          (λ honest keeps. c.in-Err-DiskFault-true.ensures.undecided honest scheme.header (payloads_of scheme.spelling h) keeps (search rules)),
+      ruled,
+    )
 
 pub invariant_of-self-else-this : goal.invariant_of-self-else-this
 invariant_of-self-else-this g c =
     let scheme = g.R.Docket.scheme in
     let i = c.self.inside in
     let h = g.R.Docket.history i.docket in
-    let admitted : IsTrue (scheme.admits h c.args.entry) = subst (λ (k : Kept g.row.D.Denot g.row.R-Entry.Denot). IsTrue (scheme.admits k.history c.args.entry)) (sym c.self.view_is) c.requires.admitted in
-    let put : IsPut g.D.Disk scheme i.journal c.lengthen_and_put.new.journal h (g.R.Docket.spare i.docket) i.pending c.args.entry c.bytes.result.now = record {
+    let admitted : IsTrue (scheme.admits h c.args.added.entry) = subst (λ (k : Kept g.row.D.Denot g.row.R-Entry.Denot). IsTrue (scheme.admits k.history c.args.added.entry)) (sym c.self.view_is) c.requires.admitted in
+    let put : IsPut g.D.Disk scheme i.journal c.lengthen_and_put.new.journal h (g.R.Docket.spare i.docket) (entry_of i.pending) c.args.added.entry c.bytes.result.now = record {
       none = ap (λ k. k.pending) c.self.view_is ∙ c.requires.decided;
-      whole = c.self.invariant;
+      whole = c.self.invariant.0;
       same = c.lengthen_and_put.ensures.honest;
       spelled = c.bytes.ensures.held ∙ c.put.ensures.spelled;
       is_entry = c.put.ensures.in_range;
       admitted = admitted;
-      legal = λ legal. g.met.R.Docket.admitted_legal h c.args.entry legal admitted;
-    } in
-    rw put.none (refused_whole g.D.Disk scheme g.met.D.Disk.reads_as_image g.met.R.Docket.legal_past i.journal c.lengthen_and_put.new.journal h (g.R.Docket.spare i.docket) i.pending c.args.entry c.bytes.result.now put
-    c.in-Err-DiskFault-false.ensures.count_err (search rules) (λ honest keeps. c.in-Err-DiskFault-false.ensures.before honest scheme.header (payloads_of scheme.spelling h) keeps (search rules)))
+      legal = λ legal. g.met.R.Docket.admitted_legal h c.args.added.entry legal admitted;
+    } in (
+      rw put.none (refused_whole g.D.Disk scheme g.met.D.Disk.reads_as_image g.met.R.Docket.legal_past i.journal c.lengthen_and_put.new.journal h (g.R.Docket.spare i.docket) (entry_of i.pending) c.args.added.entry c.bytes.result.now put
+          c.in-Err-DiskFault-false.ensures.count_err (search rules) (λ honest keeps. c.in-Err-DiskFault-false.ensures.before honest scheme.header (payloads_of scheme.spelling h) keeps (search rules))),
+      c.self.invariant.1,
+    )
 
 pub lengthen_and_put-requires-clause-stands : goal.lengthen_and_put-requires-clause-stands
 lengthen_and_put-requires-clause-stands g c honest =
     let scheme = g.R.Docket.scheme in
     let i = c.self.inside in
     let whole : IsWhole g.D.Disk scheme i.journal (g.R.Docket.history i.docket) (g.R.Docket.spare i.docket) None =
-    subst (λ (o : Option g.row.R-Entry.Denot). IsWhole g.D.Disk scheme i.journal (g.R.Docket.history i.docket) (g.R.Docket.spare i.docket) o) (ap (λ k. k.pending) c.self.view_is ∙ c.requires.decided) c.self.invariant in
+    subst (λ (o : Option g.row.R-Entry.Denot). IsWhole g.D.Disk scheme i.journal (g.R.Docket.history i.docket) (g.R.Docket.spare i.docket) o) (ap (λ k. k.pending) c.self.view_is ∙ c.requires.decided) c.self.invariant.0 in
     (scheme.header, (payloads_of scheme.spelling (g.R.Docket.history i.docket), whole.keeps honest))
 
 pub invariant_of-self : goal.invariant_of-self
@@ -54,36 +61,38 @@ invariant_of-self g c =
     let scheme = g.R.Docket.scheme in
     let i = c.self.inside in
     let h = g.R.Docket.history i.docket in
-    let admitted : IsTrue (scheme.admits h c.args.entry) = subst (λ (k : Kept g.row.D.Denot g.row.R-Entry.Denot). IsTrue (scheme.admits k.history c.args.entry)) (sym c.self.view_is) c.requires.admitted in
-    let put : IsPut g.D.Disk scheme i.journal c.lengthen_and_put.new.journal h (g.R.Docket.spare i.docket) i.pending c.args.entry c.bytes.result.now = record {
+    let admitted : IsTrue (scheme.admits h c.args.added.entry) = subst (λ (k : Kept g.row.D.Denot g.row.R-Entry.Denot). IsTrue (scheme.admits k.history c.args.added.entry)) (sym c.self.view_is) c.requires.admitted in
+    let put : IsPut g.D.Disk scheme i.journal c.lengthen_and_put.new.journal h (g.R.Docket.spare i.docket) (entry_of i.pending) c.args.added.entry c.bytes.result.now = record {
       none = ap (λ k. k.pending) c.self.view_is ∙ c.requires.decided;
-      whole = c.self.invariant;
+      whole = c.self.invariant.0;
       same = c.lengthen_and_put.ensures.honest;
       spelled = c.bytes.ensures.held ∙ c.put.ensures.spelled;
       is_entry = c.put.ensures.in_range;
       admitted = admitted;
-      legal = λ legal. g.met.R.Docket.admitted_legal h c.args.entry legal admitted;
-    } in
-    rw put.none (kept_whole g.D.Disk scheme g.met.D.Disk.reads_as_image g.met.R.Docket.legal_past i.journal c.lengthen_and_put.new.journal h (g.R.Docket.spare i.docket) i.pending c.args.entry c.bytes.result.now put
-    (g.R.Docket.history c.admit.new.self) (g.R.Docket.spare c.admit.new.self) c.admit.ensures.history c.admit.ensures.room
-    c.in-Ok.ensures.count c.in-Ok.ensures.decided (λ honest keeps. c.in-Ok.ensures.kept honest scheme.header (payloads_of scheme.spelling h) keeps))
+      legal = λ legal. g.met.R.Docket.admitted_legal h c.args.added.entry legal admitted;
+    } in (
+      rw put.none (kept_whole g.D.Disk scheme g.met.D.Disk.reads_as_image g.met.R.Docket.legal_past i.journal c.lengthen_and_put.new.journal h (g.R.Docket.spare i.docket) (entry_of i.pending) c.args.added.entry c.bytes.result.now put
+          (g.R.Docket.history c.admit.new.self) (g.R.Docket.spare c.admit.new.self) c.admit.ensures.history c.admit.ensures.room
+          c.in-Ok.ensures.count c.in-Ok.ensures.decided (λ honest keeps. c.in-Ok.ensures.kept honest scheme.header (payloads_of scheme.spelling h) keeps)),
+      none_ruled i.pending _ put.none,
+    )
 
 pub returns-in-Ok-clause-sound : goal.returns-in-Ok-clause-sound
 returns-in-Ok-clause-sound g c =
     let scheme = g.R.Docket.scheme in
     let i = c.self.inside in
     let h = g.R.Docket.history i.docket in
-    let admitted : IsTrue (scheme.admits h c.args.entry) = subst (λ (k : Kept g.row.D.Denot g.row.R-Entry.Denot). IsTrue (scheme.admits k.history c.args.entry)) (sym c.self.view_is) c.requires.admitted in
-    let put : IsPut g.D.Disk scheme i.journal c.lengthen_and_put.new.journal h (g.R.Docket.spare i.docket) i.pending c.args.entry c.bytes.result.now = record {
+    let admitted : IsTrue (scheme.admits h c.args.added.entry) = subst (λ (k : Kept g.row.D.Denot g.row.R-Entry.Denot). IsTrue (scheme.admits k.history c.args.added.entry)) (sym c.self.view_is) c.requires.admitted in
+    let put : IsPut g.D.Disk scheme i.journal c.lengthen_and_put.new.journal h (g.R.Docket.spare i.docket) (entry_of i.pending) c.args.added.entry c.bytes.result.now = record {
       none = ap (λ k. k.pending) c.self.view_is ∙ c.requires.decided;
-      whole = c.self.invariant;
+      whole = c.self.invariant.0;
       same = c.lengthen_and_put.ensures.honest;
       spelled = c.bytes.ensures.held ∙ c.put.ensures.spelled;
       is_entry = c.put.ensures.in_range;
       admitted = admitted;
-      legal = λ legal. g.met.R.Docket.admitted_legal h c.args.entry legal admitted;
+      legal = λ legal. g.met.R.Docket.admitted_legal h c.args.added.entry legal admitted;
     } in
-    rw (← c.self.view_is, put.none) (λ honest. (kept_whole g.D.Disk scheme g.met.D.Disk.reads_as_image g.met.R.Docket.legal_past i.journal c.lengthen_and_put.new.journal h (g.R.Docket.spare i.docket) i.pending c.args.entry c.bytes.result.now put
+    rw (← c.self.view_is, put.none) (λ honest. (kept_whole g.D.Disk scheme g.met.D.Disk.reads_as_image g.met.R.Docket.legal_past i.journal c.lengthen_and_put.new.journal h (g.R.Docket.spare i.docket) (entry_of i.pending) c.args.added.entry c.bytes.result.now put
     (g.R.Docket.history c.admit.new.self) (g.R.Docket.spare c.admit.new.self) c.admit.ensures.history c.admit.ensures.room
     c.in-Ok.ensures.count c.in-Ok.ensures.decided (λ honest keeps. c.in-Ok.ensures.kept honest scheme.header (payloads_of scheme.spelling h) keeps)).sound (subst IsTrue (sym put.same) honest))
 
@@ -92,17 +101,17 @@ returns-in-Ok-clause-moments g c =
     let scheme = g.R.Docket.scheme in
     let i = c.self.inside in
     let h = g.R.Docket.history i.docket in
-    let admitted : IsTrue (scheme.admits h c.args.entry) = subst (λ (k : Kept g.row.D.Denot g.row.R-Entry.Denot). IsTrue (scheme.admits k.history c.args.entry)) (sym c.self.view_is) c.requires.admitted in
-    let put : IsPut g.D.Disk scheme i.journal c.lengthen_and_put.new.journal h (g.R.Docket.spare i.docket) i.pending c.args.entry c.bytes.result.now = record {
+    let admitted : IsTrue (scheme.admits h c.args.added.entry) = subst (λ (k : Kept g.row.D.Denot g.row.R-Entry.Denot). IsTrue (scheme.admits k.history c.args.added.entry)) (sym c.self.view_is) c.requires.admitted in
+    let put : IsPut g.D.Disk scheme i.journal c.lengthen_and_put.new.journal h (g.R.Docket.spare i.docket) (entry_of i.pending) c.args.added.entry c.bytes.result.now = record {
       none = ap (λ k. k.pending) c.self.view_is ∙ c.requires.decided;
-      whole = c.self.invariant;
+      whole = c.self.invariant.0;
       same = c.lengthen_and_put.ensures.honest;
       spelled = c.bytes.ensures.held ∙ c.put.ensures.spelled;
       is_entry = c.put.ensures.in_range;
       admitted = admitted;
-      legal = λ legal. g.met.R.Docket.admitted_legal h c.args.entry legal admitted;
+      legal = λ legal. g.met.R.Docket.admitted_legal h c.args.added.entry legal admitted;
     } in
-    rw (← c.self.view_is) (λ honest. put_moments g.D.Disk scheme g.met.D.Disk.reads_as_image g.met.R.Docket.legal_past i.journal c.lengthen_and_put.new.journal h (g.R.Docket.spare i.docket) i.pending c.args.entry c.bytes.result.now put honest
+    rw (← c.self.view_is) (λ honest. put_moments g.D.Disk scheme g.met.D.Disk.reads_as_image g.met.R.Docket.legal_past i.journal c.lengthen_and_put.new.journal h (g.R.Docket.spare i.docket) (entry_of i.pending) c.args.added.entry c.bytes.result.now put honest
     (λ keeps. c.lengthen_and_put.ensures.moments honest scheme.header (payloads_of scheme.spelling h) keeps))
 
 pub returns-in-Err-DiskFault-true-clause-moments : goal.returns-in-Err-DiskFault-true-clause-moments
@@ -110,17 +119,17 @@ returns-in-Err-DiskFault-true-clause-moments g c =
     let scheme = g.R.Docket.scheme in
     let i = c.self.inside in
     let h = g.R.Docket.history i.docket in
-    let admitted : IsTrue (scheme.admits h c.args.entry) = subst (λ (k : Kept g.row.D.Denot g.row.R-Entry.Denot). IsTrue (scheme.admits k.history c.args.entry)) (sym c.self.view_is) c.requires.admitted in
-    let put : IsPut g.D.Disk scheme i.journal c.lengthen_and_put.new.journal h (g.R.Docket.spare i.docket) i.pending c.args.entry c.bytes.result.now = record {
+    let admitted : IsTrue (scheme.admits h c.args.added.entry) = subst (λ (k : Kept g.row.D.Denot g.row.R-Entry.Denot). IsTrue (scheme.admits k.history c.args.added.entry)) (sym c.self.view_is) c.requires.admitted in
+    let put : IsPut g.D.Disk scheme i.journal c.lengthen_and_put.new.journal h (g.R.Docket.spare i.docket) (entry_of i.pending) c.args.added.entry c.bytes.result.now = record {
       none = ap (λ k. k.pending) c.self.view_is ∙ c.requires.decided;
-      whole = c.self.invariant;
+      whole = c.self.invariant.0;
       same = c.lengthen_and_put.ensures.honest;
       spelled = c.bytes.ensures.held ∙ c.put.ensures.spelled;
       is_entry = c.put.ensures.in_range;
       admitted = admitted;
-      legal = λ legal. g.met.R.Docket.admitted_legal h c.args.entry legal admitted;
+      legal = λ legal. g.met.R.Docket.admitted_legal h c.args.added.entry legal admitted;
     } in
-    rw (← c.self.view_is) (λ honest. put_moments g.D.Disk scheme g.met.D.Disk.reads_as_image g.met.R.Docket.legal_past i.journal c.lengthen_and_put.new.journal h (g.R.Docket.spare i.docket) i.pending c.args.entry c.bytes.result.now put honest
+    rw (← c.self.view_is) (λ honest. put_moments g.D.Disk scheme g.met.D.Disk.reads_as_image g.met.R.Docket.legal_past i.journal c.lengthen_and_put.new.journal h (g.R.Docket.spare i.docket) (entry_of i.pending) c.args.added.entry c.bytes.result.now put honest
     (λ keeps. c.lengthen_and_put.ensures.moments honest scheme.header (payloads_of scheme.spelling h) keeps))
 
 pub returns-in-Err-DiskFault-false-clause-moments : goal.returns-in-Err-DiskFault-false-clause-moments
@@ -128,17 +137,17 @@ returns-in-Err-DiskFault-false-clause-moments g c =
     let scheme = g.R.Docket.scheme in
     let i = c.self.inside in
     let h = g.R.Docket.history i.docket in
-    let admitted : IsTrue (scheme.admits h c.args.entry) = subst (λ (k : Kept g.row.D.Denot g.row.R-Entry.Denot). IsTrue (scheme.admits k.history c.args.entry)) (sym c.self.view_is) c.requires.admitted in
-    let put : IsPut g.D.Disk scheme i.journal c.lengthen_and_put.new.journal h (g.R.Docket.spare i.docket) i.pending c.args.entry c.bytes.result.now = record {
+    let admitted : IsTrue (scheme.admits h c.args.added.entry) = subst (λ (k : Kept g.row.D.Denot g.row.R-Entry.Denot). IsTrue (scheme.admits k.history c.args.added.entry)) (sym c.self.view_is) c.requires.admitted in
+    let put : IsPut g.D.Disk scheme i.journal c.lengthen_and_put.new.journal h (g.R.Docket.spare i.docket) (entry_of i.pending) c.args.added.entry c.bytes.result.now = record {
       none = ap (λ k. k.pending) c.self.view_is ∙ c.requires.decided;
-      whole = c.self.invariant;
+      whole = c.self.invariant.0;
       same = c.lengthen_and_put.ensures.honest;
       spelled = c.bytes.ensures.held ∙ c.put.ensures.spelled;
       is_entry = c.put.ensures.in_range;
       admitted = admitted;
-      legal = λ legal. g.met.R.Docket.admitted_legal h c.args.entry legal admitted;
+      legal = λ legal. g.met.R.Docket.admitted_legal h c.args.added.entry legal admitted;
     } in
-    rw (← c.self.view_is) (λ honest. put_moments g.D.Disk scheme g.met.D.Disk.reads_as_image g.met.R.Docket.legal_past i.journal c.lengthen_and_put.new.journal h (g.R.Docket.spare i.docket) i.pending c.args.entry c.bytes.result.now put honest
+    rw (← c.self.view_is) (λ honest. put_moments g.D.Disk scheme g.met.D.Disk.reads_as_image g.met.R.Docket.legal_past i.journal c.lengthen_and_put.new.journal h (g.R.Docket.spare i.docket) (entry_of i.pending) c.args.added.entry c.bytes.result.now put honest
     (λ keeps. c.lengthen_and_put.ensures.moments honest scheme.header (payloads_of scheme.spelling h) keeps))
 
 pub returns-in-Err-DiskFault-true-clause-sound : goal.returns-in-Err-DiskFault-true-clause-sound
@@ -146,17 +155,17 @@ returns-in-Err-DiskFault-true-clause-sound g c =
     let scheme = g.R.Docket.scheme in
     let i = c.self.inside in
     let h = g.R.Docket.history i.docket in
-    let admitted : IsTrue (scheme.admits h c.args.entry) = subst (λ (k : Kept g.row.D.Denot g.row.R-Entry.Denot). IsTrue (scheme.admits k.history c.args.entry)) (sym c.self.view_is) c.requires.admitted in
-    let put : IsPut g.D.Disk scheme i.journal c.lengthen_and_put.new.journal h (g.R.Docket.spare i.docket) i.pending c.args.entry c.bytes.result.now = record {
+    let admitted : IsTrue (scheme.admits h c.args.added.entry) = subst (λ (k : Kept g.row.D.Denot g.row.R-Entry.Denot). IsTrue (scheme.admits k.history c.args.added.entry)) (sym c.self.view_is) c.requires.admitted in
+    let put : IsPut g.D.Disk scheme i.journal c.lengthen_and_put.new.journal h (g.R.Docket.spare i.docket) (entry_of i.pending) c.args.added.entry c.bytes.result.now = record {
       none = ap (λ k. k.pending) c.self.view_is ∙ c.requires.decided;
-      whole = c.self.invariant;
+      whole = c.self.invariant.0;
       same = c.lengthen_and_put.ensures.honest;
       spelled = c.bytes.ensures.held ∙ c.put.ensures.spelled;
       is_entry = c.put.ensures.in_range;
       admitted = admitted;
-      legal = λ legal. g.met.R.Docket.admitted_legal h c.args.entry legal admitted;
+      legal = λ legal. g.met.R.Docket.admitted_legal h c.args.added.entry legal admitted;
     } in
-    rw (← c.self.view_is) (λ honest. (left_whole g.D.Disk scheme g.met.D.Disk.reads_as_image g.met.R.Docket.legal_past i.journal c.lengthen_and_put.new.journal h (g.R.Docket.spare i.docket) i.pending c.args.entry c.bytes.result.now put
+    rw (← c.self.view_is) (λ honest. (left_whole g.D.Disk scheme g.met.D.Disk.reads_as_image g.met.R.Docket.legal_past i.journal c.lengthen_and_put.new.journal h (g.R.Docket.spare i.docket) (entry_of i.pending) c.args.added.entry c.bytes.result.now put
     c.in-Err-DiskFault-true.ensures.count_err (search rules) (omega (arith, ap (λ k. k.room) c.self.view_is, c.requires.room))
     (λ honest keeps. c.in-Err-DiskFault-true.ensures.undecided honest scheme.header (payloads_of scheme.spelling h) keeps (search rules))).sound (subst IsTrue (sym put.same) honest))
 
@@ -165,15 +174,15 @@ returns-in-Err-DiskFault-false-clause-sound g c =
     let scheme = g.R.Docket.scheme in
     let i = c.self.inside in
     let h = g.R.Docket.history i.docket in
-    let admitted : IsTrue (scheme.admits h c.args.entry) = subst (λ (k : Kept g.row.D.Denot g.row.R-Entry.Denot). IsTrue (scheme.admits k.history c.args.entry)) (sym c.self.view_is) c.requires.admitted in
-    let put : IsPut g.D.Disk scheme i.journal c.lengthen_and_put.new.journal h (g.R.Docket.spare i.docket) i.pending c.args.entry c.bytes.result.now = record {
+    let admitted : IsTrue (scheme.admits h c.args.added.entry) = subst (λ (k : Kept g.row.D.Denot g.row.R-Entry.Denot). IsTrue (scheme.admits k.history c.args.added.entry)) (sym c.self.view_is) c.requires.admitted in
+    let put : IsPut g.D.Disk scheme i.journal c.lengthen_and_put.new.journal h (g.R.Docket.spare i.docket) (entry_of i.pending) c.args.added.entry c.bytes.result.now = record {
       none = ap (λ k. k.pending) c.self.view_is ∙ c.requires.decided;
-      whole = c.self.invariant;
+      whole = c.self.invariant.0;
       same = c.lengthen_and_put.ensures.honest;
       spelled = c.bytes.ensures.held ∙ c.put.ensures.spelled;
       is_entry = c.put.ensures.in_range;
       admitted = admitted;
-      legal = λ legal. g.met.R.Docket.admitted_legal h c.args.entry legal admitted;
+      legal = λ legal. g.met.R.Docket.admitted_legal h c.args.added.entry legal admitted;
     } in
-    rw (← c.self.view_is, put.none) (λ honest. (refused_whole g.D.Disk scheme g.met.D.Disk.reads_as_image g.met.R.Docket.legal_past i.journal c.lengthen_and_put.new.journal h (g.R.Docket.spare i.docket) i.pending c.args.entry c.bytes.result.now put
+    rw (← c.self.view_is, put.none) (λ honest. (refused_whole g.D.Disk scheme g.met.D.Disk.reads_as_image g.met.R.Docket.legal_past i.journal c.lengthen_and_put.new.journal h (g.R.Docket.spare i.docket) (entry_of i.pending) c.args.added.entry c.bytes.result.now put
     c.in-Err-DiskFault-false.ensures.count_err (search rules) (λ honest keeps. c.in-Err-DiskFault-false.ensures.before honest scheme.header (payloads_of scheme.spelling h) keeps (search rules))).sound (subst IsTrue (sym put.same) honest))

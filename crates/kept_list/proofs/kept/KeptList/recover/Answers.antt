@@ -123,14 +123,16 @@ returns-in-Err-clause-damaged g c honest place is =
 pub invariant_of-result : goal.invariant_of-result
 invariant_of-result g c =
     let h = g.R.Docket.history c.read_all.new.docket in
-    let ready = c.in_ok-journal.ensures in
-    decided_whole g.D.Disk g.R.Docket.scheme g.met.D.Disk.reads_as_image g.met.R.Docket.legal_past c.in_ok-journal.journal h (g.R.Docket.spare c.read_all.new.docket)
-    (ready.count ∙ c.in_default-read_all.ensures.count) c.read_all.ensures.range ready.decided (λ honest.
-    let last = subst IsTrue ready.honest honest in
-    let still = subst IsTrue c.read_all.ensures.honest last in (
-      record { entries = c.in_default-read_all.ensures.entries still; legal = c.read_all.ensures.legal },
-      ready.kept last g.R.Docket.scheme.header (payloads_of g.R.Docket.scheme.spelling h) (c.in_default-read_all.ensures.all still),
-    ))
+    let ready = c.in_ok-journal.ensures in (
+      decided_whole g.D.Disk g.R.Docket.scheme g.met.D.Disk.reads_as_image g.met.R.Docket.legal_past c.in_ok-journal.journal h (g.R.Docket.spare c.read_all.new.docket)
+          (ready.count ∙ c.in_default-read_all.ensures.count) c.read_all.ensures.range ready.decided (λ honest.
+          let last = subst IsTrue ready.honest honest in
+          let still = subst IsTrue c.read_all.ensures.honest last in (
+            record { entries = c.in_default-read_all.ensures.entries still; legal = c.read_all.ensures.legal },
+            ready.kept last g.R.Docket.scheme.header (payloads_of g.R.Docket.scheme.spelling h) (c.in_default-read_all.ensures.all still),
+          )),
+      tt,
+    )
 
 pub ready-requires-clause-stands : goal.ready-requires-clause-stands
 ready-requires-clause-stands g c honest =

@@ -1,5 +1,6 @@
 use Rattle.std.proofs.Common.{◌≡◌, ℕ, ◌+◌, ◌≤◌, ◌∷◌, [], List, ap, length, reverse, subst, sym, ◌∙◌}
 use Rattle.std.proofs.lemmas.List.{reverse-append}
+use Rattle.std.specs.Option.{option_copied}
 use Rattle.aid_filings.specs.declared.filing.Filing.{Filing}
 use Rattle.office_core.specs.Index.{IndexRows, IsIndexed}
 use Rattle.office_links.specs.Links.{AreLinked}
@@ -8,53 +9,32 @@ use Rattle.office_links.specs.declared.links.Link.{Link}
 use Rattle.office_core.proofs.IndexGrown.{AreRows, HaveOneMore, few_left, index_grown, linkable, places_left, room_left}
 use Rattle.office_core.proofs.RowsWritten.{placed_there, places_after, school_years_after, years_after}
 use Rattle.office_core.proofs.RowsFound.{place_before, school_year_before, student_before, year_before}
-use Rattle.office_core.specs.Index.{AreSchoolYears, AreStudents, AreYears, student_or}
+use Rattle.office_core.specs.Index.{AreSchoolYears, AreStudents, AreYears, position_of, student_or}
+use Rattle.office_history.specs.Past.{key_at}
 use Rattle.office_core.specs.declared.entries.StudentEntry.{StudentEntry}
 use Rattle.office_links.specs.Placed.{ArePlaces}
 use Rattle.office_rows.specs.Changed.{IsPlaceBefore, student_changed}
 use Rattle.office_core.proofs.indexed.Indexed.admit.Goals as goal
 
-pub outcome_after-outcome-requires-clause-place : goal.outcome_after-outcome-requires-clause-place
-outcome_after-outcome-requires-clause-place c =
-    let rows = c.self.inside.places.rows in
-    let are : ArePlaces c.args.self.now.history rows = subst (λ (r : Register). ArePlaces r.history rows) c.self.view_is c.self.invariant.0.places in
-    place_before c.args.self.now.history c.args.filing rows c.place_changed.result c.find-place_slot.result.1 c.place_told-place.result are
-    c.place_changed.ensures c.find-place_slot.ensures.row c.place_told-place.ensures
-
-pub outcome_after-outcome-requires-clause-year : goal.outcome_after-outcome-requires-clause-year
-outcome_after-outcome-requires-clause-year c =
-    let rows = c.self.inside.years.rows in
-    let are : AreYears c.args.self.now.history rows = subst (λ (r : Register). AreYears r.history rows) c.self.view_is c.self.invariant.0.years in
-    year_before c.args.self.now.history c.args.filing rows c.year_changed.result c.find-year_slot.result.1 c.year_told-year.result are
-    c.year_changed.ensures c.find-year_slot.ensures.row c.year_told-year.ensures
-
-pub outcome_after-outcome-requires-clause-student : goal.outcome_after-outcome-requires-clause-student
-outcome_after-outcome-requires-clause-student c = λ student changed.
-    let rows = c.self.inside.students.rows in
-    let are : AreStudents c.args.self.now.history rows = subst (λ (r : Register). AreStudents r.history rows) c.self.view_is c.self.invariant.0.students in
-    ap (λ (entry : StudentEntry). entry.row)
-    (student_before c.args.self.now.history c.args.filing rows c.student_changed.result c.find-student_slot.result.1 c.student_told-student.result are
-    c.student_changed.ensures c.find-student_slot.ensures.row c.student_told-student.ensures student changed)
-
 pub rows_after-written-requires-clause-place : goal.rows_after-written-requires-clause-place
 rows_after-written-requires-clause-place c =
     let rows = c.self.inside.places.rows in
     let are : ArePlaces c.args.self.now.history rows = subst (λ (r : Register). ArePlaces r.history rows) c.self.view_is c.self.invariant.0.places in
-    place_before c.args.self.now.history c.args.filing rows c.place_changed.result c.find-place_slot.result.1 c.place_told-place.result are
+    place_before c.args.self.now.history c.args.filing rows c.place_changed.result (option_copied c.find-place_slot.result.1) c.place_told-place.result are
     c.place_changed.ensures c.find-place_slot.ensures.row c.place_told-place.ensures
 
 pub rows_after-written-requires-clause-year : goal.rows_after-written-requires-clause-year
 rows_after-written-requires-clause-year c =
     let rows = c.self.inside.years.rows in
     let are : AreYears c.args.self.now.history rows = subst (λ (r : Register). AreYears r.history rows) c.self.view_is c.self.invariant.0.years in
-    year_before c.args.self.now.history c.args.filing rows c.year_changed.result c.find-year_slot.result.1 c.year_told-year.result are
+    year_before c.args.self.now.history c.args.filing rows c.year_changed.result (option_copied c.find-year_slot.result.1) c.year_told-year.result are
     c.year_changed.ensures c.find-year_slot.ensures.row c.year_told-year.ensures
 
 pub rows_after-written-requires-clause-school_year : goal.rows_after-written-requires-clause-school_year
 rows_after-written-requires-clause-school_year c =
     let rows = c.self.inside.school_years.rows in
     let are : AreSchoolYears c.args.self.now.history rows = subst (λ (r : Register). AreSchoolYears r.history rows) c.self.view_is c.self.invariant.0.school_years in
-    school_year_before c.args.self.now.history c.args.filing rows c.school_year_changed.result c.find-cost_slot.result.1 c.school_year_told-cost.result are
+    school_year_before c.args.self.now.history c.args.filing rows c.school_year_changed.result (option_copied c.find-cost_slot.result.1) c.school_year_told-cost.result are
     c.school_year_changed.ensures c.find-cost_slot.ensures.row c.school_year_told-cost.ensures
 
 pub rows_after-written-requires-clause-student : goal.rows_after-written-requires-clause-student
@@ -62,21 +42,21 @@ rows_after-written-requires-clause-student c = λ student changed.
     let rows = c.self.inside.students.rows in
     let are : AreStudents c.args.self.now.history rows = subst (λ (r : Register). AreStudents r.history rows) c.self.view_is c.self.invariant.0.students in
     ap (λ (entry : StudentEntry). entry.row)
-    (student_before c.args.self.now.history c.args.filing rows c.student_changed.result c.find-student_slot.result.1 c.student_told-student.result are
+    (student_before c.args.self.now.history c.args.filing rows c.student_changed.result (option_copied c.find-student_slot.result.1) c.student_told-student.result are
     c.student_changed.ensures c.find-student_slot.ensures.row c.student_told-student.ensures student changed)
 
 pub newest_before-before-requires-clause-place : goal.newest_before-before-requires-clause-place
 newest_before-before-requires-clause-place c =
     let rows = c.self.inside.places.rows in
     let are : ArePlaces c.args.self.now.history rows = subst (λ (r : Register). ArePlaces r.history rows) c.self.view_is c.self.invariant.0.places in
-    place_before c.args.self.now.history c.args.filing rows c.place_changed.result c.find-place_slot.result.1 c.place_told-place.result are
+    place_before c.args.self.now.history c.args.filing rows c.place_changed.result (option_copied c.find-place_slot.result.1) c.place_told-place.result are
     c.place_changed.ensures c.find-place_slot.ensures.row c.place_told-place.ensures
 
 pub newest_before-before-requires-clause-student : goal.newest_before-before-requires-clause-student
 newest_before-before-requires-clause-student c = λ e is.
     let rows = c.self.inside.students.rows in
     let are : AreStudents c.args.self.now.history rows = subst (λ (r : Register). AreStudents r.history rows) c.self.view_is c.self.invariant.0.students in
-    student_before c.args.self.now.history c.args.filing rows c.student_changed.result c.find-student_slot.result.1 c.student_told-student.result are
+    student_before c.args.self.now.history c.args.filing rows c.student_changed.result (option_copied c.find-student_slot.result.1) c.student_told-student.result are
     c.student_changed.ensures c.find-student_slot.ensures.row c.student_told-student.ensures e.student (ap student_changed is)
 
 pub write-slot-requires-clause-slot : goal.write-slot-requires-clause-slot
@@ -90,6 +70,28 @@ write-requires-clause-slot c = λ name row is.
 pub write-requires-2-clause-slot : goal.write-requires-2-clause-slot
 write-requires-2-clause-slot c = λ name row is.
     c.find-cost_slot.ensures.slot name (c.school_year_changed.ensures ∙ c.rows_after-written.ensures.school_year_named name row is)
+
+-- a filing's key is new, and a name with no slot has no row
+pub write_key-requires-clause-new : goal.write_key-requires-clause-new
+write_key-requires-clause-new c =
+    c.self.invariant.0.keys c.args.filing.key
+    ∙ ap (λ (r : Register). position_of (key_at c.args.filing.key r.history)) c.self.view_is
+    ∙ ap position_of c.requires.legal.1
+
+pub write-slot-requires-clause-new : goal.write-slot-requires-clause-new
+write-slot-requires-clause-new c = λ name row is.
+    c.find-place_slot.ensures.none name (c.place_changed.ensures ∙ c.rows_after-written.ensures.place_named name row is)
+
+pub write-requires-clause-new : goal.write-requires-clause-new
+write-requires-clause-new c = λ name row is.
+    c.find-year_slot.ensures.none name (c.year_changed.ensures ∙ c.rows_after-written.ensures.year_named name row is)
+
+pub write-requires-2-clause-new : goal.write-requires-2-clause-new
+write-requires-2-clause-new c = λ name row is.
+    c.find-cost_slot.ensures.none name (c.school_year_changed.ensures ∙ c.rows_after-written.ensures.school_year_named name row is)
+
+pub write_student-requires-clause-new : goal.write_student-requires-clause-new
+write_student-requires-clause-new c = λ student changed. c.find-student_slot.ensures.none student (c.student_changed.ensures ∙ changed)
 
 pub write_student-requires-clause-slot : goal.write_student-requires-clause-slot
 write_student-requires-clause-slot c = λ student changed. c.find-student_slot.ensures.slot student (c.student_changed.ensures ∙ changed)
@@ -145,7 +147,7 @@ invariant_of-self c =
     subst (λ (l : List Filing). IsIndexed l c.self.inside.outcomes.items old) view c.self.invariant.0 in
     let here : c.front-position.result + 1 ≡ length past + 1 = ap (λ (n : ℕ). n + 1) c.front-position.ensures.value in
     let place : IsPlaceBefore past f c.place_told-place.result =
-    place_before past f old.places c.place_changed.result c.find-place_slot.result.1 c.place_told-place.result before.places
+    place_before past f old.places c.place_changed.result (option_copied c.find-place_slot.result.1) c.place_told-place.result before.places
     c.place_changed.ensures c.find-place_slot.ensures.row c.place_told-place.ensures in
     let rows : AreRows (f ∷ past) new = record {
       keys = c.write_key.ensures.rows past here c.requires.legal.1 before.keys;
@@ -174,8 +176,8 @@ invariant_of-self c =
     let grown : reverse c.push_reserved-2.new.self.items ≡ f ∷ past =
     ap (λ (l : List Filing). reverse l) c.push_reserved-2.ensures.items ∙ reverse-append filings (f ∷ []) ∙ ap (λ (l : List Filing). f ∷ l) view in
     let some : 1 ≤ c.self.inside.spare = subst (λ (n : ℕ). 1 ≤ n) (sym (ap (λ (r : Register). r.spare) c.self.view_is)) c.requires.room in (
-      index_grown past (reverse c.push_reserved-2.new.self.items) f c.self.inside.outcomes.items c.push_reserved-3.new.self.items c.outcome_after-outcome.result old new grown
-          c.push_reserved-3.ensures.items c.requires.legal c.outcome_after-outcome.ensures before rows more,
+      index_grown past (reverse c.push_reserved-2.new.self.items) f c.self.inside.outcomes.items c.push_reserved-3.new.self.items c.args.outcome old new grown
+          c.push_reserved-3.ensures.items c.requires.legal c.requires.outcome before rows more,
       places_left c.self.inside.spare _ _ _ _ some c.self.invariant.1 c.push_reserved-2.ensures.len c.push_reserved-2.ensures.capacity,
       places_left c.self.inside.spare _ _ _ _ some c.self.invariant.2 c.push_reserved-3.ensures.len c.push_reserved-3.ensures.capacity,
       places_left c.self.inside.spare _ _ _ _ some c.self.invariant.3 c.push_reserved.ensures.len c.push_reserved.ensures.capacity,

@@ -3,9 +3,9 @@ use Rattle.aid_filings.specs.declared.filing.Filing.{Filing}
 use Rattle.aid_replies.specs.declared.reply.Ask.TheVariants.{Quote}
 use Rattle.aid_replies.specs.declared.reply.StandingRow.{StandingRow}
 use Rattle.aid_replies.specs.declared.reply.Verdict.TheVariants.{Quoted, Standing}
-use Rattle.filing_rules.specs.Rules.{first_broken, payment_lines}
+use Rattle.filing_rules.specs.Rules.{first_broken}
 use Rattle.office_history.specs.Answer.{IsLegal, answer_of, answer_to, quote_of, standing_of}
-use Rattle.office_history.specs.FactsOf.{payment_facts}
+use Rattle.office_history.specs.Rules.{payment_rules}
 use Rattle.office_core.specs.Register.{Register}
 use Rattle.office_core.specs.WalkedFor.{walked_for}
 use Rattle.office_core.proofs.AnswerLaws.{judged_new, stands_there, used_there}
@@ -102,7 +102,7 @@ returns-in-Quote-clause-quoted g c =
     let term : a.term ≡ q.term = cc in
     let sum : c.quote.result ≡ cents = cc in
     payable past f q.school q.student q.year q.term dollars (a, what, program, amount, school, student, year, term)
-    (subst (λ (h : List Filing). first_broken (payment_lines (payment_facts h q.school q.student q.year q.term 3) q.school q.student q.year q.term 3 (100 * dollars)) ≡ None) view
+    (subst (λ (h : List Filing). first_broken (payment_rules h q.school q.student q.year q.term 3 (100 * dollars)) ≡ None) view
     (c.quote.ensures.below dollars some (omega (arith, sum, amount, most))))
 
 pub returns-in-Quote-clause-greatest : goal.returns-in-Quote-clause-greatest

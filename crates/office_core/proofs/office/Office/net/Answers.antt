@@ -2,8 +2,7 @@ use Rattle.std.proofs.Common.{◌≡◌, ℕ, ◌-◌, ◌≤◌, List, ap, subs
 use Rattle.aid_types.specs.Programs.{rank}
 use Rattle.aid_filings.specs.declared.filing.Filing.{Filing}
 use Rattle.office_history.specs.Answer.{IsLegal}
-use Rattle.office_history.specs.FactsOf.{cell_at}
-use Rattle.office_history.specs.Net.{net_at}
+use Rattle.office_history.specs.Net.{cell_at, net_at}
 use Rattle.office_history.proofs.Ranges.{net_is_small}
 use Rattle.office_history.specs.Rows.{place_row}
 use Rattle.office_core.specs.Register.{Register}

@@ -1,8 +1,8 @@
 use Rattle.std.proofs.Common.{◌≡◌, ℕ, ◌*◌, ◌<◌, ◌≤◌, None, List, subst, ap, ◌∙◌}
 use Rattle.aid_filings.specs.declared.filing.Filing.{Filing}
-use Rattle.filing_rules.specs.Rules.{first_broken, payment_lines}
+use Rattle.filing_rules.specs.Rules.{first_broken}
 use Rattle.office_history.specs.Answer.{quote_of}
-use Rattle.office_history.specs.FactsOf.{payment_facts}
+use Rattle.office_history.specs.Rules.{payment_rules}
 use Rattle.office_core.specs.Register.{Register}
 use Rattle.office_core.proofs.Quoted.{payable, unpayable}
 use Rattle.office_core.proofs.office.Office.quote.Goals as goal
@@ -15,7 +15,7 @@ returns c =
     let value : c.quote_on.result ≡ quote_of past a.school a.student a.year a.term =
     c.quote_on.ensures.value ∙ ap (λ (h : List Filing). quote_of h a.school a.student a.year a.term) view in
     let below = subst (λ (h : List Filing). (dollars : ℕ) → 0 < dollars → 100 * dollars ≤ c.quote_on.result →
-    first_broken (payment_lines (payment_facts h a.school a.student a.year a.term 3) a.school a.student a.year a.term 3 (100 * dollars)) ≡ None) view
+    first_broken (payment_rules h a.school a.student a.year a.term 3 (100 * dollars)) ≡ None) view
     c.quote_on.ensures.below in
     record {
       value = value;
