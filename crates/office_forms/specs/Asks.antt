@@ -14,7 +14,7 @@ use Rattle.filing_kinds.specs.declared.kind.Kind.{Kind}
 use Rattle.filing_numbers.specs.Numbers.{kind_of, numbers_of}
 use Rattle.kept_session.specs.Texts.{Texts}
 use Rattle.office_words.specs.declared.command.QuoteRequest.{QuoteRequest}
-use Rattle.reply_lines.specs.Lines.{line_of, quote_line, reply_of}
+use Rattle.reply_lines.specs.Lines.{line_of, quote_line}
 use Rattle.year_books.specs.declared.error.BookError.{BookError}
 
 -- what an ask files, by its kind and its numbers, if it files anything
@@ -33,16 +33,12 @@ abbrev pub asked : {E : Type 0} → Result (Kind × List ℤ) E → Result (Opti
 asked (Ok meaning) = Ok (Some meaning)
 asked (Err e) = Err e
 
--- the line that answers a row with a filing
-abbrev pub answer_line : ℕ → ℕ → Verdict → List ℕ
-answer_line number front verdict = line_of number (reply_of front verdict)
-
 -- ---- rows of ten kinds
 abbrev pub desk_texts : Texts Ask Verdict RowError
 desk_texts = record {
   Meaning = Result (Option (Kind × List ℤ)) RowError;
   said = said_by;
-  answer_line = answer_line;
+  answer_line = line_of;
   error_line = error_line;
 }
 
@@ -54,7 +50,7 @@ abbrev pub book_texts : Texts Ask Verdict BookError
 book_texts = record {
   Meaning = Result (Option (Kind × List ℤ)) BookError;
   said = said_by;
-  answer_line = answer_line;
+  answer_line = line_of;
   error_line = book_error_line;
 }
 

@@ -13,14 +13,14 @@ use Rattle.kept_session.specs.Texts.{Texts}
 use Rattle.office_words.specs.declared.command.Command.{Command}
 use Rattle.office_words.specs.declared.command.Command.TheVariants.{Fund}
 use Rattle.office_words.specs.declared.command.FundRequest.{FundRequest}
-use Rattle.office_forms.specs.Asks.{answer_line}
+use Rattle.reply_lines.specs.Lines.{line_of}
 
 -- the payments of a round say themselves, and each has the line of its answer
 abbrev pub round_texts : Texts Ask Verdict RowError
 round_texts = record {
   Meaning = Result Ask RowError;
   said = λ row. row;
-  answer_line = answer_line;
+  answer_line = line_of;
   error_line = error_line;
 }
 

@@ -9,10 +9,8 @@ use Rattle.aid_types.specs.declared.award.Way.TheVariants.{Maximum, Calculated, 
 use Rattle.aid_replies.specs.declared.reply.Outcome.{Outcome}
 use Rattle.aid_replies.specs.declared.reply.Outcome.TheVariants.{Noted, Indexed, Paid, Returned}
 use Rattle.aid_types.specs.declared.award.Refusal.{Refusal}
-use Rattle.aid_replies.specs.declared.reply.Reply.{Reply}
-use Rattle.aid_replies.specs.declared.reply.Reply.TheVariants.{Accepted, Again, Refused, Quoted, Standing, DiskFault, NoMemory}
 use Rattle.aid_replies.specs.declared.reply.Verdict.{Verdict}
-use Rattle.aid_replies.specs.declared.reply.Verdict.TheVariants as verdicts
+use Rattle.aid_replies.specs.declared.reply.Verdict.TheVariants.{Again, Refused, Admit, Quoted, Standing}
 
 -- how a formula and a way to an award are written
 abbrev pub formula_text : Formula → List ℕ
@@ -49,23 +47,13 @@ abbrev pub refused_text : ℕ → ℕ → Refusal → List ℕ
 refused_text row front refusal =
     decimal row ++ codes " " ++ decimal front ++ codes " refused " ++ decimal refusal.rule ++ codes " " ++ decimal refusal.kept ++ codes " " ++ decimal refusal.bound ++ codes "\n"
 
--- the reply to an ask, where so many filings stood before it
-abbrev pub reply_of : ℕ → Verdict → Reply
-reply_of front (verdicts.Again position outcome) = Again position front outcome
-reply_of front (verdicts.Refused refusal) = Refused refusal front
-reply_of front (verdicts.Admit outcome) = Accepted (front + 1) front outcome
-reply_of front (verdicts.Quoted cents) = Quoted cents front
-reply_of front (verdicts.Standing row) = Standing row front
-
--- the line of a reply that answers a filing; the others have none
-abbrev pub line_of : ℕ → Reply → List ℕ
-line_of row (Accepted position front outcome) = standing_text row front (codes " accepted ") position outcome
-line_of row (Again position front outcome) = standing_text row front (codes " again ") position outcome
-line_of row (Refused refusal front) = refused_text row front refusal
-line_of row (Quoted cents front) = []
-line_of row (Standing place front) = []
-line_of row (DiskFault undecided) = []
-line_of row NoMemory = []
+-- the line that answers a filing, where so many filings stood before it; the other answers have none
+abbrev pub line_of : ℕ → ℕ → Verdict → List ℕ
+line_of row front (Admit outcome) = standing_text row front (codes " accepted ") (front + 1) outcome
+line_of row front (Again position outcome) = standing_text row front (codes " again ") position outcome
+line_of row front (Refused refusal) = refused_text row front refusal
+line_of row front (Quoted cents) = []
+line_of row front (Standing place) = []
 
 -- quote DOLLARS, of cents that are whole dollars
 abbrev pub quote_line : ℕ → List ℕ

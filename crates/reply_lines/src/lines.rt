@@ -3,7 +3,7 @@ ghost use Rattle.std.specs.Prelude.{◌≡◌, ◌+◌, ◌<◌, ◌≤◌, [], 
 ghost use Rattle.arrayvec.specs.ArrayString.{array_string_len};
 ghost use Rattle.aid_num.specs.Cents.{cents_text};
 ghost use Rattle.aid_num.specs.Whole.{whole_text};
-ghost use Rattle.reply_lines.specs.Lines.{formula_text, line_of, outcome_text, percent_text, quote_line, refused_text, reply_of, standing_text, way_text};
+ghost use Rattle.reply_lines.specs.Lines.{formula_text, line_of, outcome_text, percent_text, quote_line, refused_text, standing_text, way_text};
 
 use aid_replies::{Outcome, Verdict};
 use aid_types::{Formula, Refusal, Way};
@@ -19,7 +19,7 @@ pub fn put_answer(
     verdict: &Verdict,
     out: &mut Vec<u8>,
 ) -> Result<(), AllocError>
-    ensures ok { OnOk result (out.new.items ≡ out.old.items ++ line_of row (reply_of front verdict.now)) }
+    ensures ok { OnOk result (out.new.items ≡ out.old.items ++ line_of row front verdict.now) }
     ensures err { OnErr result (out.new.items ≡ out.old.items) }
     ensures room { vec_len out.old + 160 ≤ vec_capacity out.old → IsOk result }
 {
@@ -52,7 +52,7 @@ pub fn outcome_line(outcome: &Outcome) -> ArrayString<160>
 
 // The line of a verdict.
 fn answer_text(row: u32, front: u32, verdict: &Verdict) -> ArrayString<160>
-    ensures { result.bytes ≡ line_of row (reply_of front verdict.now) }
+    ensures { result.bytes ≡ line_of row front verdict.now }
 {
     match verdict {
         Verdict::Admit(outcome) => {
