@@ -61,7 +61,7 @@ pub record ArePlaced {K V : Type 0} (cmp : K → K → Ordering) (slots : List (
 abbrev pub AreStaying : {K V : Type 0} → List (K × V) → List (K × V) → Type 0
 AreStaying {K} {V} old new = (slot : ℕ) (row : K × V) → slice_get old slot ≡ Some row → (v : V) × (slice_get new slot ≡ Some (row.0, v))
 
--- the looks that a search of the tail takes at most, and the rows at which it is merged: 2 to the power of the looks
+-- the looks that a search of the tail takes at most, and the rows at which it is merged at the latest: 2 to the power of the looks
 abbrev pub tail_looks : ℕ
 tail_looks = 10
 

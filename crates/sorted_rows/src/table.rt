@@ -10,7 +10,7 @@ use std::marker::{Brand, Model};
 use std::sync::ledger::{Blank, Ledger};
 use steps::Steps;
 
-/// The tail is merged into the main rows when it has so many rows, or sooner where these are few.
+/// The tail is merged into the main rows when it has so many rows at the latest.
 pub(crate) const TAIL_SIZE: usize = 1024;
 
 /// Rows of a key and a value, no key twice. A contract sees the list of the rows, in which a key's value is found by
