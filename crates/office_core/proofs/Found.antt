@@ -1,9 +1,7 @@
 -- The filing at a position that a search tells.
 use Rattle.std.proofs.Common.{◌≡◌, ℕ, zero, suc, ◌+◌, refl, sym, ap, subst, ◌∙◌, arith, Bool, true, false, List, [], ◌∷◌, ◌++◌, length, reverse, Option, Some, None, Bor, add-one}
 use Rattle.std.specs.Prelude.{◌==◌, is_some}
-use Rattle.std.specs.List.{slice_get}
 use Rattle.std.specs.Option.{option_copied}
-use Rattle.std.proofs.lemmas.List.{length-reverse, reverse-append}
 use Rattle.aid_types.proofs.Same.{tells_key}
 use Rattle.aid_books.specs.declared.book.Book.{Book}
 use Rattle.aid_filings.specs.declared.filing.Filing.{Filing}
@@ -13,29 +11,10 @@ use Rattle.aid_filings.proofs.SameFiling.{tells_filing}
 use Rattle.office_history.specs.Answer.{IsLegal}
 use Rattle.office_history.specs.Positions.{book_at}
 use Rattle.office_history.specs.Past.{book_in, earlier, earliest, filing_at, first_at, first_of_two, given, key_at, same_filing, same_key, the_book}
+use Rattle.office_history.proofs.InForce.{newest, older}
 use Rattle.office_history.proofs.Legal.{filing_at-new}
 use Rattle.office_history.specs.Rows.{filing_in}
 use Rattle.office_core.specs.Index.{book_filed}
-
--- an element stays where others are appended, and the first of these comes after the list
-stays : (xs ys : List Filing) (i : ℕ) (x : Filing) → slice_get xs i ≡ Some x → slice_get (xs ++ ys) i ≡ Some x
-stays [] ys i x h = absurd cc
-stays (z ∷ xs) ys zero x h = h
-stays (z ∷ xs) ys (suc i) x h = stays xs ys i x h
-
-comes : (xs : List Filing) (x : Filing) (i : ℕ) → i ≡ length xs → slice_get (xs ++ x ∷ []) i ≡ Some x
-comes [] x i e = ap (slice_get (x ∷ [])) e
-comes (z ∷ xs) x zero e = absurd (omega arith)
-comes (z ∷ xs) x (suc i) e = comes xs x i (omega arith)
-
--- a newer filing leaves those at the positions before it
-older : (past : List Filing) (f g : Filing) (n : ℕ) → filing_in past (suc n) ≡ Some g → filing_in (f ∷ past) (suc n) ≡ Some g
-older past f g n h = ap (λ (l : List Filing). slice_get l n) (reverse-append (f ∷ []) past) ∙ stays (reverse past) (f ∷ []) n g h
-
-newest : (past : List Filing) (f : Filing) (n : ℕ) → length past + 1 ≡ suc n → filing_in (f ∷ past) (suc n) ≡ Some f
-newest past f n e =
-    ap (λ (l : List Filing). slice_get l n) (reverse-append (f ∷ []) past)
-    ∙ comes (reverse past) f n (omega (arith, length-reverse past))
 
 -- what a search finds stands at its position and passes its test
 abbrev Finds : (Filing → Bool) → List Filing → ℕ → Type 0

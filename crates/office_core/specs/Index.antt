@@ -65,7 +65,7 @@ student_or None = record { row = record { prior_at = 0; pell_at = 0; used = 0 };
 student_or (Some entry) = entry
 
 abbrev pub year_or : Option YearRow → YearRow
-year_or None = record { application = None; scheduled = 0; nets = six (λ p. 0); main = 0 }
+year_or None = record { transaction = 0; application_at = 0; scheduled = 0; nets = six (λ p. 0); main = 0 }
 year_or (Some row) = row
 
 abbrev pub school_year_or : Option SchoolYearRow → SchoolYearRow

@@ -86,7 +86,8 @@ pub(crate) fn year_told(row: Option<&YearRow>) -> YearRow
     match row {
         Some(row) => *row,
         None => YearRow {
-            application: None,
+            transaction: 0,
+            application_at: 0,
             scheduled: 0,
             nets: ByProgram::EMPTY,
             main: 0,

@@ -70,7 +70,7 @@ corrects f key a k =
       lifetime = over_holds 93 (f.used_else + use_of f.pell_year f.next_scheduled) 600000 t.1.1.0;
     }
 
-higher_wins : (a : Application) (o : Option Application) → transaction_of o < a.transaction → higher (Some a) o ≡ Some a
+pub higher_wins : (a : Application) (o : Option Application) → transaction_of o < a.transaction → higher (Some a) o ≡ Some a
 higher_wins a None h = refl
 higher_wins a (Some b) h = rw (lt-ltb b.transaction a.transaction h) refl
 

@@ -37,6 +37,7 @@ pub mod AccountSteps
 pub mod Bounds
 pub mod FiledTerms
 pub mod Greatest
+pub mod InForce
 pub mod NoCredits
 pub mod Own
 pub mod Sixes

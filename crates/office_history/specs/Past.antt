@@ -130,11 +130,15 @@ credits past school student year term = amount_or (latest (at_school school (cre
 abbrev pub cost : List Filing → ℕ → ℕ → ℕ → ℕ
 cost past school student year = amount_or (earliest (at_school school (cost_in student year)) past)
 
+-- whether an application has a higher transaction than the one before it
+abbrev pub is_higher : Option Application → Option Application → Bool
+is_higher None before = false
+is_higher (Some a) None = true
+is_higher (Some a) (Some b) = nat_lt b.transaction a.transaction
+
 -- the application of the two with the higher transaction
 abbrev pub higher : Option Application → Option Application → Option Application
-higher None before = before
-higher (Some a) None = Some a
-higher (Some a) (Some b) = if nat_lt b.transaction a.transaction then Some a else Some b
+higher new before = if is_higher new before then new else before
 
 -- the application in force of student and year
 abbrev pub application : List Filing → ℕ → ℕ → Option Application

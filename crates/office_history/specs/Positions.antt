@@ -8,7 +8,7 @@ use Rattle.aid_filings.specs.declared.filing.WithdrawFacts.{WithdrawFacts}
 use Rattle.aid_types.specs.declared.award.Refusal.{Refusal}
 use Rattle.aid_filings.specs.declared.filing.Filing.{Filing}
 use Rattle.enrolment.specs.Terms.{intensity_of, payment_of, shares_day}
-use Rattle.office_history.specs.Past.{first_at, book_in, school_in, term_in, prior_in, cost_in, withdrawal_in, pell_payment_in, at_school, the_book, the_school, credits, OnFile, terms_on_file, first_of_two}
+use Rattle.office_history.specs.Past.{first_at, book_in, school_in, term_in, prior_in, application, application_in, is_higher, cost_in, withdrawal_in, pell_payment_in, at_school, the_book, the_school, credits, OnFile, terms_on_file, first_of_two}
 use Rattle.office_history.specs.Award.{award_under, unfit_under}
 use Rattle.office_history.specs.Net.{pell_term}
 
@@ -41,6 +41,13 @@ cost_at past school student year = first_at (λ f. is_some (at_school school (co
 
 abbrev pub withdrawn_at : List Filing → ℕ → ℕ → ℕ → ℕ → ℕ
 withdrawn_at past school student year term = first_at (λ f. is_some (at_school school (withdrawal_in student year term) f)) past
+
+-- the position of the application in force of student and year
+abbrev pub application_at : List Filing → ℕ → ℕ → ℕ
+application_at [] student year = 0
+application_at (f ∷ past) student year =
+    if is_higher (application_in student year f.what) (application past student year) then length past + 1
+    else application_at past student year
 
 abbrev pub transaction_of : Option Application → ℕ
 transaction_of None = 0

@@ -1,16 +1,17 @@
 -- What is on file of one thing, told of a history.
-use Rattle.std.specs.Prelude.{ℕ, zero, suc, ◌==◌, ◌&&◌, Bool, false, not, List, length, reverse, Option, None}
+use Rattle.std.specs.Prelude.{ℕ, zero, suc, ◌==◌, ◌&&◌, Bool, false, not, List, length, reverse, Option, Some, None}
 use Rattle.std.specs.List.{count_by, filter, slice_get}
 use Rattle.aid_filings.specs.Calendars.{term_of}
 use Rattle.aid_filings.specs.declared.filing.CalendarFacts.{CalendarFacts}
 use Rattle.aid_filings.specs.declared.filing.Filing.{Filing}
 use Rattle.aid_filings.specs.declared.filing.What.{What}
-use Rattle.aid_filings.specs.declared.filing.What.TheVariants.{Enrol}
+use Rattle.aid_filings.specs.declared.filing.What.TheVariants.{Apply, Enrol}
+use Rattle.aid_types.specs.declared.application.Application.{Application}
 use Rattle.aid_types.specs.Programs.{six}
 use Rattle.enrolment.specs.Terms.{shares_day}
 use Rattle.office_history.specs.Award.{scheduled}
 use Rattle.office_history.specs.Net.{cell_at, at_school_in_year, in_term, in_year, is_cell, net, owed, paid, paid_after, pell_main, post, repaid, taken, used}
-use Rattle.office_history.specs.Positions.{cost_at, could_of, first_term_at, full_of, pell_at, prior_at, school_at, term_at, terms_of, withdrawn_at}
+use Rattle.office_history.specs.Positions.{application_at, cost_at, could_of, first_term_at, full_of, pell_at, prior_at, school_at, term_at, terms_of, transaction_of, withdrawn_at}
 use Rattle.office_history.specs.Past.{application, cost, credits, terms_on_file, the_school, the_term, the_withdrawal}
 use Rattle.office_history.specs.declared.account.Account.{Account}
 use Rattle.office_history.specs.declared.rows.CalendarRow.{CalendarRow}
@@ -25,6 +26,15 @@ use Rattle.office_history.specs.declared.rows.YearRow.{YearRow}
 abbrev pub filing_in : List Filing → ℕ → Option Filing
 filing_in past zero = None
 filing_in past (suc i) = slice_get (reverse past) i
+
+-- the application that a filing is
+abbrev pub filed_application : What → Option Application
+filed_application (Apply a) = Some a
+filed_application _ = None
+
+abbrev pub told_application : Option Filing → Option Application
+told_application None = None
+told_application (Some f) = filed_application f.what
 
 -- a school, and its term of a year and a number
 abbrev pub school_row : List Filing → ℕ → SchoolRow
@@ -64,7 +74,8 @@ place_row past school student year term = record {
 -- a student's year at all schools, and at one
 abbrev pub year_row : List Filing → ℕ → ℕ → YearRow
 year_row past student year = record {
-  application = application past student year;
+  transaction = transaction_of (application past student year);
+  application_at = application_at past student year;
   scheduled = scheduled past student year;
   nets = six (λ p. net past (in_year student year p));
   main = pell_main past student year;

@@ -1,7 +1,7 @@
 //! What is on file of one thing: a school, a term, a student, a student's year. A position counts from 1, and is 0 where there
 //! is nothing; amounts are in cents, awards and costs in dollars, lifetime use in thousandths of a percent.
 use crate::account::Account;
-use aid_types::{Application, ByProgram, Term};
+use aid_types::{ByProgram, Term};
 
 /// A school: its position, its main terms in a year and its full-time credits.
 #[derive(Clone, Copy, PartialEq, Eq, Debug)]
@@ -37,11 +37,12 @@ pub struct PlaceRow {
     pub account: Account,
 }
 
-/// A student's year at all schools: the application in force with the Scheduled Award that it gives, the nets by program,
-/// and the net Pell of the main terms.
+/// A student's year at all schools: the transaction and the position of the application in force with the Scheduled Award that
+/// it gives, the nets by program, and the net Pell of the main terms.
 #[derive(Clone, Copy, PartialEq, Eq, Debug)]
 pub struct YearRow {
-    pub application: Option<Application>,
+    pub transaction: u32,
+    pub application_at: u32,
     pub scheduled: u32,
     pub nets: ByProgram,
     pub main: u64,

@@ -1,6 +1,6 @@
 -- Which row of a student's year each kind of filing changes.
 use Rattle.std.proofs.Common.{◌≡◌, ℕ, ◌<◌, ◌≤◌, Bool, true, false, not, ◌&&◌, refl, sym, ap, subst, ◌∙◌, arith, [], ◌∷◌, ◌++◌, List, Option, Some, None, eq-eqb, eqb-true, lt-ltb, ◌⊎◌, inl, inr}
-use Rattle.std.specs.Prelude.{◌==◌, nat_lt, is_some, slice_index}
+use Rattle.std.specs.Prelude.{◌==◌, nat_lt, is_some, length, slice_index, ◌+◌, if◌then◌else◌}
 use Rattle.aid_types.specs.Programs.{six}
 use Rattle.aid_types.specs.declared.application.Application.{Application}
 use Rattle.aid_types.specs.declared.number.Key.{Key}
@@ -16,9 +16,9 @@ use Rattle.filing_rules.specs.Rules.{lacks, only, told, rule_91}
 use Rattle.office_history.specs.Rules.{rule_93, rules_of}
 use Rattle.office_history.specs.Answer.{IsLegal, breaks}
 use Rattle.office_history.specs.Award.{award_under, unfit_under}
-use Rattle.office_history.specs.Positions.{award_filed, book_at, school_at, transaction_of}
+use Rattle.office_history.specs.Positions.{application_at, award_filed, book_at, school_at, transaction_of}
 use Rattle.office_history.specs.Net.{Cell, in_main_terms, in_year, net, paid, pell_main, sheet, taken}
-use Rattle.office_history.specs.Past.{application, at_school, book_in, earlier, given, higher, is_extra, term_in, the_book, the_term}
+use Rattle.office_history.specs.Past.{application, at_school, book_in, earlier, given, higher, is_extra, is_higher, term_in, the_book, the_term}
 use Rattle.office_history.proofs.AnyNets.{any_net_stands}
 use Rattle.office_history.proofs.Apart.{not_there}
 use Rattle.office_history.proofs.Asked.{some_told}
@@ -109,33 +109,39 @@ module _ (past : List Filing) (f : Filing) (school student year term : ℕ) (tou
   touched_after e name row entry named at = year_written past f student year name row named (at ∙ touched_row e entry) touched_changes
 
 -- ---- an application
-higher_wins : (a : Application) (o : Option Application) → transaction_of o < a.transaction → higher (Some a) o ≡ Some a
-higher_wins a None h = refl
-higher_wins a (Some b) h = rw (lt-ltb b.transaction a.transaction h) refl
+above : (a : Application) (o : Option Application) → transaction_of o < a.transaction → is_higher (Some a) o ≡ true
+above a None h = refl
+above a (Some b) h = lt-ltb b.transaction a.transaction h
 
--- a year with this application in force
-abbrev with_application : List Filing → ℕ → ℕ → Option Application → YearRow
-with_application past s y o = record (year_row past s y) { application = o; scheduled = award_under (the_book past y) o }
+-- a year with a new application, in force or not
+abbrev with_application : List Filing → ℕ → ℕ → Option Application → Bool → YearRow
+with_application past s y new wins = record (year_row past s y) {
+  transaction = transaction_of (if wins then new else application past s y);
+  application_at = if wins then length past + 1 else application_at past s y;
+  scheduled = award_under (the_book past y) (if wins then new else application past s y);
+}
+
+-- a year after an application, which is of it or not
+abbrev with_given : List Filing → ℕ → ℕ → Application → Bool → YearRow
+with_given past s y a own = with_application past s y (given own a) (is_higher (given own a) (application past s y))
 
 pub of_kind : (f : Filing) (what : What) → f.what ≡ what → f ≡ record { key = f.key; what = what }
 of_kind f what is = λ i. record { key = f.key; what = is i }
 
 pub applied_row : (past : List Filing) (f : Filing) (a : Application) → f.what ≡ Apply a → breaks past f ≡ None →
-    year_applied (year_row past a.student a.year) a (award_under (the_book past a.year) (Some a)) ≡ year_row (f ∷ past) a.student a.year
+    year_applied (year_row past a.student a.year) a (award_under (the_book past a.year) (Some a)) (length past + 1) ≡ year_row (f ∷ past) a.student a.year
 applied_row past f a is sound =
     let whole = of_kind f (Apply a) is in
     let rule : breaks past (record { key = f.key; what = Apply a }) ≡ None = subst (λ (g : Filing). breaks past g ≡ None) whole sound in
     let same : (a.student == a.student && a.year == a.year) ≡ true = rw (eq-eqb a.student a.student refl, eq-eqb a.year a.year refl) refl in
-    let wins : higher (given (a.student == a.student && a.year == a.year) a) (application past a.student a.year) ≡ Some a =
-    ap (λ (b : Bool). higher (given b a) (application past a.student a.year)) same
-    ∙ higher_wins a (application past a.student a.year) (correction past f.key a rule).above in
-    sym (subst (λ (g : Filing). year_row (g ∷ past) a.student a.year ≡ year_applied (year_row past a.student a.year) a (award_under (the_book past a.year) (Some a)))
-    (sym whole) (ap (with_application past a.student a.year) wins))
+    let wins : is_higher (Some a) (application past a.student a.year) ≡ true = above a (application past a.student a.year) (correction past f.key a rule).above in
+    sym (subst (λ (g : Filing). year_row (g ∷ past) a.student a.year
+    ≡ year_applied (year_row past a.student a.year) a (award_under (the_book past a.year) (Some a)) (length past + 1)) (sym whole)
+    (ap (with_given past a.student a.year a) same ∙ ap (with_application past a.student a.year (Some a)) wins))
 
 pub applied_changes : (past : List Filing) (f : Filing) (a : Application) → f.what ≡ Apply a → ChangesYear past f a.student a.year
 applied_changes past f a is s y off =
-    subst (λ (g : Filing). year_row (g ∷ past) s y ≡ year_row past s y) (sym (of_kind f (Apply a) is))
-    (ap (λ (b : Bool). with_application past s y (higher (given b a) (application past s y))) off)
+    subst (λ (g : Filing). year_row (g ∷ past) s y ≡ year_row past s y) (sym (of_kind f (Apply a) is)) (ap (with_given past s y a) off)
 
 -- ---- a book
 -- an application that breaks no rule is of a year with a book

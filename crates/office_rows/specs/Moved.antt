@@ -23,9 +23,9 @@ year_moved before term moved = record before {
   main = main_moved (is_extra term) before.main moved;
 }
 
--- a year with an application that corrects it, and the award that this gives
-abbrev pub year_applied : YearRow → Application → ℕ → YearRow
-year_applied before a award = record before { application = Some a; scheduled = award }
+-- a year with an application that corrects it, the award that this gives, and its position
+abbrev pub year_applied : YearRow → Application → ℕ → ℕ → YearRow
+year_applied before a award here = record before { transaction = a.transaction; application_at = here; scheduled = award }
 
 -- no more is paid of a year than one and a half of its award
 abbrev pub IsWithinYear : YearRow → Type 0

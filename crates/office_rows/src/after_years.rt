@@ -44,7 +44,10 @@ pub fn year_after<P: OnFile>(
 {
     let school = filing.key.school;
     match &filing.what {
-        What::Apply(a) => Some((year_name(a.student, a.year), applied(a, before, award))),
+        What::Apply(a) => Some((
+            year_name(a.student, a.year),
+            applied(past, a, before, award),
+        )),
         What::Pay(a) | What::Repay(a) | What::Adjust(a) => Some((
             year_name(a.student, a.year),
             moved_year(past, school, a.year, a.term, before, moved),
@@ -58,11 +61,13 @@ pub fn year_after<P: OnFile>(
 }
 
 // A student's year with this application and its award in force.
-fn applied(filed: &Application, before: &YearRow, award: u32) -> YearRow
-    ensures { result ≡ year_applied before.now filed.now award }
+fn applied<P: OnFile>(past: &P, filed: &Application, before: &YearRow, award: u32) -> YearRow
+    ensures { result ≡ year_applied before.now filed.now award (length (P.history past.now) + 1) }
 {
+    let position = past.front() + 1;
     YearRow {
-        application: Some(*filed),
+        transaction: u32::from(filed.transaction),
+        application_at: position,
         scheduled: award,
         ..*before
     }
