@@ -82,27 +82,21 @@ used_apart past student year between =
     omega arith
 
 -- ---- lifetime use with a payment
--- the use of another year stays
-use_elsewhere : (past : List Filing) (key : Key) (a : Amount) → IsLegal past → (y : ℕ) → y ≢ a.year →
+-- the use of a year stays where a payment's cell isn't of Pell in it
+use_stays : (past : List Filing) (key : Key) (a : Amount) → IsLegal past → (y : ℕ) → in_year a.student y 3 (cell_of key a) ≡ false →
     use_in (record { key = key; what = Pay a } ∷ past) a.student y ≡ use_in past a.student y
-use_elsewhere past key a legal y differ =
-    let off : in_year a.student y 3 (cell_of key a) ≡ false = rw (eq-eqb a.student a.student refl, ne_eqb a.year y (λ e. differ (sym e))) refl in
+use_stays past key a legal y off =
     let same : pell_year (record { key = key; what = Pay a } ∷ past) a.student y ≡ pell_year past a.student y =
     let k = net_raised past key a (in_year a.student y 3) legal in
     let z : cond (in_year a.student y 3 (cell_of key a)) a.cents 0 ≡ 0 = ap (λ (b : Bool). cond b a.cents 0) off in
     omega arith in
     ap (λ (n : ℕ). use_of n (scheduled past a.student y)) same
 
--- the use of all years stays where the program isn't Pell
-use_of_others : (past : List Filing) (key : Key) (a : Amount) → IsLegal past → (rank a.program == 3) ≡ false → (y : ℕ) →
-    use_in (record { key = key; what = Pay a } ∷ past) a.student y ≡ use_in past a.student y
-use_of_others past key a legal e y =
-    let off : in_year a.student y 3 (cell_of key a) ≡ false = all_false (a.student == a.student) (a.year == y) in
-    let same : pell_year (record { key = key; what = Pay a } ∷ past) a.student y ≡ pell_year past a.student y =
-    let k = net_raised past key a (in_year a.student y 3) legal in
-    let z : cond (in_year a.student y 3 (cell_of key a)) a.cents 0 ≡ 0 = ap (λ (b : Bool). cond b a.cents 0) off in
-    omega arith in
-    ap (λ (n : ℕ). use_of n (scheduled past a.student y)) same
+of_other_year : (key : Key) (a : Amount) (y : ℕ) → y ≢ a.year → in_year a.student y 3 (cell_of key a) ≡ false
+of_other_year key a y differ = rw (eq-eqb a.student a.student refl, ne_eqb a.year y (λ e. differ (sym e))) refl
+
+of_other_program : (key : Key) (a : Amount) (y : ℕ) → (rank a.program == 3) ≡ false → in_year a.student y 3 (cell_of key a) ≡ false
+of_other_program key a y e = all_false (a.student == a.student) (a.year == y)
   where
     all_false : (b c : Bool) → (b && (c && (rank a.program == 3))) ≡ false
     all_false false c = refl
@@ -118,13 +112,14 @@ used_after past key a legal between = go (rank a.program == 3) refl
         ≡ cond b (used_else past a.student a.year + use_of (net_with past a) (scheduled past a.student a.year)) (used past a.student)
     go false e =
         ap (λ (n : ℕ). prior_units past a.student + n)
-        (sum_same (use_in past a.student) (use_in (record { key = key; what = Pay a } ∷ past) a.student) all_years (use_of_others past key a legal e))
+        (sum_same (use_in past a.student) (use_in (record { key = key; what = Pay a } ∷ past) a.student) all_years (λ y. use_stays past key a legal y (of_other_program key a y e)))
     go true e =
         let program : rank a.program ≡ 3 = eqb-true (rank a.program) 3 e in
         let here : use_in (record { key = key; what = Pay a } ∷ past) a.student a.year ≡ use_of (net_with past a) (scheduled past a.student a.year) =
         ap (λ (n : ℕ). use_of n (scheduled past a.student a.year))
         (subst (λ (p : ℕ). net (record { key = key; what = Pay a } ∷ past) (in_year a.student a.year p) ≡ net_with past a) program (net_after past key a legal)) in
-        let all = all_but_one (use_in past a.student) (use_in (record { key = key; what = Pay a } ∷ past) a.student) a.year between (use_elsewhere past key a legal) in
+        let all = all_but_one (use_in past a.student) (use_in (record { key = key; what = Pay a } ∷ past) a.student) a.year between
+        (λ y differ. use_stays past key a legal y (of_other_year key a y differ)) in
         omega arith
 
 pub outcome_of_pay : (past : List Filing) (f : Filing) (a : Amount) → f.what ≡ Pay a → IsLegal past → IsBetween 2000 2099 a.year → outcome_in past f (Pay a) ≡ paid_with past a

@@ -1,7 +1,7 @@
 -- The answer to a filing, by what stands at the position of its key.
 use Rattle.std.proofs.Common.{◌≡◌, ℕ, zero, suc, ◌+◌, ◌≤◌, ◌<◌, refl, sym, ap, subst, ◌∙◌, arith, Bool, true, false, List, [], ◌∷◌, ◌++◌, length, reverse, take, drop, Option, Some, None}
 use Rattle.std.specs.List.{slice_get}
-use Rattle.std.proofs.lemmas.List.{length-reverse, length-take-le, reverse-append, reverse-reverse}
+use Rattle.std.proofs.lemmas.List.{length-reverse, length-take-le, reverse-reverse}
 use Rattle.std.proofs.lemmas.Option.{get_or_from_slice_get, none-some, slice_get_within}
 use Rattle.aid_types.specs.declared.award.Refusal.{Refusal}
 use Rattle.aid_types.proofs.Same.{tells_key}
@@ -11,30 +11,11 @@ use Rattle.aid_replies.specs.declared.reply.Verdict.TheVariants.{Again, Refused}
 use Rattle.office_history.specs.Answer.{IsLegal, answer_of, breaks, judged, outcome_at}
 use Rattle.office_history.specs.Past.{filing_at, first_at, first_of_two, key_at, same_filing, same_key}
 use Rattle.office_history.proofs.Cases.{answer_of-new, answer_of-used}
+use Rattle.office_history.proofs.InForce.{newest, older}
 use Rattle.office_history.proofs.Legal.{filing_at-new}
 use Rattle.office_history.proofs.Oldest.{reverse-at}
 use Rattle.office_history.proofs.Recorded.{answer_of-repeated, outcome_at-stays}
 use Rattle.office_history.specs.Rows.{filing_in}
-
--- an element stays where others are appended, and the first of these comes after the list
-stays : (xs ys : List Filing) (i : ℕ) (x : Filing) → slice_get xs i ≡ Some x → slice_get (xs ++ ys) i ≡ Some x
-stays [] ys i x h = absurd cc
-stays (z ∷ xs) ys zero x h = h
-stays (z ∷ xs) ys (suc i) x h = stays xs ys i x h
-
-comes : (xs : List Filing) (x : Filing) (i : ℕ) → i ≡ length xs → slice_get (xs ++ x ∷ []) i ≡ Some x
-comes [] x i e = ap (slice_get (x ∷ [])) e
-comes (z ∷ xs) x zero e = absurd (omega arith)
-comes (z ∷ xs) x (suc i) e = comes xs x i (omega arith)
-
--- a newer filing leaves those at the positions before it
-older : (past : List Filing) (f g : Filing) (n : ℕ) → filing_in past (suc n) ≡ Some g → filing_in (f ∷ past) (suc n) ≡ Some g
-older past f g n h = ap (λ (l : List Filing). slice_get l n) (reverse-append (f ∷ []) past) ∙ stays (reverse past) (f ∷ []) n g h
-
-newest : (past : List Filing) (f : Filing) (n : ℕ) → length past + 1 ≡ suc n → filing_in (f ∷ past) (suc n) ≡ Some f
-newest past f n e =
-    ap (λ (l : List Filing). slice_get l n) (reverse-append (f ∷ []) past)
-    ∙ comes (reverse past) f n (omega (arith, length-reverse past))
 
 -- what a search finds stands at its position and passes its test
 abbrev Finds : (Filing → Bool) → List Filing → ℕ → Type 0

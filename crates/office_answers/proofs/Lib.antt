@@ -1,4 +1,4 @@
-pub mod ApplicationLemmas
+pub mod Applied
 pub mod Brought
 pub mod Entries
 pub mod Judged

@@ -29,15 +29,15 @@ counted-one : (breaks : List (ℕ × ℕ)) (first : ℕ) → list_any (is_long_b
 counted-one breaks first h = rw (add-zero, h) refl
 
 -- the first day counts
-pub days-begun : (t : Term) (upto : ℕ) → IsLawful t → t.first ≤ upto → 1 ≤ days_upto t upto
+pub days_begun : (t : Term) (upto : ℕ) → IsLawful t → t.first ≤ upto → 1 ≤ days_upto t upto
 unfolding days_upto
-days-begun t upto lawful begun =
+days_begun t upto lawful begun =
     let one = counted-one t.breaks t.first (no_break t.first t.breaks t.first lawful.breaks (omega arith)) in
     let more = counted-more t.breaks t.first 1 (upto - t.first) (upto + 1 - t.first) (omega arith) in
     omega (arith, one, more)
 
 -- and a later day leaves no fewer
-pub days-inside : (t : Term) (upto last : ℕ) → t.first ≤ upto → upto ≤ last → days_upto t upto ≤ days_upto t last
+pub days_inside : (t : Term) (upto last : ℕ) → t.first ≤ upto → upto ≤ last → days_upto t upto ≤ days_upto t last
 unfolding days_upto
-days-inside t upto last begun inside =
+days_inside t upto last begun inside =
     counted-more t.breaks t.first (upto + 1 - t.first) (last - upto) (last + 1 - t.first) (omega arith)

@@ -1,5 +1,5 @@
--- What an application brings under a book, and what a payment and a withdrawal bring on the filings before them.
-use Rattle.std.specs.Prelude.{◌≡◌, ℕ, ◌+◌, ◌*◌, ◌≤◌, ◌==◌, List, sum, Option, Some, None, if◌then◌else◌}
+-- What an application brings under a book, and what a payment brings on the filings before it.
+use Rattle.std.specs.Prelude.{◌≡◌, ℕ, ◌+◌, ◌*◌, ◌≤◌, ◌==◌, List, Option, Some, None, if◌then◌else◌}
 use Rattle.aid_books.specs.declared.book.Book.{Book}
 use Rattle.aid_types.specs.declared.application.Application.{Application}
 use Rattle.aid_types.specs.declared.award.Refusal.{Refusal}
@@ -7,9 +7,8 @@ use Rattle.aid_types.specs.Programs.{rank}
 use Rattle.aid_filings.specs.declared.filing.Amount.{Amount}
 use Rattle.aid_filings.specs.declared.filing.Filing.{Filing}
 use Rattle.aid_replies.specs.declared.reply.Outcome.{Outcome}
-use Rattle.aid_replies.specs.declared.reply.Outcome.TheVariants.{Indexed, Noted, Paid, Returned}
+use Rattle.aid_replies.specs.declared.reply.Outcome.TheVariants.{Indexed, Noted, Paid}
 use Rattle.lifetime_ledger.specs.Used.{use_of}
-use Rattle.withdrawal_returns.specs.declared.Lines.{Lines}
 use Rattle.office_history.specs.Answer.{indexed}
 use Rattle.office_history.specs.Award.{scheduled}
 use Rattle.office_history.specs.Net.{in_year, net, used, used_else}
@@ -41,7 +40,3 @@ used_with past a =
 
 abbrev pub paid_with : List Filing → Amount → Outcome
 paid_with past a = Paid (net_with past a) (used_with past a)
-
--- the figures of a worksheet
-abbrev pub returned_by : Lines → Outcome
-returned_by s = Returned s.percent s.school (sum s.owed) s.post

@@ -1,8 +1,8 @@
 //! What an application brings: its formula, final index and award.
-ghost use Rattle.std.specs.Prelude.{◌≡◌, Some};
+ghost use Rattle.std.specs.Prelude.{◌≡◌};
 ghost use Rattle.std.specs.Option.{option_copied};
 ghost use Rattle.office_answers.specs.Brought.{awarded, brought_by};
-ghost use Rattle.office_history.specs.Answer.{indexed, indexed_by};
+ghost use Rattle.office_history.specs.Answer.{indexed_by};
 ghost use Rattle.office_history.specs.Award.{unfit_under};
 
 use aid_books::Book;
@@ -11,17 +11,8 @@ use aid_types::{Application, Refusal};
 use office_history::decision;
 use sai_index::{fits, formula_of};
 
-// What an application brings under its year's book; nothing where there is no book.
-fn indexed_under(book: Option<&Book>, application: &Application) -> Outcome
-    ensures { result ≡ indexed (option_copied book.entry) (Some application.now) }
-{
-    match book {
-        Some(book) => indexed_by_book(book, application),
-        None => Outcome::Noted,
-    }
-}
-
-fn indexed_by_book(book: &Book, application: &Application) -> Outcome
+/// What an application brings under a book: its formula, final index, way and award.
+pub fn indexed_by_book(book: &Book, application: &Application) -> Outcome
     ensures { result ≡ indexed_by book.now application.now }
 {
     let decision = decision(book, application);
@@ -37,10 +28,7 @@ fn indexed_by_book(book: &Book, application: &Application) -> Outcome
 pub(crate) fn unfit(book: Option<&Book>, application: &Application) -> Option<Refusal>
     ensures { result ≡ unfit_under (option_copied book.entry) application.now }
 {
-    match book {
-        Some(book) => fits(book, application),
-        None => None,
-    }
+    fits(book?, application)
 }
 
 /// What an application brings under its year's book; nothing where there is no book, or it is out of range for it.
@@ -51,9 +39,9 @@ pub(crate) fn brought_under(
 ) -> Outcome
     ensures { result ≡ brought_by unfit.now (option_copied book.entry) application.now }
 {
-    match unfit {
-        None => indexed_under(book, application),
-        Some(_) => Outcome::Noted,
+    match (book, unfit) {
+        (Some(book), None) => indexed_by_book(book, application),
+        _ => Outcome::Noted,
     }
 }
 

@@ -1,19 +1,17 @@
 //! What one filing moves in the student's term that it is about.
 ghost use Rattle.std.specs.Prelude.{◌≡◌, ◌∷◌, List, Some, is_some};
 ghost use Rattle.aid_filings.specs.declared.filing.Filing.{Filing as Filed};
-ghost use Rattle.aid_filings.specs.declared.filing.What.TheVariants.{Pay, Withdraw, Repay, Adjust};
+ghost use Rattle.aid_filings.specs.declared.filing.What.TheVariants.{Pay, Repay, Adjust};
 ghost use Rattle.aid_types.specs.declared.number.Key.{Key as Keyed};
 ghost use Rattle.office_history.specs.Answer.{IsLegal};
-ghost use Rattle.office_history.specs.Past.{the_term, the_withdrawal};
-ghost use Rattle.office_history.specs.Sheets.{CanBeWorkedOut};
-ghost use Rattle.office_history.specs.Accounts.{IsAccount};
+ghost use Rattle.office_history.specs.Past.{the_withdrawal};
 ghost use Rattle.office_history.specs.Own.{IsOwnEntry, of_lines, own_place};
 ghost use Rattle.office_history.specs.Rows.{place_row};
 ghost use Rattle.office_history.specs.declared.place.Place.{Place};
 
-use crate::sheets::sheet;
-use aid_filings::{Amount, Filing, What, WithdrawFacts};
-use aid_types::{ByProgram, Key, School, Term, Year};
+use crate::sheets::sheet_on_file;
+use aid_filings::{Amount, Filing, What};
+use aid_types::ByProgram;
 use office_history::{Account, OnFile, PlaceRow};
 use std::sync::ledger::Ledger;
 use steps::Steps;
@@ -37,41 +35,12 @@ pub fn entry_of<P: OnFile, L: Ledger>(
         What::Pay(amount) => paid(amount, 0 < row.withdrawn_at),
         What::Repay(amount) => repaid(amount),
         What::Adjust(amount) => adjusted(amount),
-        What::Withdraw(facts) => withdrawal(past, &filing.key, facts, &row.account, steps),
+        What::Withdraw(facts) => {
+            let (_, row_of_term) = past.term(filing.key.school, facts.year, facts.term, steps);
+            returned(&sheet_on_file(past, &filing.key, facts, &row_of_term.term, &row.account))
+        }
         _ => Account::EMPTY,
     }
-}
-
-// A withdrawal, worked out on the nets so far.
-fn withdrawal<P: OnFile, L: Ledger>(
-    past: &P,
-    key: &Key,
-    facts: &WithdrawFacts,
-    so_far: &Account,
-    steps: &mut Steps<L>,
-) -> Account
-    requires legal { IsLegal (P.history past.now) }
-    requires worked_out { CanBeWorkedOut (P.history past.now) key.now facts.now }
-    requires so_far { IsAccount (P.history past.now) key.now.school facts.now.student facts.now.year facts.now.term so_far.now }
-    ensures { IsOwnEntry (P.history past.now) key.now (Withdraw facts.now) result }
-{
-    match term(past, key.school, facts.year, facts.term, steps) {
-        Some(term) => returned(&sheet(&term, facts, so_far)),
-        None => unreachable!(),
-    }
-}
-
-// The school's term of this year and number.
-fn term<P: OnFile, L: Ledger>(
-    past: &P,
-    school: School,
-    year: Year,
-    number: u8,
-    steps: &mut Steps<L>,
-) -> Option<Term>
-    ensures { result ≡ the_term (P.history past.now) school year number }
-{
-    past.term(school, year, number, steps).1.term
 }
 
 /// A payment, before or after the withdrawal from its term.
@@ -79,19 +48,18 @@ pub fn paid(amount: &Amount, withdrawn: bool) -> Account
     ensures { (past : List Filed) (key : Keyed) → withdrawn ≡ is_some (the_withdrawal past key.school amount.now.student amount.now.year amount.now.term)
         → IsOwnEntry past key (Pay amount.now) result }
 {
-    let paid = ByProgram::of(amount.program, amount.cents);
+    let moved = Account {
+        paid: ByProgram::of(amount.program, amount.cents),
+        ..Account::EMPTY
+    };
     if withdrawn {
         Account {
-            paid,
-            after: paid,
+            after: moved.paid,
             after_all: amount.cents,
-            ..Account::EMPTY
+            ..moved
         }
     } else {
-        Account {
-            paid,
-            ..Account::EMPTY
-        }
+        moved
     }
 }
 

@@ -3,28 +3,21 @@
 ghost use Rattle.std.specs.Prelude.{◌≡◌, ◌+◌, ◌-◌, ◌*◌, ◌≤◌, Some, None, slice_index};
 ghost use Rattle.aid_types.specs.Programs.{rank as rank_of};
 ghost use Rattle.aid_filings.specs.Students.{student_of};
-ghost use Rattle.aid_filings.specs.declared.filing.What.TheVariants.{Book as BookFiled, School as SchoolFiled, Calendar, Prior, Apply, Enrol, Originate, Withdraw, Repay, Adjust};
+ghost use Rattle.aid_filings.specs.declared.filing.What.TheVariants.{Calendar, Apply, Withdraw};
 ghost use Rattle.filing_rules.specs.InRange.{AreFactsInRange};
-ghost use Rattle.office_history.specs.FactsOf.{facts_of, no_facts, payment_facts as payment_facts_of};
-ghost use Rattle.office_history.specs.Positions.{transaction_of};
+ghost use Rattle.office_history.specs.FactsOf.{aid_facts as aid_facts_of, facts_of, no_facts, payment_facts as payment_facts_of};
 ghost use Rattle.office_history.specs.Net.{used_else as used_else_of};
 ghost use Rattle.office_answers.specs.Basis.{IsBasis, IsBasisOf};
-ghost use Rattle.office_history.specs.Rows.{student_row, year_row};
+ghost use Rattle.office_history.specs.Rows.{place_row, student_row, term_row, terms_at, year_row};
 ghost use Rattle.office_answers.specs.Walked.{walked};
 
 use crate::applications::{award_in, brought_under, unfit};
-use aid_books::BoxedBook;
-use aid_filings::{
-    Amount, CalendarFacts, EnrolFacts, Filing, OriginateFacts, PriorFacts, SchoolFacts, What,
-    WithdrawFacts,
-};
+use aid_filings::{CalendarFacts, Filing, What, WithdrawFacts};
 use aid_replies::Outcome;
 use aid_types::{Application, Key, Program, School, Student, Term, Year};
 use filing_rules::Facts;
 use lifetime_ledger::use_of;
-use office_history::{
-    Account, OnFile, PlaceRow, SchoolRow, SchoolYearRow, StudentRow, TermRow, YearRow,
-};
+use office_history::{Account, OnFile, PlaceRow, SchoolRow, StudentRow, TermRow, YearRow};
 use std::sync::ledger::Ledger;
 use steps::Steps;
 
@@ -57,6 +50,7 @@ pub enum Basis {
 }
 
 /// What is read of the filings so far to judge a filing.
+#[tactic(auto, using(office_history::proofs::FactsInRange::facts_in_range))]
 pub fn gather<P: OnFile, L: Ledger>(past: &P, filing: &Filing, steps: &mut Steps<L>) -> Gathered
     ensures facts { result.facts ≡ facts_of (P.history past.now) filing.now.key filing.now.what }
     ensures in_range { AreFactsInRange result.facts }
@@ -69,6 +63,7 @@ pub fn gather<P: OnFile, L: Ledger>(past: &P, filing: &Filing, steps: &mut Steps
 }
 
 /// What a payment of a program reads.
+#[tactic(auto, using(office_history::proofs::FactsInRange::payment_in_range))]
 pub fn payment_facts<P: OnFile, L: Ledger>(
     past: &P,
     school: School,
@@ -92,22 +87,62 @@ fn gather_of_kind<P: OnFile, L: Ledger>(past: &P, filing: &Filing, steps: &mut S
     ensures cost { steps.new ≤ steps.old + 5 * P.looks past.now + 4 * walked (P.history past.now) filing.now.key.school (student_of filing.now.what) }
 {
     let key = &filing.key;
+    let school = key.school;
     match &filing.what {
-        What::Book(book) => noted(book_facts(past, key, book, steps)),
-        What::School(school) => noted(school_facts(past, key, school, steps)),
+        What::Book(book) => noted(Facts {
+            book_at: past.book_at(book.as_book().year, steps),
+            ..desk_facts(past.front(), &past.school(school.0, steps))
+        }),
+        What::School(filed) => noted(Facts {
+            code_at: past.school(filed.code, steps).at,
+            ..desk_facts(past.front(), &past.school(school.0, steps))
+        }),
         What::Calendar(calendar) => noted(calendar_facts(past, key, calendar, steps)),
-        What::Prior(prior) => noted(prior_facts(past, key, prior, steps)),
-        What::Apply(filed) => of_application(past, key, filed, steps),
-        What::Enrol(enrolment) => noted(enrol_facts(past, key, enrolment, steps)),
-        What::Originate(origination) => noted(originate_facts(past, key, origination, steps)),
-        What::Pay(a) => {
-            of_payment(
-                past, key.school, a.student, a.year, a.term, a.program, steps,
-            )
+        What::Prior(prior) => {
+            let student = past.student(prior.student, steps);
+            noted(Facts {
+                prior_at: student.prior_at,
+                pell_at: student.pell_at,
+                ..desk_facts(past.front(), &past.school(school.0, steps))
+            })
         }
+        What::Apply(filed) => of_application(past, key, filed, steps),
+        What::Enrol(e) => {
+            let (row, term) = past.term(school, e.year, e.term, steps);
+            let place = past.place(school, e.student, e.year, e.term, steps);
+            noted(Facts {
+                term_at: term.at,
+                scheduled: past.year(e.student, e.year, steps).scheduled,
+                withdrawn_at: place.withdrawn_at,
+                pell_term: net_of(&place.account, Program::Pell),
+                ..desk_facts(past.front(), &row)
+            })
+        }
+        What::Originate(o) => noted(Facts {
+            transaction: past.year(o.student, o.year, steps).transaction,
+            cost_at: past.school_year(school, o.student, o.year, steps).cost_at,
+            ..desk_facts(past.front(), &past.school(school.0, steps))
+        }),
+        What::Pay(a) => of_payment(past, school, a.student, a.year, a.term, a.program, steps),
         What::Withdraw(withdrawal) => of_withdrawal(past, key, withdrawal, steps),
-        What::Repay(amount) => noted(repay_facts(past, key, amount, steps)),
-        What::Adjust(amount) => noted(adjust_facts(past, key, amount, steps)),
+        What::Repay(a) => {
+            let account = past.place(school, a.student, a.year, a.term, steps).account;
+            noted(Facts {
+                owed: account.owed.at(a.program),
+                repaid: account.repaid.at(a.program),
+                ..desk_facts(past.front(), &past.school(school.0, steps))
+            })
+        }
+        What::Adjust(a) => {
+            let (row, term) = past.term(school, a.year, a.term, steps);
+            let place = past.place(school, a.student, a.year, a.term, steps);
+            noted(Facts {
+                term_at: term.at,
+                withdrawn_at: place.withdrawn_at,
+                net: net_of(&place.account, a.program),
+                ..desk_facts(past.front(), &row)
+            })
+        }
     }
 }
 
@@ -134,38 +169,6 @@ fn desk_facts(filings: u32, school: &SchoolRow) -> Facts
     }
 }
 
-fn book_facts<P: OnFile, L: Ledger>(
-    past: &P,
-    key: &Key,
-    book: &BoxedBook,
-    steps: &mut Steps<L>,
-) -> Facts
-    ensures value { result ≡ facts_of (P.history past.now) key.now (BookFiled book.now) }
-    ensures cost { steps.new ≤ steps.old + 2 * P.looks past.now }
-{
-    let school = past.school(key.school.0, steps);
-    Facts {
-        book_at: past.book_at(book.as_book().year, steps),
-        ..desk_facts(past.front(), &school)
-    }
-}
-
-fn school_facts<P: OnFile, L: Ledger>(
-    past: &P,
-    key: &Key,
-    filed: &SchoolFacts,
-    steps: &mut Steps<L>,
-) -> Facts
-    ensures value { result ≡ facts_of (P.history past.now) key.now (SchoolFiled filed.now) }
-    ensures cost { steps.new ≤ steps.old + 2 * P.looks past.now }
-{
-    let school = past.school(key.school.0, steps);
-    Facts {
-        code_at: past.school(filed.code, steps).at,
-        ..desk_facts(past.front(), &school)
-    }
-}
-
 fn calendar_facts<P: OnFile, L: Ledger>(
     past: &P,
     key: &Key,
@@ -185,25 +188,8 @@ fn calendar_facts<P: OnFile, L: Ledger>(
     }
 }
 
-fn prior_facts<P: OnFile, L: Ledger>(
-    past: &P,
-    key: &Key,
-    prior: &PriorFacts,
-    steps: &mut Steps<L>,
-) -> Facts
-    ensures value { result ≡ facts_of (P.history past.now) key.now (Prior prior.now) }
-    ensures cost { steps.new ≤ steps.old + 2 * P.looks past.now }
-{
-    let school = past.school(key.school.0, steps);
-    let student = past.student(prior.student, steps);
-    Facts {
-        prior_at: student.prior_at,
-        pell_at: student.pell_at,
-        ..desk_facts(past.front(), &school)
-    }
-}
-
 // What an application reads.
+#[tactic(auto, using(crate::proofs::Applied::award_brought, crate::proofs::Applied::brought_at_most))]
 fn of_application<P: OnFile, L: Ledger>(
     past: &P,
     key: &Key,
@@ -214,8 +200,6 @@ fn of_application<P: OnFile, L: Ledger>(
     ensures basis { IsBasisOf (P.history past.now) key.now.school (Apply filed.now) result.basis }
     ensures cost { steps.new ≤ steps.old + 5 * P.looks past.now + 4 * walked (P.history past.now) key.now.school (Some filed.now.student) }
 {
-    let school = past.school(key.school.0, steps);
-    let book_at = past.book_at(filed.year, steps);
     let book = past.book(filed.year, steps);
     let year = past.year(filed.student, filed.year, steps);
     let unfit = unfit(book, filed);
@@ -223,29 +207,19 @@ fn of_application<P: OnFile, L: Ledger>(
     let next_scheduled = award_in(&brought);
     let (student, term_over) = past.over(next_scheduled, filed.student, filed.year, steps);
     let facts = Facts {
-        book_at,
-        transaction: transaction(&year.application),
+        book_at: past.book_at(filed.year, steps),
+        transaction: year.transaction,
         pell_year: year.nets.at(Program::Pell),
         pell_main: year.main,
         used_else: used_else(past, filed.student, filed.year, &student, &year),
         unfit,
         next_scheduled,
         term_over,
-        ..desk_facts(past.front(), &school)
+        ..desk_facts(past.front(), &past.school(key.school.0, steps))
     };
     Gathered {
         facts,
         basis: Basis::Application { brought },
-    }
-}
-
-// The transaction in force, 0 where there is none.
-fn transaction(application: &Option<Application>) -> u32
-    ensures { result ≡ transaction_of application.now }
-{
-    match application {
-        Some(application) => u32::from(application.transaction),
-        None => 0,
     }
 }
 
@@ -260,6 +234,7 @@ fn net_of(account: &Account, program: Program) -> u64
 }
 
 /// The lifetime units that a student has used but for those of one year.
+#[tactic(auto, using(crate::proofs::Brought::used_apart, office_history::proofs::Awards::year_holds, office_history::proofs::Ranges::used_else_within))]
 pub(crate) fn used_else<P: OnFile>(
     past: &P,
     student: Student,
@@ -278,75 +253,30 @@ pub(crate) fn used_else<P: OnFile>(
     used.used - use_of(paid.nets.at(Program::Pell), paid.scheduled)
 }
 
-fn enrol_facts<P: OnFile, L: Ledger>(
+// What a payment and a withdrawal read alike, but for the use of other years; with the rows of the term, of the student's
+// term and of the student's year.
+fn aid_facts<P: OnFile, L: Ledger>(
     past: &P,
-    key: &Key,
-    e: &EnrolFacts,
+    school: School,
+    student: Student,
+    award_year: Year,
+    number: u8,
     steps: &mut Steps<L>,
-) -> Facts
-    ensures value { result ≡ facts_of (P.history past.now) key.now (Enrol e.now) }
-    ensures cost { steps.new ≤ steps.old + 5 * P.looks past.now + 4 * walked (P.history past.now) key.now.school (Some e.now.student) }
+) -> (Facts, TermRow, PlaceRow, YearRow)
+    ensures facts { result.0 ≡ record (aid_facts_of (P.history past.now) school student award_year number) { used_else = 0 } }
+    ensures term { result.1 ≡ term_row (P.history past.now) school award_year number }
+    ensures place { result.2 ≡ place_row (P.history past.now) school student award_year number }
+    ensures year { result.3 ≡ year_row (P.history past.now) student award_year }
+    ensures cost { steps.new ≤ steps.old + 4 * P.looks past.now + 4 * terms_at (P.history past.now) school }
 {
-    let (school, term) = past.term(key.school, e.year, e.term, steps);
-    let place = past.place(key.school, e.student, e.year, e.term, steps);
-    let year = past.year(e.student, e.year, steps);
-    Facts {
-        term_at: term.at,
-        scheduled: year.scheduled,
-        withdrawn_at: place.withdrawn_at,
-        pell_term: net_of(&place.account, Program::Pell),
-        ..desk_facts(past.front(), &school)
-    }
-}
-
-fn originate_facts<P: OnFile, L: Ledger>(
-    past: &P,
-    key: &Key,
-    o: &OriginateFacts,
-    steps: &mut Steps<L>,
-) -> Facts
-    ensures value { result ≡ facts_of (P.history past.now) key.now (Originate o.now) }
-    ensures cost { steps.new ≤ steps.old + 3 * P.looks past.now }
-{
-    let school = past.school(key.school.0, steps);
-    let year = past.year(o.student, o.year, steps);
-    let cost = past.school_year(key.school, o.student, o.year, steps);
-    Facts {
-        transaction: transaction(&year.application),
-        cost_at: cost.cost_at,
-        ..desk_facts(past.front(), &school)
-    }
-}
-
-// What a payment and a withdrawal read of a student's aid in a term of a school.
-fn aid_facts(
-    desk: Facts,
-    term: &TermRow,
-    place: &PlaceRow,
-    year: &YearRow,
-    cost: &SchoolYearRow,
-    used_else: u32,
-) -> Facts
-    ensures { result ≡ record desk {
-      term_at = term.now.at;
-      term = term.now.term;
-      transaction = transaction_of year.now.application;
-      scheduled = year.now.scheduled;
-      cost_at = cost.now.cost_at;
-      cost = cost.now.cost;
-      credits = place.now.credits;
-      withdrawn_at = place.now.withdrawn_at;
-      pell_term = slice_index place.now.account.paid 3 - slice_index place.now.account.taken 3;
-      pell_year = slice_index year.now.nets 3;
-      fseog_year = slice_index year.now.nets 4;
-      net_all = cost.now.net;
-      used_else = used_else;
-    } }
-{
-    Facts {
+    let (desk, term) = past.term(school, award_year, number, steps);
+    let place = past.place(school, student, award_year, number, steps);
+    let year = past.year(student, award_year, steps);
+    let cost = past.school_year(school, student, award_year, steps);
+    let facts = Facts {
         term_at: term.at,
         term: term.term,
-        transaction: transaction(&year.application),
+        transaction: year.transaction,
         scheduled: year.scheduled,
         cost_at: cost.cost_at,
         cost: cost.cost,
@@ -356,9 +286,9 @@ fn aid_facts(
         pell_year: year.nets.at(Program::Pell),
         fseog_year: year.nets.at(Program::Fseog),
         net_all: cost.net,
-        used_else,
-        ..desk
-    }
+        ..desk_facts(past.front(), &desk)
+    };
+    (facts, term, place, year)
 }
 
 // What a payment reads.
@@ -375,20 +305,16 @@ fn of_payment<P: OnFile, L: Ledger>(
     ensures basis { result.basis ≡ Basis.Payment (year_row (P.history past.now) student year) (student_row (P.history past.now) student) }
     ensures cost { steps.new ≤ steps.old + 5 * P.looks past.now + 4 * walked (P.history past.now) school (Some student) }
 {
-    let (desk, term) = past.term(school, year, number, steps);
-    let place = past.place(school, student, year, number, steps);
-    let of_year = past.year(student, year, steps);
-    let cost = past.school_year(school, student, year, steps);
+    let (aid, term, place, of_year) = aid_facts(past, school, student, year, number, steps);
     let (of_student, other_school) = past.beside(student, school, &term.term, steps);
-    let used_else = used_else(past, student, year, &of_student, &of_year);
-    let desk = desk_facts(past.front(), &desk);
     let facts = Facts {
+        used_else: used_else(past, student, year, &of_student, &of_year),
         other_school,
         after: place.account.after.at(program),
         after_all: place.account.after_all,
         post: place.account.post,
         could: place.could,
-        ..aid_facts(desk, &term, &place, &of_year, &cost, used_else)
+        ..aid
     };
     Gathered {
         facts,
@@ -410,50 +336,16 @@ fn of_withdrawal<P: OnFile, L: Ledger>(
     ensures basis { IsBasisOf (P.history past.now) key.now.school (Withdraw w.now) result.basis }
     ensures cost { steps.new ≤ steps.old + 5 * P.looks past.now + 4 * walked (P.history past.now) key.now.school (Some w.now.student) }
 {
-    let (desk, term) = past.term(key.school, w.year, w.term, steps);
-    let place = past.place(key.school, w.student, w.year, w.term, steps);
-    let year = past.year(w.student, w.year, steps);
-    let cost = past.school_year(key.school, w.student, w.year, steps);
+    let (aid, term, place, year) = aid_facts(past, key.school, w.student, w.year, w.term, steps);
     let student = past.student(w.student, steps);
-    let used_else = used_else(past, w.student, w.year, &student, &year);
-    let desk = desk_facts(past.front(), &desk);
     Gathered {
-        facts: aid_facts(desk, &term, &place, &year, &cost, used_else),
+        facts: Facts {
+            used_else: used_else(past, w.student, w.year, &student, &year),
+            ..aid
+        },
         basis: Basis::Withdrawal {
             term: term.term,
             account: place.account,
         },
-    }
-}
-
-fn repay_facts<P: OnFile, L: Ledger>(past: &P, key: &Key, a: &Amount, steps: &mut Steps<L>) -> Facts
-    ensures value { result ≡ facts_of (P.history past.now) key.now (Repay a.now) }
-    ensures cost { steps.new ≤ steps.old + 2 * P.looks past.now }
-{
-    let school = past.school(key.school.0, steps);
-    let place = past.place(key.school, a.student, a.year, a.term, steps);
-    Facts {
-        owed: place.account.owed.at(a.program),
-        repaid: place.account.repaid.at(a.program),
-        ..desk_facts(past.front(), &school)
-    }
-}
-
-fn adjust_facts<P: OnFile, L: Ledger>(
-    past: &P,
-    key: &Key,
-    a: &Amount,
-    steps: &mut Steps<L>,
-) -> Facts
-    ensures value { result ≡ facts_of (P.history past.now) key.now (Adjust a.now) }
-    ensures cost { steps.new ≤ steps.old + 2 * P.looks past.now + 4 * walked (P.history past.now) key.now.school (Some a.now.student) }
-{
-    let (school, term) = past.term(key.school, a.year, a.term, steps);
-    let place = past.place(key.school, a.student, a.year, a.term, steps);
-    Facts {
-        term_at: term.at,
-        withdrawn_at: place.withdrawn_at,
-        net: net_of(&place.account, a.program),
-        ..desk_facts(past.front(), &school)
     }
 }

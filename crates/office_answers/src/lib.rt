@@ -10,10 +10,10 @@ mod standings;
 mod uncounted;
 mod verdicts;
 
-pub use applications::award_in;
+pub use applications::{award_in, indexed_by_book};
 pub use entry::{adjusted, entry_of, paid, repaid, returned};
 pub use gathered::{Basis, Gathered, gather, payment_facts};
 pub use sheets::sheet;
 pub use standings::{quote, standing};
 pub use uncounted::{quote_on, rule_on, standing_on, verdict_on};
-pub use verdicts::answer;
+pub use verdicts::{answer, returned_outcome};

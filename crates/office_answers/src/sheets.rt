@@ -3,15 +3,20 @@ ghost use Rattle.std.specs.Prelude.{◌≡◌, ◌≤◌};
 ghost use Rattle.aid_types.specs.Programs.{minus};
 ghost use Rattle.aid_types.specs.Ranges.{EachIsCents};
 ghost use Rattle.enrolment.specs.Terms.{IsLawful, days_upto};
+ghost use Rattle.office_history.specs.Net.{sheet as sheet_after};
+ghost use Rattle.office_history.specs.Past.{the_term};
+ghost use Rattle.office_history.specs.Rows.{account_row};
+ghost use Rattle.office_history.specs.Sheets.{CanBeWorkedOut};
 ghost use Rattle.withdrawal_returns.specs.Worksheet.{worksheet_of};
 
 use aid_filings::WithdrawFacts;
-use aid_types::Term;
+use aid_types::{Key, Term};
 use enrolment::days;
-use office_history::Account;
+use office_history::{Account, OnFile};
 use withdrawal_returns::{Inputs, Lines, worksheet};
 
 /// The worksheet of a withdrawal from a term, on what moved in the student's term before it (34 CFR 668.22).
+#[tactic(auto, using(crate::proofs::TermDays::days_begun, crate::proofs::TermDays::days_inside))]
 pub fn sheet(term: &Term, withdrawal: &WithdrawFacts, so_far: &Account) -> Lines
     requires lawful { IsLawful term.now }
     requires begun { term.now.first ≤ withdrawal.now.last }
@@ -27,4 +32,25 @@ pub fn sheet(term: &Term, withdrawal: &WithdrawFacts, so_far: &Account) -> Lines
         net: so_far.paid.minus(&so_far.taken),
         could: withdrawal.could,
     })
+}
+
+/// The worksheet of a withdrawal on what is on file of its term, and on what moved in the student's term before it.
+pub(crate) fn sheet_on_file<P: OnFile>(
+    past: &P,
+    key: &Key,
+    withdrawal: &WithdrawFacts,
+    term: &Option<Term>,
+    so_far: &Account,
+) -> Lines
+    requires worked_out { CanBeWorkedOut (P.history past.now) key.now withdrawal.now }
+    requires term { term.now ≡ the_term (P.history past.now) key.now.school withdrawal.now.year withdrawal.now.term }
+    requires so_far { so_far.now ≡ account_row (P.history past.now) key.now.school withdrawal.now.student withdrawal.now.year withdrawal.now.term }
+    ensures value { result ≡ sheet_after (P.history past.now) key.now withdrawal.now }
+    ensures owed { EachIsCents result.owed }
+{
+    let _filings = past.front();
+    match term {
+        Some(term) => sheet(term, withdrawal, so_far),
+        None => unreachable!(),
+    }
 }

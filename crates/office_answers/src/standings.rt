@@ -1,12 +1,15 @@
 //! Quotes, and where a student stands, over whatever keeps what is on file.
 ghost use Rattle.std.specs.Prelude.{◌≡◌, ℕ, ◌+◌, ◌*◌, ◌<◌, ◌≤◌, Some, None};
+ghost use Rattle.std.specs.Option.{option_copied};
 ghost use Rattle.filing_rules.specs.Rules.{first_broken};
 ghost use Rattle.office_history.specs.Answer.{quote_of, standing_of, standing_under};
+ghost use Rattle.office_history.specs.Rows.{filing_in, told_application};
 ghost use Rattle.office_history.specs.Rules.{payment_rules};
 ghost use Rattle.office_answers.specs.Walked.{walked};
 
 use crate::gathered::payment_facts;
 use aid_books::Book;
+use aid_filings::What;
 use aid_replies::StandingRow;
 use aid_types::{Application, Formula, Program, School, Student, Way, Year};
 use office_history::{OnFile, decision};
@@ -38,6 +41,7 @@ pub fn quote<P: OnFile, L: Ledger>(
 
 /// Where a student stands in a year: the application in force with its award, the year's net Pell at all schools and the
 /// lifetime units used.
+#[tactic(auto, using(office_history::proofs::InForce::in_force))]
 pub fn standing<P: OnFile, L: Ledger>(
     past: &P,
     student: Student,
@@ -51,9 +55,27 @@ pub fn standing<P: OnFile, L: Ledger>(
     let of_year = past.year(student, year, steps);
     let paid = of_year.nets.at(Program::Pell);
     let used = past.student(student, steps).used;
-    match (book, &of_year.application) {
+    match (book, application_at(past, of_year.application_at)) {
         (Some(book), Some(application)) => with_award(book, application, paid, used),
-        _ => without_award(paid, used),
+        _ => StandingRow {
+            transaction: 0,
+            formula: Formula::A,
+            sai: 0,
+            way: Way::Nothing,
+            scheduled: 0,
+            paid,
+            used,
+        },
+    }
+}
+
+// The application at a position; `None` where there is none.
+fn application_at<P: OnFile>(past: &P, position: u32) -> Option<&Application>
+    ensures { option_copied result ≡ told_application (filing_in (P.history past.now) position) }
+{
+    match &past.filing(position)?.what {
+        What::Apply(application) => Some(application),
+        _ => None,
     }
 }
 
@@ -67,20 +89,6 @@ fn with_award(book: &Book, application: &Application, paid: u64, used: u32) -> S
         sai: decision.sai,
         way: decision.way,
         scheduled: decision.scheduled,
-        paid,
-        used,
-    }
-}
-
-fn without_award(paid: u64, used: u32) -> StandingRow
-    ensures { result ≡ standing_under None None paid used }
-{
-    StandingRow {
-        transaction: 0,
-        formula: Formula::A,
-        sai: 0,
-        way: Way::Nothing,
-        scheduled: 0,
         paid,
         used,
     }

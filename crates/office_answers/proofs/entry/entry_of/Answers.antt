@@ -1,20 +1,28 @@
-use Rattle.std.proofs.Common.{ap, sym, subst}
+use Rattle.std.proofs.Common.{◌∙◌, ap, sym, subst}
 use Rattle.aid_filings.specs.declared.filing.What.{What}
+use Rattle.aid_filings.specs.declared.filing.What.TheVariants.{Withdraw}
 use Rattle.office_history.proofs.Lawful.{can_be_worked_out}
-use Rattle.office_history.specs.Own.{IsOwnEntry, own_place}
-use Rattle.office_answers.proofs.Ranges.{row-account, row-withdrawn}
+use Rattle.office_history.specs.Own.{IsOwnEntry, of_lines, own_place}
+use Rattle.office_history.specs.declared.rows.PlaceRow.{PlaceRow}
+use Rattle.office_answers.proofs.Entries.{own-entry}
+use Rattle.office_answers.proofs.Ranges.{row-withdrawn}
 use Rattle.office_answers.proofs.entry.entry_of.Goals as goal
 
-pub withdrawal-requires-clause-worked_out : goal.withdrawal-requires-clause-worked_out
-withdrawal-requires-clause-worked_out g c =
+pub sheet_on_file-requires-clause-worked_out : goal.sheet_on_file-requires-clause-worked_out
+sheet_on_file-requires-clause-worked_out g c =
     can_be_worked_out (g.P.OnFile.history c.args.past.now) c.args.filing.now c.in-Withdraw.facts c.requires.legal.0 c.in-Withdraw.is c.requires.legal.2
 
-pub withdrawal-requires-clause-so_far : goal.withdrawal-requires-clause-so_far
-withdrawal-requires-clause-so_far g c =
+pub sheet_on_file-requires-clause-so_far : goal.sheet_on_file-requires-clause-so_far
+sheet_on_file-requires-clause-so_far g c =
+    ap (λ (row : PlaceRow). row.account) (c.requires.row _ (ap (own_place c.args.filing.now.key) c.in-Withdraw.is))
+
+pub returns-in-Withdraw : goal.returns-in-Withdraw
+returns-in-Withdraw g c =
+    let past = g.P.OnFile.history c.args.past.now in
     let key = c.args.filing.now.key in
-    let w = c.in-Withdraw.facts in
-    row-account (g.P.OnFile.history c.args.past.now) key.school w.student w.year w.term c.args.row.now
-    (c.requires.row _ (ap (own_place key) c.in-Withdraw.is))
+    let moved = c.returned.ensures ∙ ap of_lines c.sheet_on_file.ensures.value in
+    subst (λ (what : What). IsOwnEntry past key what c.returned.result) (sym c.in-Withdraw.is)
+    (subst (IsOwnEntry past key (Withdraw c.in-Withdraw.facts)) (sym moved) (own-entry past key c.in-Withdraw.facts))
 
 pub returns-in-Pay : goal.returns-in-Pay
 returns-in-Pay g c =

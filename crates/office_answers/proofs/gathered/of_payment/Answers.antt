@@ -1,7 +1,5 @@
-use Rattle.std.proofs.Common.{◌≡◌, ◌∙◌, arith, slice_index}
-use Rattle.std.proofs.lemmas.Grind.{common_steps}
+use Rattle.std.proofs.Common.{◌≡◌, ◌∙◌, slice_index}
 use Rattle.aid_types.specs.Programs.{rank}
-use Rattle.office_history.specs.FactsOf.{aid_facts}
 use Rattle.office_history.specs.Net.{cell_at, is_cell, paid_after}
 use Rattle.office_history.specs.Positions.{is_paid_beside, least_code}
 use Rattle.office_history.specs.Past.{terms_on_file, the_term}
@@ -12,19 +10,19 @@ pub returns-clause-facts : goal.returns-clause-facts
 returns-clause-facts g c =
     let past = g.P.OnFile.history c.args.past.now in
     let program = rank c.args.program in
-    let place = c.place-place.ensures.value in
-    let aid : c.aid_facts.result ≡ aid_facts past c.args.school c.args.student c.args.year c.args.number = grind (arith, common_steps) in
+    let aid = c.aid_facts-aid.ensures in
     let code : c.beside-other_school.result.1 ≡ least_code (is_paid_beside past c.args.school c.args.student (the_term past c.args.school c.args.year c.args.number)) (terms_on_file past) =
     c.beside-other_school.ensures.code
-    ∙ (λ i. least_code (is_paid_beside past c.args.school c.args.student (c.term.ensures.term i).term) (terms_on_file past)) in
+    ∙ (λ i. least_code (is_paid_beside past c.args.school c.args.student (aid.term i).term) (terms_on_file past)) in
     let after : c.at.result ≡ paid_after past (is_cell (cell_at c.args.school c.args.student c.args.year c.args.number program)) =
     c.at.ensures
-    ∙ (λ i. slice_index (place i).account.after program)
+    ∙ (λ i. slice_index (aid.place i).account.after program)
     ∙ six-rank (λ p. paid_after past (is_cell (cell_at c.args.school c.args.student c.args.year c.args.number p))) c.args.program in
-    λ i. record (aid i) {
+    λ i. record (aid.facts i) {
+      used_else = c.used_else.ensures.value i;
       other_school = code i;
       after = after i;
-      after_all = (place i).account.after_all;
-      post = (place i).account.post;
-      could = (place i).could;
+      after_all = (aid.place i).account.after_all;
+      post = (aid.place i).account.post;
+      could = (aid.place i).could;
     }

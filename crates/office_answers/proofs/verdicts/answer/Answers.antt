@@ -1,23 +1,10 @@
-use Rattle.std.proofs.Common.{refl, sym, ap, ◌∙◌, Some}
+use Rattle.std.proofs.Common.{sym, ap, ◌∙◌, Some}
 use Rattle.std.specs.Option.{option_copied}
 use Rattle.aid_filings.specs.declared.filing.Filing.{Filing}
 use Rattle.aid_filings.proofs.SameFiling.{tells_filing}
 use Rattle.aid_replies.specs.declared.reply.Verdict.TheVariants.{Again}
-use Rattle.office_history.specs.Answer.{breaks}
-use Rattle.office_answers.proofs.Judged.{answer_again, answer_other, judged_new, nothing_there, position_within}
+use Rattle.office_answers.proofs.Judged.{answer_again, position_within}
 use Rattle.office_answers.proofs.verdicts.answer.Goals as goal
-
-pub judge-requires-clause-new : goal.judge-requires-clause-new
-judge-requires-clause-new g c =
-    nothing_there (g.P.OnFile.history c.args.past.now) c.args.filing.now c.key_at-position.result c.key_at-position.ensures.value
-    (sym c.filing.ensures ∙ ap option_copied c.in-None.is)
-
-pub returns-in-None-clause-value : goal.returns-in-None-clause-value
-returns-in-None-clause-value g c =
-    let past = g.P.OnFile.history c.args.past.now in
-    let filing = c.args.filing.now in
-    let new = nothing_there past filing c.key_at-position.result c.key_at-position.ensures.value (sym c.filing.ensures ∙ ap option_copied c.in-None.is) in
-    c.judge.ensures.value ∙ sym (judged_new past filing (breaks past filing) new refl)
 
 pub outcome-requires-clause-first : goal.outcome-requires-clause-first
 outcome-requires-clause-first g c =
@@ -37,10 +24,3 @@ returns-in-Some-clause-value g c =
     (λ i. Again position (c.outcome.ensures i))
     ∙ answer_again past position filing c.front-filings.ensures.legal
     (sym c.filing.ensures ∙ ap option_copied c.in-Some.is ∙ ap (λ (f : Filing). Some f) same)
-
-pub returns-in-Some-2-clause-value : goal.returns-in-Some-2-clause-value
-returns-in-Some-2-clause-value g c =
-    c.key_used.ensures
-    ∙ answer_other (g.P.OnFile.history c.args.past.now) c.key_at-position.result c.args.filing.now c.in-Some.standing.now
-    c.front-filings.ensures.legal c.key_at-position.ensures.value (sym c.filing.ensures ∙ ap option_copied c.in-Some.is)
-    (sym c.eq.ensures ∙ c.if-eq.false)

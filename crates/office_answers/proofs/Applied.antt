@@ -1,4 +1,4 @@
--- What an application brings under its year's book, with its award.
+-- What an application brings under the book of its year, with its award.
 use Rattle.std.proofs.Common.{◌≡◌, ◌≤◌, ◌<◌, refl, sym, ap, subst, ◌∙◌, Bool, true, ◌&&◌, List, Option, Some, None, zero-le, eq-eqb, lt-ltb}
 use Rattle.std.specs.Prelude.{◌==◌}
 use Rattle.aid_books.specs.declared.book.Book.{Book}
@@ -35,8 +35,8 @@ of_kind : (f : Filing) (a : Application) → f.what ≡ Apply a → f ≡ record
 of_kind f a is = λ i. record { key = f.key; what = is i }
 
 -- it is in range
-pub application_fits : (past : List Filing) (f : Filing) (a : Application) → f.what ≡ Apply a → breaks past f ≡ None → unfit_under (the_book past a.year) a ≡ None
-application_fits past f a is sound =
+pub fits : (past : List Filing) (f : Filing) (a : Application) → f.what ≡ Apply a → breaks past f ≡ None → unfit_under (the_book past a.year) a ≡ None
+fits past f a is sound =
     (correction past f.key a (subst (λ (g : Filing). breaks past g ≡ None) (of_kind f a is) sound)).fit
 
 higher_wins : (a : Application) (before : Option Application) → transaction_of before < a.transaction → higher (Some a) before ≡ Some a
@@ -44,9 +44,9 @@ higher_wins a None above = refl
 higher_wins a (Some b) above = rw (lt-ltb b.transaction a.transaction above) refl
 
 -- it is the one in force from then on
-pub outcome_of_apply : (past : List Filing) (f : Filing) (a : Application) → f.what ≡ Apply a → breaks past f ≡ None →
+pub outcome : (past : List Filing) (f : Filing) (a : Application) → f.what ≡ Apply a → breaks past f ≡ None →
     outcome_in past f (Apply a) ≡ indexed (the_book past a.year) (Some a)
-outcome_of_apply past f a is sound =
+outcome past f a is sound =
     let whole = of_kind f a is in
     let rule : breaks past (record { key = f.key; what = Apply a }) ≡ None = subst (λ (g : Filing). breaks past g ≡ None) whole sound in
     let same : (a.student == a.student && a.year == a.year) ≡ true = rw (eq-eqb a.student a.student refl, eq-eqb a.year a.year refl) refl in
