@@ -135,7 +135,7 @@ fn assert_student<L: Ledger>(rt: &impl Abort, past: &Plain, steps: &mut Steps<L>
     };
     assert_eq!(rt; past.student(STUDENT, steps), student);
     let year = past.year(STUDENT, YEAR, steps);
-    assert_eq!(rt; year.application.map(|filed| filed.transaction), Some(1));
+    assert_eq!(rt; (year.transaction, year.application_at), (1, 7));
     assert_eq!(rt; year.scheduled, 7395);
 }
 
@@ -152,7 +152,7 @@ fn assert_stranger<L: Ledger>(rt: &impl Abort, past: &Plain, steps: &mut Steps<L
     assert_eq!(rt; past.place(SCHOOL, STRANGER, YEAR, 1, steps), NO_PLACE);
     assert_eq!(rt; past.school_year(SCHOOL, STRANGER, YEAR, steps), cost(0, 0));
     let year = past.year(STRANGER, YEAR, steps);
-    assert!(rt; year.application.is_none());
+    assert_eq!(rt; (year.transaction, year.application_at), (0, 0));
     assert_eq!(rt; year.scheduled, 0);
     assert_eq!(rt; past.student(STRANGER, steps).pell_at, 0);
 }

@@ -1,9 +1,6 @@
-pub mod Highest
+pub mod Earliest
 pub mod Indexed
 pub mod Moves
 pub mod NoPell
-pub mod Oldest
-pub mod Places
-pub mod Reduced
-pub mod Told
+pub mod Terms
 pub mod YearSums

@@ -6,8 +6,8 @@ use Rattle.aid_filings.specs.declared.filing.Filing.{Filing}
 use Rattle.office_history.specs.Past.{is_extra, the_term}
 use Rattle.office_history.specs.Net.{Move, is_cell, moved}
 use Rattle.plain_list.specs.CellTests.{are_at, cents_of, test_of}
-use Rattle.plain_list.specs.declared.cells.Cells.{Cells}
-use Rattle.plain_list.specs.declared.cells.Cells.TheVariants.{InYear, InMainTerms, AtSchool}
+use Rattle.plain_list.specs.declared.moved.Cells.{Cells}
+use Rattle.plain_list.specs.declared.moved.Cells.TheVariants.{InYear, InMainTerms, AtSchool}
 use Rattle.office_history.specs.declared.place.Place.{Place}
 use Rattle.office_history.proofs.Own.{AreIn, at, moved-agree, moved-all, moved-none, own-cell}
 use Rattle.office_history.proofs.Sixes.{six-rank}

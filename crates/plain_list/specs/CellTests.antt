@@ -4,8 +4,8 @@ use Rattle.aid_types.specs.Programs.{rank}
 use Rattle.aid_filings.specs.declared.filing.Filing.{Filing}
 use Rattle.office_history.specs.Net.{Cell, in_year, in_main_terms, at_school_in_year}
 use Rattle.office_history.specs.Past.{is_extra, the_term}
-use Rattle.plain_list.specs.declared.cells.Cells.{Cells}
-use Rattle.plain_list.specs.declared.cells.Cells.TheVariants.{InYear, InMainTerms, AtSchool}
+use Rattle.plain_list.specs.declared.moved.Cells.{Cells}
+use Rattle.plain_list.specs.declared.moved.Cells.TheVariants.{InYear, InMainTerms, AtSchool}
 use Rattle.office_history.specs.declared.place.Place.{Place}
 
 -- the test that a cell passes; which terms are main ones is told by a history

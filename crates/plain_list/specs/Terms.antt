@@ -1,11 +1,9 @@
 -- Terms on file by their school and number.
-use Rattle.std.specs.Prelude.{ℕ, ◌+◌, ◌*◌, nat_lt, Bool, List, option_map, Option, Some, None, if◌then◌else◌}
+use Rattle.std.specs.Prelude.{ℕ, ◌+◌, ◌*◌, nat_lt, Option, Some, None, if◌then◌else◌}
 use Rattle.aid_filings.specs.Calendars.{term_of}
 use Rattle.aid_filings.specs.declared.filing.CalendarFacts.{CalendarFacts}
 use Rattle.aid_filings.specs.declared.filing.What.{What}
 use Rattle.aid_filings.specs.declared.filing.What.TheVariants.{Calendar}
-use Rattle.std.specs.List.{filter}
-use Rattle.office_history.specs.Positions.{least_term}
 use Rattle.office_history.specs.Past.{OnFile}
 
 -- the calendar that is filed
@@ -25,7 +23,3 @@ place_of t = (t.school, t.term.number)
 abbrev pub earlier_place : ℕ × ℕ → Option (ℕ × ℕ) → Option (ℕ × ℕ)
 earlier_place a None = Some a
 earlier_place a (Some b) = if nat_lt (9 * a.0 + a.1) (9 * b.0 + b.1) then Some a else Some b
-
--- the place of the earliest term that passes
-abbrev pub first_place : (OnFile → Bool) → List OnFile → Option (ℕ × ℕ)
-first_place p ts = option_map place_of (least_term (filter p ts))

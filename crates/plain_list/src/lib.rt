@@ -2,19 +2,9 @@
 #![tactic(auto)]
 
 mod applications;
-mod beside;
-mod cells;
-mod found;
-mod legal;
-mod lifetime;
-mod listed;
+mod calendars;
 mod moved;
-mod newest;
 mod plain;
-mod positions;
-mod questions;
-mod sheets;
-mod terms;
+mod search;
 
-pub use legal::is_legal;
-pub use plain::Plain;
+pub use plain::{Plain, is_legal};

@@ -1,18 +1,15 @@
 //! A plain list of filings, read from end to end at each question.
-ghost use Rattle.std.specs.Prelude.{◌≡◌, reverse};
+ghost use Rattle.std.specs.Prelude.{◌≡◌, ◌↔◌, IsTrue, reverse};
+ghost use Rattle.aid_types.specs.Programs.{six};
 ghost use Rattle.office_history.specs.Answer.{IsLegal};
+ghost use Rattle.office_history.specs.Net.{in_year, net};
 
-use crate::beside::{other_school, term_over};
-use crate::found::book;
-use crate::listed::{
-    calendar_row, place_row, school_row, school_year_row, student_row, term_row, year_row,
-};
-use crate::newest::outcome;
-use crate::positions::{position_of_book, position_of_key};
+use crate::moved::Cells;
 use aid_books::Book;
 use aid_filings::{CalendarFacts, Filing};
 use aid_replies::Outcome;
-use aid_types::{Key, Refusal, School, Student, Term, Year};
+use aid_types::{ByProgram, Key, Program, Refusal, School, Student, Term, Year};
+use office_answers::rule_on;
 use office_history::{
     CalendarRow, OnFile, Place, PlaceRow, SchoolRow, SchoolYearRow, StudentRow, TermRow, YearRow,
 };
@@ -23,7 +20,7 @@ use steps::Steps;
 /// The filings, the oldest first. A contract sees them newest first. Each is new and breaks no rule on those before it.
 #[derive(Drop)]
 pub struct Plain<'a> {
-    filings: &'a [Filing],
+    pub(crate) filings: &'a [Filing],
 }
 
 impl<'a> Model for Plain<'a> {
@@ -46,6 +43,34 @@ impl<'a> Plain<'a> {
     {
         Plain { filings }
     }
+
+    // The nets of a year by program.
+    fn nets(&self, student: Student, year: Year) -> ByProgram
+        ensures { result ≡ six (λ p. net self.now (in_year student year p)) }
+    {
+        let net = |program| self.net_of(&Cells::InYear(student, year, program));
+        ByProgram::new([
+            net(Program::Unsub),
+            net(Program::Sub),
+            net(Program::Plus),
+            net(Program::Pell),
+            net(Program::Fseog),
+            net(Program::Teach),
+        ])
+    }
+}
+
+/// Whether a list of filings, the oldest first, is legal: no key stands twice, and each filing breaks no rule on those
+/// before it.
+pub fn is_legal(filings: &[Filing]) -> bool
+    ensures { IsTrue result ↔ IsLegal (reverse filings.now) }
+{
+    for (index, filing) in filings.iter().enumerate() {
+        if rule_on(&Plain::new(&filings[..index]), filing).is_none() {
+            return false;
+        }
+    }
+    true
 }
 
 impl OnFile for Plain<'_> {
@@ -68,30 +93,29 @@ impl OnFile for Plain<'_> {
     }
 
     fn outcome(&self, position: u32) -> Outcome {
+        let filings = self.filings;
         let index = position as usize - 1;
-        outcome(
-            &self.filings[..index],
-            &self.filings[index],
-            &self.filings[..=index],
-        )
+        let past = Plain::new(&filings[..index]);
+        Plain::new(&filings[..=index]).outcome_after(&past, &filings[index])
     }
 
-    #[tactic(auto, using(office_history::proofs::Bounds::short))]
     fn key_at<L: Ledger>(&self, key: &Key, _steps: &mut Steps<L>) -> u32 {
-        position_of_key(self.filings, key)
+        let (position, _) = self.first(|filing| if *key == filing.key { Some(()) } else { None });
+        position
     }
 
-    #[tactic(auto, using(office_history::proofs::Bounds::short))]
     fn book_at<L: Ledger>(&self, year: Year, _steps: &mut Steps<L>) -> u32 {
-        position_of_book(self.filings, year)
+        self.book_place(year)
     }
 
     fn book<L: Ledger>(&self, year: Year, _steps: &mut Steps<L>) -> Option<&Book> {
-        book(self.filings, year)
+        self.book_of(year)
     }
 
     fn school<L: Ledger>(&self, code: u32, _steps: &mut Steps<L>) -> SchoolRow {
-        school_row(self.filings, code)
+        let (at, school) = self.school_of(code);
+        let (terms, full) = school.map_or((0, 0), |facts| (facts.terms, facts.full));
+        SchoolRow { at, terms, full }
     }
 
     fn term<L: Ledger>(
@@ -99,24 +123,24 @@ impl OnFile for Plain<'_> {
         school: School,
         year: Year,
         number: u8,
-        _steps: &mut Steps<L>,
+        steps: &mut Steps<L>,
     ) -> (SchoolRow, TermRow) {
-        (
-            school_row(self.filings, school.0),
-            term_row(self.filings, school, year, number),
-        )
+        let (at, term) = self.term_of(school, year, number);
+        (self.school(school.0, steps), TermRow { at, term })
     }
 
     fn calendar<L: Ledger>(
         &self,
         school: School,
         calendar: &CalendarFacts,
-        _steps: &mut Steps<L>,
+        steps: &mut Steps<L>,
     ) -> (SchoolRow, CalendarRow) {
-        (
-            school_row(self.filings, school.0),
-            calendar_row(self.filings, school, calendar),
-        )
+        let calendar_row = CalendarRow {
+            term_at: self.term_of(school, calendar.year, calendar.term).0,
+            overlap_at: self.overlap(school, &calendar.to_term()),
+            main_terms: self.main_terms(school, calendar.year),
+        };
+        (self.school(school.0, steps), calendar_row)
     }
 
     fn place<L: Ledger>(
@@ -133,11 +157,24 @@ impl OnFile for Plain<'_> {
             year,
             term: number,
         };
-        place_row(self.filings, &place)
+        let (withdrawn_at, withdrawal) = self.withdrawal_of(&place);
+        PlaceRow {
+            credits: self.credits(&place),
+            withdrawn_at,
+            could: withdrawal.map_or(ByProgram::EMPTY, |facts| facts.could),
+            account: self.account_of(&place),
+        }
     }
 
     fn year<L: Ledger>(&self, student: Student, year: Year, _steps: &mut Steps<L>) -> YearRow {
-        year_row(self.filings, student, year)
+        let (application_at, application) = self.application(student, year);
+        YearRow {
+            transaction: application.map_or(0, |filed| u32::from(filed.transaction)),
+            application_at,
+            scheduled: self.scheduled(student, year),
+            nets: self.nets(student, year),
+            main: self.net_of(&Cells::InMainTerms(student, year)),
+        }
     }
 
     fn school_year<L: Ledger>(
@@ -147,11 +184,17 @@ impl OnFile for Plain<'_> {
         year: Year,
         _steps: &mut Steps<L>,
     ) -> SchoolYearRow {
-        school_year_row(self.filings, school, student, year)
+        let (cost_at, cost) = self.cost_of(school, student, year);
+        let net = self.net_of(&Cells::AtSchool(school, student, year));
+        SchoolYearRow { cost_at, cost, net }
     }
 
     fn student<L: Ledger>(&self, student: Student, _steps: &mut Steps<L>) -> StudentRow {
-        student_row(self.filings, student)
+        StudentRow {
+            prior_at: self.prior_of(student).0,
+            pell_at: self.pell_payment(student),
+            used: self.used(student),
+        }
     }
 
     fn beside<L: Ledger>(
@@ -159,12 +202,10 @@ impl OnFile for Plain<'_> {
         student: Student,
         school: School,
         this: &Option<Term>,
-        _steps: &mut Steps<L>,
+        steps: &mut Steps<L>,
     ) -> (StudentRow, u32) {
-        (
-            student_row(self.filings, student),
-            other_school(self.filings, student, school, this),
-        )
+        let row = self.student(student, steps);
+        (row, self.other_school(student, school, this))
     }
 
     fn over<L: Ledger>(
@@ -172,11 +213,9 @@ impl OnFile for Plain<'_> {
         award: u32,
         student: Student,
         year: Year,
-        _steps: &mut Steps<L>,
+        steps: &mut Steps<L>,
     ) -> (StudentRow, Option<Refusal>) {
-        (
-            student_row(self.filings, student),
-            term_over(self.filings, award, student, year),
-        )
+        let row = self.student(student, steps);
+        (row, self.term_over(award, student, year))
     }
 }

@@ -1,0 +1,40 @@
+use Rattle.std.proofs.Common.{◌∷◌, sym, subst, ◌∙◌}
+use Rattle.office_history.specs.Accounts.{IsAccount}
+use Rattle.office_history.specs.declared.account.Account.{Account}
+use Rattle.office_history.proofs.AccountSteps.{account-joined, account-kept, account-sums, entry-sums}
+use Rattle.office_history.proofs.Own.{entry-elsewhere, entry-there, moves-in, still}
+use Rattle.plain_list.proofs.plain.Plain.account_with.Goals as goal
+use Rattle.plain_list.proofs.plain.Plain.account_with.Goals.{in_default-via-in-Some+else-is, in_default-via-in_default}
+
+pub joined-requires-clause-ours : goal.joined-requires-clause-ours
+joined-requires-clause-ours c =
+    let p = c.args.place.now in
+    account-sums c.args.self.now p.school p.student p.year p.term c.args.so_far.now c.requires.legal.0 c.requires.account
+
+pub joined-requires-clause-theirs : goal.joined-requires-clause-theirs
+joined-requires-clause-theirs c =
+    let p = c.args.place.now in
+    let f = c.args.filing.now in
+    let past = c.args.self.now in
+    entry-sums past f p.school p.student p.year p.term c.entry.result c.requires.legal
+    (entry-there past f.key f.what c.in-Some.own p c.entry.result (sym c.of.ensures ∙ c.in-Some.is) (sym c.is.ensures ∙ c.if-is.true) c.entry.ensures)
+
+pub returns-in-Some : goal.returns-in-Some
+returns-in-Some c =
+    let p = c.args.place.now in
+    let f = c.args.filing.now in
+    let past = c.args.self.now in
+    subst (λ (a : Account). IsAccount (f ∷ past) p.school p.student p.year p.term a) (sym c.joined.ensures)
+    (account-joined past f p.school p.student p.year p.term c.args.so_far.now c.entry.result c.requires.account
+    (entry-there past f.key f.what c.in-Some.own p c.entry.result (sym c.of.ensures ∙ c.in-Some.is) (sym c.is.ensures ∙ c.if-is.true) c.entry.ensures))
+
+pub returns-in_default : goal.returns-in_default
+returns-in_default c =
+    let p = c.args.place.now in
+    let f = c.args.filing.now in
+    let past = c.args.self.now in
+    account-kept past f p.school p.student p.year p.term c.args.so_far.now c.requires.account
+    (elim c.in_default.branch [
+      | in_default-via-in-Some+else-is w ↦ entry-elsewhere past f.key f.what p w.in-Some.own (moves-in past f.key f.what w.in-Some.own (sym c.of.ensures ∙ w.in-Some.is)) (sym w.is.ensures ∙ w.if-is.false)
+      | in_default-via-in_default w ↦ (still past f.key f.what (sym c.of.ensures ∙ w.in_default.is)).entry p
+    ])
