@@ -1,7 +1,7 @@
 //! How replies are written.
 use aid_replies::{Outcome, Reply, StandingRow};
 use aid_types::{Formula, Refusal, Way};
-use desk_bodies::{body_of, error_body};
+use desk_bodies::body_of;
 use std::test::Fail;
 
 #[test]
@@ -162,22 +162,5 @@ fn lengths(rt: HostRuntime) -> Result<(), Fail> {
     };
     assert_eq!(rt; body_of(rt.alloc(), &accepted)?.len(), 62);
     assert_eq!(rt; body_of(rt.alloc(), &again)?.len(), 59);
-    Ok(())
-}
-
-#[test]
-fn errors(rt: HostRuntime) -> Result<(), Fail> {
-    assert_eq!(rt;
-        error_body(rt.alloc(), 404)?.as_slice(),
-        b"{\"error\":404}".as_slice()
-    );
-    assert_eq!(rt;
-        error_body(rt.alloc(), 0)?.as_slice(),
-        b"{\"error\":0}".as_slice()
-    );
-    assert_eq!(rt;
-        error_body(rt.alloc(), 65535)?.as_slice(),
-        b"{\"error\":65535}".as_slice()
-    );
     Ok(())
 }

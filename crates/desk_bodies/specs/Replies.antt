@@ -48,7 +48,3 @@ reply_body (Quoted cents front) = quoted_body cents front
 reply_body (Standing row front) = standing_body row front
 reply_body (DiskFault undecided) = fault_body undecided
 reply_body NoMemory = codes "{\"answer\":\"no memory\"}"
-
--- of a status that answers no ask
-abbrev pub error_text : ℕ → List ℕ
-error_text status = codes "{\"error\":" ++ decimal status ++ codes "}"

@@ -10,4 +10,4 @@ mod value;
 
 pub use error::BodyError;
 pub use filing::filing_of;
-pub use reply::{body_of, error_body};
+pub use reply::body_of;

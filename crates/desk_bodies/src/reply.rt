@@ -2,7 +2,7 @@
 ghost use Rattle.std.specs.Prelude.{◌≡◌, ◌++◌, IfOk, OnOk, codes, decimal};
 ghost use Rattle.aid_num.specs.Whole.{whole_text};
 ghost use Rattle.reply_lines.specs.Lines.{way_text};
-ghost use Rattle.desk_bodies.specs.Replies.{error_text, fault_body as fault_text, filed_body as filed_text, quoted_body as quoted_text, refused_body as refused_text, reply_body, standing_body as standing_text, undecided_text};
+ghost use Rattle.desk_bodies.specs.Replies.{fault_body as fault_text, filed_body as filed_text, quoted_body as quoted_text, refused_body as refused_text, reply_body, standing_body as standing_text, undecided_text};
 
 use aid_replies::{Outcome, Reply, StandingRow};
 use aid_types::Refusal;
@@ -31,16 +31,6 @@ pub fn body_of(alloc: Global, reply: &Reply) -> Result<Vec<u8>, AllocError>
         Reply::DiskFault { undecided } => fault_body(alloc, *undecided),
         Reply::NoMemory => no_memory_body(alloc),
     }
-}
-
-/// The body of a response that answers no ask. An `Err` is want of memory.
-pub fn error_body(alloc: Global, status: u16) -> Result<Vec<u8>, AllocError>
-    ensures { IfOk result (λ body. body.items ≡ error_text status) }
-{
-    let mut body = Vec::new(alloc);
-    put_number("{\"error\":", u64::from(status), &mut body)?;
-    put_text("}", &mut body)?;
-    Ok(body)
 }
 
 fn no_memory_body(alloc: Global) -> Result<Vec<u8>, AllocError>
