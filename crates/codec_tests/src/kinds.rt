@@ -95,7 +95,7 @@ fn an_application(rt: HostRuntime) -> Result<(), Fail> {
 }
 
 #[test]
-fn cuts(rt: HostRuntime) {
+fn cuts_of_a_prior_use(rt: HostRuntime) {
     for n in 0..25 {
         let place = match n {
             0 => 0,
@@ -106,11 +106,19 @@ fn cuts(rt: HostRuntime) {
         };
         assert_eq!(rt; place_of(rt.alloc(), &PRIOR[..n]), Some(place));
     }
+}
+
+#[test]
+fn cuts_of_a_school(rt: HostRuntime) {
     for (n, place) in [(1, 1), (5, 5), (13, 13), (16, 13), (17, 17), (18, 18)] {
         if n < 19 {
             assert_eq!(rt; place_of(rt.alloc(), &SCHOOL[..n]), Some(place));
         }
     }
+}
+
+#[test]
+fn cuts_of_a_calendar(rt: HostRuntime) {
     for (n, place) in [(16, 16), (20, 17), (25, 25), (26, 26), (29, 26), (33, 30)] {
         if n < 34 {
             assert_eq!(rt; place_of(rt.alloc(), &CALENDAR[..n]), Some(place));

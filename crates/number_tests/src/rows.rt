@@ -6,6 +6,7 @@ use sorted_rows::{Slots, Table};
 use std::alloc::AllocError;
 use std::collections::BTreeMap;
 use std::marker::Brand;
+use std::process::Abort;
 use std::sync::ledger::{Blank, Ledger};
 use std::test::Fail;
 use steps::Steps;
@@ -32,20 +33,30 @@ fn key_at(turn: u32) -> u32 {
 fn keys_in_no_order(rt: HostRuntime) -> Result<(), Fail> {
     let mut table = Table::new(rt.alloc());
     let mut map = BTreeMap::new(rt.alloc());
-    for turn in 0..KEYS {
-        table.reserve(1)?;
-        table.set(key_at(turn), turn);
-        map.insert(key_at(turn), turn)?;
-    }
+    write_keys(&mut table, &mut map, KEYS, 1, 0)?;
     // Some are written once more, and some were never written.
-    for turn in 0..KEYS / 3 {
-        table.reserve(1)?;
-        table.set(key_at(3 * turn), KEYS + turn);
-        map.insert(key_at(3 * turn), KEYS + turn)?;
-    }
+    write_keys(&mut table, &mut map, KEYS / 3, 3, KEYS)?;
     for turn in 0..2 * KEYS {
         let key = key_at(turn);
         assert_eq!(rt; table.at(&key), map.get(&key).copied(), "{key}");
+    }
+    Ok(())
+}
+
+// Writes the keys of so many turns, each so many behind the one before it, with numbers from the first on.
+fn write_keys(
+    table: &mut Table<u32, u32>,
+    map: &mut BTreeMap<u32, u32>,
+    turns: u32,
+    step: u32,
+    first: u32,
+) -> Result<(), AllocError> {
+    for turn in 0..turns {
+        let key = key_at(step.wrapping_mul(turn));
+        let value = first.wrapping_add(turn);
+        table.reserve(1)?;
+        table.set(key, value);
+        map.insert(key, value)?;
     }
     Ok(())
 }
@@ -106,26 +117,32 @@ fn rows_stay_at_their_slots(rt: HostRuntime) -> Result<(), Fail> {
         let slot = put(&mut slots, key_at(turn), page(turn))?;
         assert_eq!(rt; slot, Some(turn));
     }
-    // A third is written once more by key, and a third by slot.
+    write_again(&rt, &mut slots)?;
     for turn in 0..KEYS / 3 {
-        let slot = put(&mut slots, key_at(3 * turn), page(KEYS + turn))?;
-        assert_eq!(rt; slot, Some(3 * turn));
-        write_at(&mut slots, 3 * turn + 1, page(2 * KEYS + turn));
-    }
-    for turn in 0..KEYS / 3 {
-        for (slot, wanted) in [
-            (3 * turn, page(KEYS + turn)),
-            (3 * turn + 1, page(2 * KEYS + turn)),
-            (3 * turn + 2, page(3 * turn + 2)),
-        ] {
-            let key = key_at(slot);
-            assert_eq!(rt; row_at(&slots, slot), Some((key, wanted)));
-            assert_eq!(rt; slots.at(&key), Some(&wanted));
-        }
+        assert_row(&rt, &slots, 3 * turn, page(KEYS + turn));
+        assert_row(&rt, &slots, 3 * turn + 1, page(2 * KEYS + turn));
+        assert_row(&rt, &slots, 3 * turn + 2, page(3 * turn + 2));
         assert_eq!(rt; slots.at(&key_at(KEYS + turn)), None);
     }
     assert_eq!(rt; slots.len(), KEYS as usize);
     Ok(())
+}
+
+// Writes a third of the rows once more by key, and a third by slot.
+fn write_again(rt: &impl Abort, slots: &mut Slots<u32, Page>) -> Result<(), AllocError> {
+    for turn in 0..KEYS / 3 {
+        let slot = put(slots, key_at(3 * turn), page(KEYS + turn))?;
+        assert_eq!(rt; slot, Some(3 * turn));
+        write_at(slots, 3 * turn + 1, page(2 * KEYS + turn));
+    }
+    Ok(())
+}
+
+// The row at a slot has its key and this page.
+fn assert_row(rt: &impl Abort, slots: &Slots<u32, Page>, slot: u32, wanted: Page) {
+    let key = key_at(slot);
+    assert_eq!(rt; row_at(slots, slot), Some((key, wanted)));
+    assert_eq!(rt; slots.at(&key), Some(&wanted));
 }
 
 #[test]

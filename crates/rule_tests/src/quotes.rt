@@ -5,14 +5,22 @@ use pell_quote::quote;
 use std::process::Abort;
 
 #[test]
-fn quotes(rt: HostRuntime) {
+fn quotes_of_enrolled_students(rt: HostRuntime) {
     for (paid, extra, credits, used_else, cost, cents) in ENROLLED {
         let quoted = quote_of_term(&rt, paid, extra, credits, used_else, cost);
         assert_eq!(rt; quoted, cents, "at {credits} credits, past {paid}");
     }
+}
+
+#[test]
+fn quotes_after_a_withdrawal(rt: HostRuntime) {
     for (after, cents) in WITHDRAWN {
         assert_eq!(rt; quote_after_a_withdrawal(after), cents, "past {after}");
     }
+}
+
+#[test]
+fn quotes_of_a_standing(rt: HostRuntime) {
     for (transaction, scheduled, other_school, cents) in STANDING {
         assert_eq!(rt;
             quote_of_standing(transaction, scheduled, other_school),

@@ -133,24 +133,34 @@ const CALLS: u64 = 20;
 #[test]
 fn keeps_what_it_acknowledged_before_a_stop(rt: HostRuntime) -> Result<(), Fail> {
     for call in 1..=CALLS + 1 {
-        for fill in [Fill::Unwritten, Fill::Written, Fill::With(1), Fill::With(7)] {
-            let stop = Some(DiskStop { call, fill });
-            let session = run_session(&rt, rt.alloc(), disk(rt.alloc(), b"", &[], stop)?);
-            assert_eq!(rt; went_well(&session), call > CALLS);
-            assert_kept(&rt, rt.alloc(), &session)?;
-        }
+        assert_stop(&rt, rt.alloc(), call, Fill::Unwritten)?;
+        assert_stop(&rt, rt.alloc(), call, Fill::Written)?;
+        assert_stop(&rt, rt.alloc(), call, Fill::With(1))?;
+        assert_stop(&rt, rt.alloc(), call, Fill::With(7))?;
     }
     Ok(())
+}
+
+// A session that stops at a call keeps what it acknowledged.
+fn assert_stop(rt: &impl Abort, alloc: Global, call: u64, fill: Fill) -> Result<(), Fail> {
+    let stop = Some(DiskStop { call, fill });
+    assert_session(rt, alloc, call, disk(alloc, b"", &[], stop)?)
+}
+
+// A session over a disk that fails or stops at that call keeps what it acknowledged.
+fn assert_session(rt: &impl Abort, alloc: Global, call: u64, disk: MemoryDisk) -> Result<(), Fail> {
+    let session = run_session(rt, alloc, disk);
+    assert_eq!(rt; went_well(&session), call > CALLS);
+    assert_kept(rt, alloc, &session)
 }
 
 #[test]
 fn keeps_what_it_acknowledged_where_calls_fail(rt: HostRuntime) -> Result<(), Fail> {
     for call in 1..=CALLS + 1 {
-        for failing in [[call, call], [call, call + 1]] {
-            let session = run_session(&rt, rt.alloc(), disk(rt.alloc(), b"", &failing, None)?);
-            assert_eq!(rt; went_well(&session), call > CALLS);
-            assert_kept(&rt, rt.alloc(), &session)?;
-        }
+        let once = disk(rt.alloc(), b"", &[call], None)?;
+        assert_session(&rt, rt.alloc(), call, once)?;
+        let twice = disk(rt.alloc(), b"", &[call, call + 1], None)?;
+        assert_session(&rt, rt.alloc(), call, twice)?;
     }
     Ok(())
 }

@@ -162,18 +162,30 @@ fn read_of(alloc: Global, bytes: &[u8], room: &mut Room) -> Result<Result<u64, O
 }
 
 #[test]
-fn answers_by_the_bytes(rt: HostRuntime) -> Result<(), Fail> {
+fn answers_by_the_length(rt: HostRuntime) -> Result<(), Fail> {
     let mut room = Room::new(rt.alloc())?;
     for len in 0..72 {
         let answer = read_of(rt.alloc(), &BOTH[..len], &mut room)?;
         assert_eq!(rt; answer, of_cut(len), "cut to {len} bytes");
     }
+    Ok(())
+}
+
+#[test]
+fn answers_by_each_byte(rt: HostRuntime) -> Result<(), Fail> {
+    let mut room = Room::new(rt.alloc())?;
     for place in 0..71 {
         let mut bytes = BOTH;
         bytes[place] = !bytes[place];
         let answer = read_of(rt.alloc(), &bytes, &mut room)?;
         assert_eq!(rt; answer, of_turned(place), "byte {place} turned");
     }
+    Ok(())
+}
+
+#[test]
+fn answers_by_the_bytes_of_an_empty_journal(rt: HostRuntime) -> Result<(), Fail> {
+    let mut room = Room::new(rt.alloc())?;
     for (place, want) in SEVENS {
         assert!(rt; place < 17);
         let mut bytes = EMPTY;
@@ -259,19 +271,43 @@ fn of_fault_ahead(call: u64) -> Went {
 fn keeps_what_stood_where_it_stops_with_a_payload_ahead(rt: HostRuntime) -> Result<(), Fail> {
     let mut room = Room::new(rt.alloc())?;
     for guess in GUESSES {
-        for call in 9..18 {
-            for fill in [Fill::Unwritten, Fill::Written, Fill::With(1), Fill::With(7)] {
-                let stopping = disk(rt.alloc(), b"", &[], Some(DiskStop { call, fill }))?;
-                let (went, stopped) = session(stopping, guess);
-                let stood = read_of(rt.alloc(), stopped.image(), &mut room)?;
-                let (sure, more) = standing(went);
-                assert!(rt;
-                    stood == Ok(sure) || (more && stood == Ok(sure + 1)),
-                    "call {call}"
-                );
-            }
-        }
+        assert_stops(&rt, rt.alloc(), guess, &mut room)?;
     }
+    Ok(())
+}
+
+// A session with that guess that stops at each of its calls, in each way.
+fn assert_stops(rt: &impl Abort, alloc: Global, guess: &[u8], room: &mut Room) -> Result<(), Fail>
+    requires { length guess.now ≤ 8192 }
+{
+    for call in 9..18 {
+        assert_stop(rt, alloc, guess, call, Fill::Unwritten, room)?;
+        assert_stop(rt, alloc, guess, call, Fill::Written, room)?;
+        assert_stop(rt, alloc, guess, call, Fill::With(1), room)?;
+        assert_stop(rt, alloc, guess, call, Fill::With(7), room)?;
+    }
+    Ok(())
+}
+
+// A session that stops at a call leaves what was put for sure, or what a fault left undecided with it.
+fn assert_stop(
+    rt: &impl Abort,
+    alloc: Global,
+    guess: &[u8],
+    call: u64,
+    fill: Fill,
+    room: &mut Room,
+) -> Result<(), Fail>
+    requires { length guess.now ≤ 8192 }
+{
+    let stopping = disk(alloc, b"", &[], Some(DiskStop { call, fill }))?;
+    let (went, stopped) = session(stopping, guess);
+    let stood = read_of(alloc, stopped.image(), room)?;
+    let (sure, more) = standing(went);
+    assert!(rt;
+        stood == Ok(sure) || (more && stood == Ok(sure + 1)),
+        "call {call}"
+    );
     Ok(())
 }
 

@@ -57,114 +57,118 @@ fn a_filing_twice_on_one_link(rt: HostRuntime) -> Result<(), Fail> {
     check(&rt, alloc, &bytes, End::Closed, &text)
 }
 
+// A connection's bytes, how its session ends, and what is written.
+const REQUESTS: [(&[u8], End, &[u8]); 12] = [
+    (b"", End::Closed, b""),
+    (b"\r\n\n\r", End::Closed, b""),
+    (b"GET / HTTP/1.1\r\na: 1\r\n", End::Cut, b""),
+    (
+        b"GET /desks/110/quote/5001/2025/1 HTTP/1.1\r\n\r\n",
+        End::Closed,
+        b"HTTP/1.1 200 OK\r\nContent-Length: 44\r\nContent-Type: application/json\r\n\r\n{\"answer\":\"quoted\",\"cents\":369700,\"front\":9}",
+    ),
+    (
+        b"GET /standing/1/2025 HTTP/1.1\n\n",
+        End::Closed,
+        b"HTTP/1.1 503 Service Unavailable\r\nContent-Length: 40\r\nContent-Type: application/json\r\n\r\n{\"answer\":\"disk fault\",\"undecided\":null}",
+    ),
+    (
+        b"GET /desks/1000000/quote/1/2025/1 HTTP/1.1\r\n\r\n",
+        End::Closed,
+        b"HTTP/1.1 404 Not Found\r\nContent-Length: 13\r\nContent-Type: application/json\r\n\r\n{\"error\":404}",
+    ),
+    (
+        b"GET /standing/1/2025/ HTTP/1.1\r\n\r\n",
+        End::Closed,
+        b"HTTP/1.1 404 Not Found\r\nContent-Length: 13\r\nContent-Type: application/json\r\n\r\n{\"error\":404}",
+    ),
+    (
+        b"DELETE /standing/1/2025 HTTP/1.1\r\n\r\n",
+        End::Closed,
+        b"HTTP/1.1 405 Method Not Allowed\r\nContent-Length: 13\r\nContent-Type: application/json\r\n\r\n{\"error\":405}",
+    ),
+    (
+        b"POST /desks/0/filings HTTP/1.1\r\nContent-Length: 2\r\n\r\n[]",
+        End::Closed,
+        b"HTTP/1.1 400 Bad Request\r\nContent-Length: 13\r\nContent-Type: application/json\r\n\r\n{\"error\":400}",
+    ),
+    (
+        b"POST /desks/0/filings HTTP/1.1\r\nContent-Length: 3\r\n\r\n{}",
+        End::Cut,
+        b"",
+    ),
+    (
+        b"GET / HTTP/1.0\r\n\r\nGET / HTTP/1.1\r\n\r\n",
+        End::Closed,
+        b"HTTP/1.1 404 Not Found\r\nContent-Length: 13\r\nContent-Type: application/json\r\nConnection: close\r\n\r\n{\"error\":404}",
+    ),
+    (
+        b"GET / HTTP/1.1\r\nCONNECTION: Close\r\n\r\nGET / HTTP/1.1\r\n\r\n",
+        End::Closed,
+        b"HTTP/1.1 404 Not Found\r\nContent-Length: 13\r\nContent-Type: application/json\r\nConnection: close\r\n\r\n{\"error\":404}",
+    ),
+];
+
 #[test]
 fn requests_are_answered(rt: HostRuntime) -> Result<(), Fail> {
-    let cases: [(&[u8], End, &[u8]); 12] = [
-        (b"", End::Closed, b""),
-        (b"\r\n\n\r", End::Closed, b""),
-        (b"GET / HTTP/1.1\r\na: 1\r\n", End::Cut, b""),
-        (
-            b"GET /desks/110/quote/5001/2025/1 HTTP/1.1\r\n\r\n",
-            End::Closed,
-            b"HTTP/1.1 200 OK\r\nContent-Length: 44\r\nContent-Type: application/json\r\n\r\n{\"answer\":\"quoted\",\"cents\":369700,\"front\":9}",
-        ),
-        (
-            b"GET /standing/1/2025 HTTP/1.1\n\n",
-            End::Closed,
-            b"HTTP/1.1 503 Service Unavailable\r\nContent-Length: 40\r\nContent-Type: application/json\r\n\r\n{\"answer\":\"disk fault\",\"undecided\":null}",
-        ),
-        (
-            b"GET /desks/1000000/quote/1/2025/1 HTTP/1.1\r\n\r\n",
-            End::Closed,
-            b"HTTP/1.1 404 Not Found\r\nContent-Length: 13\r\nContent-Type: application/json\r\n\r\n{\"error\":404}",
-        ),
-        (
-            b"GET /standing/1/2025/ HTTP/1.1\r\n\r\n",
-            End::Closed,
-            b"HTTP/1.1 404 Not Found\r\nContent-Length: 13\r\nContent-Type: application/json\r\n\r\n{\"error\":404}",
-        ),
-        (
-            b"DELETE /standing/1/2025 HTTP/1.1\r\n\r\n",
-            End::Closed,
-            b"HTTP/1.1 405 Method Not Allowed\r\nContent-Length: 13\r\nContent-Type: application/json\r\n\r\n{\"error\":405}",
-        ),
-        (
-            b"POST /desks/0/filings HTTP/1.1\r\nContent-Length: 2\r\n\r\n[]",
-            End::Closed,
-            b"HTTP/1.1 400 Bad Request\r\nContent-Length: 13\r\nContent-Type: application/json\r\n\r\n{\"error\":400}",
-        ),
-        (
-            b"POST /desks/0/filings HTTP/1.1\r\nContent-Length: 3\r\n\r\n{}",
-            End::Cut,
-            b"",
-        ),
-        (
-            b"GET / HTTP/1.0\r\n\r\nGET / HTTP/1.1\r\n\r\n",
-            End::Closed,
-            b"HTTP/1.1 404 Not Found\r\nContent-Length: 13\r\nContent-Type: application/json\r\nConnection: close\r\n\r\n{\"error\":404}",
-        ),
-        (
-            b"GET / HTTP/1.1\r\nCONNECTION: Close\r\n\r\nGET / HTTP/1.1\r\n\r\n",
-            End::Closed,
-            b"HTTP/1.1 404 Not Found\r\nContent-Length: 13\r\nContent-Type: application/json\r\nConnection: close\r\n\r\n{\"error\":404}",
-        ),
-    ];
     let alloc = rt.alloc();
-    for (bytes, end, text) in cases {
+    for (bytes, end, text) in REQUESTS {
         check(&rt, alloc, bytes, end, text)?;
     }
     Ok(())
 }
 
+// A head that is rejected, and the status of the response.
+const HOSTILE: [(&[u8], &[u8]); 13] = [
+    (b"GET / HTTP/1.1\r\na b: 1\r\n\r\n", b"400 Bad Request"),
+    (b"GET / HTTP/2.0\r\n\r\n", b"400 Bad Request"),
+    (b"GET /\r\n\r\n", b"400 Bad Request"),
+    (
+        b"POST /desks/0/filings HTTP/1.1\r\nContent-Length: 1\r\nContent-Length: 1\r\n\r\n{",
+        b"400 Bad Request",
+    ),
+    (
+        b"POST / HTTP/1.1\r\nContent-Length: +1\r\n\r\n{",
+        b"400 Bad Request",
+    ),
+    (
+        b"POST / HTTP/1.1\r\nContent-Length:\r\n\r\n{",
+        b"400 Bad Request",
+    ),
+    (
+        b"POST / HTTP/1.1\r\nContent-Length: 1, 1\r\n\r\n{",
+        b"400 Bad Request",
+    ),
+    (
+        b"POST / HTTP/1.1\r\ntransfer-encoding: chunked\r\n\r\n",
+        b"501 Not Implemented",
+    ),
+    (
+        b"GET / HTTP/1.1\r\nContent-Encoding: gzip\r\n\r\n",
+        b"501 Not Implemented",
+    ),
+    (
+        b"POST / HTTP/1.1\r\nExpect: 100-continue\r\nContent-Length: 65537\r\n\r\n",
+        b"501 Not Implemented",
+    ),
+    (
+        b"POST /desks/0/filings HTTP/1.1\r\nContent-Length: 65537\r\n\r\n",
+        b"413 Payload Too Large",
+    ),
+    (
+        b"GET / HTTP/1.1\r\nContent-Length: 99999999999999999999999\r\n\r\n",
+        b"413 Payload Too Large",
+    ),
+    (
+        b"POST /desks/0/filings HTTP/1.1\r\n\r\n",
+        b"411 Length Required",
+    ),
+];
+
 #[test]
 fn hostile_heads_are_rejected(rt: HostRuntime) -> Result<(), Fail> {
-    let cases: [(&[u8], &[u8]); 13] = [
-        (b"GET / HTTP/1.1\r\na b: 1\r\n\r\n", b"400 Bad Request"),
-        (b"GET / HTTP/2.0\r\n\r\n", b"400 Bad Request"),
-        (b"GET /\r\n\r\n", b"400 Bad Request"),
-        (
-            b"POST /desks/0/filings HTTP/1.1\r\nContent-Length: 1\r\nContent-Length: 1\r\n\r\n{",
-            b"400 Bad Request",
-        ),
-        (
-            b"POST / HTTP/1.1\r\nContent-Length: +1\r\n\r\n{",
-            b"400 Bad Request",
-        ),
-        (
-            b"POST / HTTP/1.1\r\nContent-Length:\r\n\r\n{",
-            b"400 Bad Request",
-        ),
-        (
-            b"POST / HTTP/1.1\r\nContent-Length: 1, 1\r\n\r\n{",
-            b"400 Bad Request",
-        ),
-        (
-            b"POST / HTTP/1.1\r\ntransfer-encoding: chunked\r\n\r\n",
-            b"501 Not Implemented",
-        ),
-        (
-            b"GET / HTTP/1.1\r\nContent-Encoding: gzip\r\n\r\n",
-            b"501 Not Implemented",
-        ),
-        (
-            b"POST / HTTP/1.1\r\nExpect: 100-continue\r\nContent-Length: 65537\r\n\r\n",
-            b"501 Not Implemented",
-        ),
-        (
-            b"POST /desks/0/filings HTTP/1.1\r\nContent-Length: 65537\r\n\r\n",
-            b"413 Payload Too Large",
-        ),
-        (
-            b"GET / HTTP/1.1\r\nContent-Length: 99999999999999999999999\r\n\r\n",
-            b"413 Payload Too Large",
-        ),
-        (
-            b"POST /desks/0/filings HTTP/1.1\r\n\r\n",
-            b"411 Length Required",
-        ),
-    ];
     let alloc = rt.alloc();
-    for (bytes, line) in cases {
+    for (bytes, line) in HOSTILE {
         check(&rt, alloc, bytes, End::Rejected, &rejection(alloc, line)?)?;
     }
     Ok(())

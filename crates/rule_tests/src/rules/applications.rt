@@ -32,7 +32,7 @@ fn application() -> What {
 }
 
 #[test]
-fn applications(rt: HostRuntime) {
+fn first_applications(rt: HostRuntime) {
     for (of_desk, at, unfit, wanted) in STANDING {
         assert_eq!(rt;
             filed_application(of_desk, at, unfit),
@@ -40,6 +40,10 @@ fn applications(rt: HostRuntime) {
             "at {at:?}"
         );
     }
+}
+
+#[test]
+fn corrections(rt: HostRuntime) {
     for (pell_main, pell_year, used_else, term_over, wanted) in CORRECTIONS {
         let broken = correction(pell_main, pell_year, used_else, term_over);
         assert_eq!(rt; broken, refusal(wanted), "of {pell_main} in {pell_year}");

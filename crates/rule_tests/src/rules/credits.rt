@@ -5,7 +5,7 @@ use aid_types::{Program, Refusal};
 use filing_rules::{Facts, broken};
 
 #[test]
-fn schools_and_students(rt: HostRuntime) {
+fn schools(rt: HostRuntime) {
     for (of_desk, code_at, wanted) in SCHOOLS {
         assert_eq!(rt;
             filed_school(of_desk, code_at),
@@ -13,6 +13,10 @@ fn schools_and_students(rt: HostRuntime) {
             "code at {code_at}"
         );
     }
+}
+
+#[test]
+fn prior_uses(rt: HostRuntime) {
     for (units, prior_at, pell_at, wanted) in PRIOR_USES {
         assert_eq!(rt;
             prior_use(units, prior_at, pell_at),
@@ -20,10 +24,18 @@ fn schools_and_students(rt: HostRuntime) {
             "{units} units"
         );
     }
+}
+
+#[test]
+fn enrolments(rt: HostRuntime) {
     for (credits, pell_term, withdrawn_at, wanted) in CREDITS {
         let broken = enrolment(credits, pell_term, withdrawn_at);
         assert_eq!(rt; broken, refusal(wanted), "{credits} credits");
     }
+}
+
+#[test]
+fn originations(rt: HostRuntime) {
     for (cost, cost_at, wanted) in COSTS {
         assert_eq!(rt;
             origination(cost, cost_at),
@@ -31,9 +43,17 @@ fn schools_and_students(rt: HostRuntime) {
             "cost of {cost}"
         );
     }
+}
+
+#[test]
+fn repayments(rt: HostRuntime) {
     for (cents, wanted) in REPAYMENTS {
         assert_eq!(rt; repayment(cents), refusal(wanted), "{cents} repaid");
     }
+}
+
+#[test]
+fn adjustments(rt: HostRuntime) {
     for (cents, withdrawn_at, wanted) in ADJUSTMENTS {
         assert_eq!(rt;
             adjustment(cents, withdrawn_at),

@@ -5,7 +5,7 @@ use aid_types::{ByProgram, Program, Refusal};
 use filing_rules::{Facts, broken};
 
 #[test]
-fn payments(rt: HostRuntime) {
+fn first_payments(rt: HostRuntime) {
     for (at, credits, filings, wanted) in STANDING {
         assert_eq!(rt;
             first_payment(at, credits, filings),
@@ -13,14 +13,26 @@ fn payments(rt: HostRuntime) {
             "at {at:?}"
         );
     }
+}
+
+#[test]
+fn payments_at_the_limits(rt: HostRuntime) {
     for (pell_year, used_else, net_all, dollars, wanted) in LIMITS {
         let broken = payment_of_pell(pell_year, used_else, net_all, dollars);
         assert_eq!(rt; broken, refusal(wanted), "{dollars} dollars");
     }
+}
+
+#[test]
+fn payments_of_extra_terms(rt: HostRuntime) {
     for (half_time, dollars, pell_year, wanted) in EXTRA_TERMS {
         let broken = payment_in_an_extra_term(half_time, dollars, pell_year);
         assert_eq!(rt; broken, refusal(wanted), "past {pell_year}");
     }
+}
+
+#[test]
+fn payments_after_a_withdrawal(rt: HostRuntime) {
     for (after_all, dollars, wanted) in WITHDRAWN {
         assert_eq!(rt;
             payment_after_a_withdrawal(after_all, dollars),
@@ -28,6 +40,10 @@ fn payments(rt: HostRuntime) {
             "{dollars} dollars"
         );
     }
+}
+
+#[test]
+fn payments_of_each_program(rt: HostRuntime) {
     for (program, cents, wanted) in PROGRAMS {
         assert_eq!(rt;
             payment(program, cents),
@@ -35,6 +51,10 @@ fn payments(rt: HostRuntime) {
             "{cents} of {program:?}"
         );
     }
+}
+
+#[test]
+fn payments_beside_another_school(rt: HostRuntime) {
     assert_eq!(rt; payment_beside(220), refusal(Some((58, 220, 110))));
 }
 

@@ -22,7 +22,7 @@ fn calendar(extra: bool, last: i8, breaks: [(i8, i8); 2]) -> What {
 }
 
 #[test]
-fn terms(rt: HostRuntime) {
+fn terms_on_file(rt: HostRuntime) {
     for (at, main_terms, extra, wanted) in ON_FILE {
         assert_eq!(rt;
             filed_term(at, main_terms, extra),
@@ -30,6 +30,10 @@ fn terms(rt: HostRuntime) {
             "at {at:?}"
         );
     }
+}
+
+#[test]
+fn days_of_terms(rt: HostRuntime) {
     for (last, breaks, wanted) in DAYS {
         assert_eq!(rt;
             filed_days(last, breaks),

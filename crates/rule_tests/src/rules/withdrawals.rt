@@ -9,11 +9,15 @@ use filing_rules::{Facts, broken};
 use std::process::Abort;
 
 #[test]
-fn withdrawals(rt: HostRuntime) {
+fn days_of_withdrawals(rt: HostRuntime) {
     for (last, determined, credits, at, wanted) in DAYS {
         let broken = days_of_a_withdrawal(last, determined, credits, at);
         assert_eq!(rt; broken, refusal(wanted), "on day {last}");
     }
+}
+
+#[test]
+fn amounts_of_withdrawals(rt: HostRuntime) {
     for (pell_year, used_else, could, wanted) in AMOUNTS {
         let broken = amounts_of_a_withdrawal(&rt, pell_year, used_else, could);
         assert_eq!(rt; broken, refusal(wanted), "{could:?}");
