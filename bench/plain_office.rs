@@ -1,6 +1,6 @@
 // The office over ordered maps in plain Rust, and the filings of crate office_bench: prints what that program prints.
 //
-// usage: plain_office students|kinds|one|priors FILINGS
+// usage: plain_office students|kinds|one|priors FILINGS OFFICES
 
 mod plain;
 
@@ -10,8 +10,13 @@ use plain::orders;
 fn main() {
     let words: Vec<String> = std::env::args().skip(1).collect();
     let filings = words[1].parse().expect("a number of filings");
-    let mut desk = PlainDesk::default();
-    desk.reserve(filings);
-    assert!(orders::file(&mut desk, &words[0], filings), "an order of filings");
-    print!("{desk}");
+    let offices = words[2].parse().expect("a number of offices");
+    let mut last = String::new();
+    for _ in 0..offices {
+        let mut desk = PlainDesk::default();
+        desk.reserve(filings);
+        assert!(orders::file(&mut desk, &words[0], filings), "an order of filings");
+        last = desk.to_string();
+    }
+    print!("{last}");
 }

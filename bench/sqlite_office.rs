@@ -1,10 +1,11 @@
 // The accepted filings of crate office_bench as rows of tables in SQLite, in memory, by its C library: a table a kind, with an
 // index for each of the office's questions beside that of the key, and no rule. Each filing is looked up by its key and inserted, in a
 // transaction of its own, as a filing stands once it is admitted; each quote looks up a payment of the student's in the term.
-// Prints how many asks there were, how many look-ups found a row, and the nanoseconds of the processor that all of them took,
-// with tables made and statements prepared before.
+// All of them are filed into as many such bases as are wanted, one after the other. Prints how many asks a base had, how many
+// look-ups found a row in all, and the nanoseconds of the processor that all of them took, with tables made and statements
+// prepared before.
 //
-// usage: sqlite_office students|kinds|one|priors FILINGS
+// usage: sqlite_office students|kinds|one|priors FILINGS BASES
 
 mod plain;
 mod sqlite;
@@ -153,6 +154,17 @@ fn main() {
     let mut notes = Notes::default();
     notes.desk.reserve(ROOM);
     assert!(orders::file(&mut notes, &words[0], words[1].parse().unwrap()), "an order of filings");
+    let (mut found, mut taken) = (0, 0);
+    for _ in 0..words[2].parse().expect("a number of bases") {
+        let (more_found, more_taken) = file(&notes.asks);
+        found += more_found;
+        taken += more_taken;
+    }
+    println!("asks {}\nfound {found}\nnanoseconds {taken}", notes.asks.len());
+}
+
+// Files into a base of its own: how many look-ups found a row, and the nanoseconds of the processor.
+fn file(asks: &[Ask]) -> (u64, i64) {
     let base = Base::in_memory();
     let tables: Vec<(Statement, Statement)> = (0..TABLES.len()).map(|kind| table(&base, kind)).collect();
     let place = "student = ? AND school = ? AND year = ? AND term = ?";
@@ -160,7 +172,7 @@ fn main() {
     let paid = base.prepare(&format!("SELECT cents FROM pay INDEXED BY pay_by_0 WHERE {place} LIMIT 1"));
     let begun = processor();
     let mut found = 0;
-    for ask in &notes.asks {
+    for ask in asks {
         match ask {
             Ask::Quote(place) => found += u64::from(paid.step(place).is_some()),
             Ask::File { kind, columns } => {
@@ -170,5 +182,5 @@ fn main() {
             }
         }
     }
-    println!("asks {}\nfound {found}\nnanoseconds {}", notes.asks.len(), processor() - begun);
+    (found, processor() - begun)
 }

@@ -1,7 +1,7 @@
 //! Files a number of filings into an office, for `bench/office`. The first word is their order: `students`, the generated
 //! year student by student; `kinds`, the same year kind by kind; `one`, students with 2,000 filings each; or `priors`, as
-//! many students' prior use. The second word is about how many filings there are. Prints how many were accepted and
-//! refused, the Pell paid and the schools' returns.
+//! many students' prior use. The second word is about how many filings there are, and the third into how many offices they are
+//! filed, one after the other. Prints of the last one how many were accepted and refused, the Pell paid and the schools' returns.
 #![tactic(auto)]
 
 mod desk;
@@ -14,6 +14,7 @@ mod year;
 use crate::desk::Desk;
 use crate::filings::prior;
 use crate::long::file_long;
+use crate::tally::Tally;
 use crate::year::{file_kinds, file_students};
 use aid_types::Student;
 use std::alloc::{AllocError, Global};
@@ -33,13 +34,37 @@ enum Order {
 
 fn main(rt: HostRuntime) -> io::Result<()> {
     let words: Vec<String> = env::args(&rt)?.skip(1).collect(rt.alloc())?;
-    let (Some(order), Some(filings)) = (order_of(words.first()), number_of(words.get(1))) else {
-        return println!(rt; "usage: office_bench students|kinds|one|priors FILINGS");
+    let (Some(order), Some(filings), Some(offices)) = (
+        order_of(words.first()),
+        number_of(words.get(1)),
+        number_of(words.get(2)),
+    ) else {
+        return println!(rt; "usage: office_bench students|kinds|one|priors FILINGS OFFICES");
     };
-    let mut desk = Desk::new(rt.alloc());
+    let tally = file_offices(rt.alloc(), order, filings, offices)?;
+    println!(rt; "{tally}")
+}
+
+// Files into so many offices, and answers what came of the last one.
+fn file_offices(
+    alloc: Global,
+    order: Order,
+    filings: u32,
+    offices: u32,
+) -> Result<Tally, AllocError> {
+    let mut tally = Tally::default();
+    for _ in 0..offices {
+        tally = file_office(alloc, order, filings)?;
+    }
+    Ok(tally)
+}
+
+// Files into an office of its own.
+fn file_office(alloc: Global, order: Order, filings: u32) -> Result<Tally, AllocError> {
+    let mut desk = Desk::new(alloc);
     desk.reserve(filings)?;
-    file(&mut desk, rt.alloc(), order, filings)?;
-    println!(rt; "{}", desk.tally)
+    file(&mut desk, alloc, order, filings)?;
+    Ok(desk.tally)
 }
 
 // The order that a word names.
