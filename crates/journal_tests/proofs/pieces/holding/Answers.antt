@@ -1,5 +1,5 @@
 use Rattle.std.proofs.Common.{IsTrue, [], ◌∷◌, ◌++◌, ◌+◌, ◌∙◌, ap, subst}
-use Rattle.storage_tests.proofs.pieces.holding.Goals as goal
+use Rattle.journal_tests.proofs.pieces.holding.Goals as goal
 
 pub loop-payload-init : goal.loop-payload-init
 loop-payload-init g c = record {

@@ -1,6 +1,6 @@
 use Rattle.std.proofs.Common.{IsTrue, [], ◌∷◌, ◌++◌, ◌+◌, ◌∙◌, ap, subst}
 use Rattle.filing_journal.proofs.Exits.{at_none, at_some}
-use Rattle.storage_tests.proofs.journals.reopen.Goals as goal
+use Rattle.journal_tests.proofs.journals.reopen.Goals as goal
 
 pub loop-init : goal.loop-init
 loop-init g c = record { given = λ honest. let (header, given) = c.in_ok-opening.ensures.begun honest in (header, ([], given)); count = c.in_ok-opening.ensures.count }

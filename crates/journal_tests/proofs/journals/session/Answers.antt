@@ -1,5 +1,5 @@
 use Rattle.std.proofs.Common.{IsTrue, [], subst}
-use Rattle.storage_tests.proofs.journals.session.Goals as goal
+use Rattle.journal_tests.proofs.journals.session.Goals as goal
 
 pub put_ahead-requires-clause-stands : goal.put_ahead-requires-clause-stands
 put_ahead-requires-clause-stands g c honest = (_, ([], c.in-Ok.ensures.kept (subst IsTrue c.in-Ok.ensures.honest honest)))

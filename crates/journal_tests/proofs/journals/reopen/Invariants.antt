@@ -3,7 +3,7 @@ use Rattle.disk_model.specs.Telling.{IsHonest}
 use Rattle.filing_journal.specs.Stands.{Payloads}
 use Rattle.filing_journal.specs.Opening.{HasGiven, opening_disk, opening_count}
 use Rattle.filing_journal.specs.declared.header.Header.{Header}
-use Rattle.storage_tests.proofs.journals.reopen.Given as goal
+use Rattle.journal_tests.proofs.journals.reopen.Given as goal
 
 abbrev pub invariant-loop : goal.invariant-loop
 invariant-loop g l = record {

@@ -1,6 +1,6 @@
 use Rattle.std.proofs.Common.{◌≡◌, true, IsTrue, rules, subst}
 use Rattle.filing_journal.specs.declared.journal.PutError.TheVariants.{DiskFault}
-use Rattle.storage_tests.proofs.journals.third.Goals as goal
+use Rattle.journal_tests.proofs.journals.third.Goals as goal
 
 pub settle-settled-requires-clause-stands : goal.settle-settled-requires-clause-stands
 settle-settled-requires-clause-stands g c honest =

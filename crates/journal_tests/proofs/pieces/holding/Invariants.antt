@@ -3,7 +3,7 @@ use Rattle.disk_model.specs.Telling.{IsHonest}
 use Rattle.filing_journal.specs.Stands.{Payloads}
 use Rattle.filing_journal.specs.Journal.{Keeps, IsDecided, journal_disk, journal_count}
 use Rattle.filing_journal.specs.declared.header.Header.{Header}
-use Rattle.storage_tests.proofs.pieces.holding.Given as goal
+use Rattle.journal_tests.proofs.pieces.holding.Given as goal
 
 abbrev pub invariant-loop-payload : goal.invariant-loop-payload
 invariant-loop-payload g l = record {
