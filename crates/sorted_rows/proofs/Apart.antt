@@ -85,20 +85,21 @@ module _ {K V : Type 0} {R : K → K → Ordering} (o : IsTotalOrder R) where
   pub alike : (k q : K) (rows : List (K × V)) → is_eq (R k q) ≡ true → lookup (is_at (R k)) rows ≡ lookup (is_at (R q)) rows
   alike k q rows h = test_same (is_at (R k)) (is_at (R q)) rows (λ x. (eq_by_cmp_equiv o).congr k q x h)
 
-  tail_lacks : (k q : K) (tail main : List (K × V)) → AreApart R tail main → IsSome (lookup (is_at (R k)) main) → is_eq (R k q) ≡ true → lookup (is_at (R q)) tail ≡ None
-  tail_lacks k q tail main two some h =
+  -- the tail lacks a key of the main rows
+  pub tail_lacks : (k : K) (tail main : List (K × V)) → AreApart R tail main → IsSome (lookup (is_at (R k)) main) → lookup (is_at (R k)) tail ≡ None
+  tail_lacks k tail main two some =
       elim (two.apart k) [
-        | inl none ↦ sym (alike k q tail h) ∙ none
+        | inl none ↦ none
         | inr none ↦ absurd (none_is_not_some (lookup (is_at (R k)) main) some none)
       ]
 
-  pub apart_main : (k : K) (v : V) (tail main new : List (K × V)) → AreApart R tail main → IsStrictlySortedBy R (keys_of new) → IsWritten k v main new → IsSome (lookup (is_at (R k)) main) → AreApart R tail new
-  apart_main k v tail main new two sorted written some = record {
+  pub apart_main : (k : K) (v : V) (tail main new : List (K × V)) → AreApart R tail main → IsStrictlySortedBy R (keys_of new) → IsWritten k v main new → lookup (is_at (R k)) tail ≡ None → AreApart R tail new
+  apart_main k v tail main new two sorted written lacks = record {
     tail_sorted = two.tail_sorted;
     main_sorted = sorted;
     apart = λ q.
         elim (either (is_eq (R k q))) [
-          | inl h ↦ inl (tail_lacks k q tail main two some h)
+          | inl h ↦ inl (sym (alike k q tail h) ∙ lacks)
           | inr h ↦
               elim (two.apart q) [
                 | inl none ↦ inl none
@@ -107,11 +108,11 @@ module _ {K V : Type 0} {R : K → K → Ordering} (o : IsTotalOrder R) where
         ];
   }
 
-  pub written_main : (k : K) (v : V) (tail main new : List (K × V)) → AreApart R tail main → IsWritten k v main new → IsSome (lookup (is_at (R k)) main) → IsWritten k v (tail ++ main) (tail ++ new)
-  written_main k v tail main new two written some = λ q.
+  pub written_main : (k : K) (v : V) (tail main new : List (K × V)) → IsWritten k v main new → lookup (is_at (R k)) tail ≡ None → IsWritten k v (tail ++ main) (tail ++ new)
+  written_main k v tail main new written lacks = λ q.
       lookup_append (is_at (R q)) tail new
       ∙ ap (first (lookup (is_at (R q)) tail)) (written q)
-      ∙ second_of_cond (is_eq (R k q)) v (lookup (is_at (R q)) tail) (lookup (is_at (R q)) main) (tail_lacks k q tail main two some)
+      ∙ second_of_cond (is_eq (R k q)) v (lookup (is_at (R q)) tail) (lookup (is_at (R q)) main) (λ h. sym (alike k q tail h) ∙ lacks)
       ∙ ap (λ r. cond (is_eq (R k q)) (Some v) r) (sym (lookup_append (is_at (R q)) tail main))
 
   pub apart_tail : (k : K) (v : V) (tail main new : List (K × V)) → AreApart R tail main → IsStrictlySortedBy R (keys_of new) → IsWritten k v tail new → lookup (is_at (R k)) main ≡ None → AreApart R new main

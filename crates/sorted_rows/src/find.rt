@@ -64,7 +64,7 @@ pub(crate) fn place_of<K: Ord, V, L: Ledger>(
 }
 
 /// Whether there is a last row, and the key comes after it.
-fn is_last<K: Ord, V>(rows: &[(K, V)], key: &K) -> bool
+pub(crate) fn is_last<K: Ord, V>(rows: &[(K, V)], key: &K) -> bool
     ensures { result ≡ true → IsAfterSmaller K.cmp key.now rows.now (length rows.now) }
 {
     let count = rows.len();

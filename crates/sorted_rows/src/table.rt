@@ -1,10 +1,10 @@
-//! The table: most rows in one sorted list, the newest keys in a short one.
+//! The table: most rows in one sorted list, and in a short one those of new keys that came before others.
 ghost use Rattle.std.specs.Prelude.{◌≡◌, ◌+◌, ◌*◌, ◌<◌, ◌≤◌, ◌^◌, [], ℕ, Some, None, OnOk, OnErr, cond, max, length};
 ghost use Rattle.std.specs.Option.{is_none};
 ghost use Rattle.sorted_rows.specs.Places.{IsWritten, tail_looks, value_at};
 
 use crate::find::{find, find_uncounted};
-use crate::write::{write, write_new};
+use crate::write::{add, write};
 use std::alloc::{AllocError, Global};
 use std::marker::{Brand, Model};
 use std::sync::ledger::{Blank, Ledger};
@@ -104,7 +104,7 @@ impl<K: Ord + Copy, V: Copy> Table<K, V> {
         }
     }
 
-    /// Writes the value of a key that the table lacks, which spares the look at the main rows. It takes one place of the room,
+    /// Writes the value of a key that the table lacks, which spares the search of the main rows. It takes one place of the room,
     /// and no memory.
     pub fn add(&mut self, key: K, value: V)
         requires new { value_at K.cmp key self.old.rows ≡ None }
@@ -113,7 +113,7 @@ impl<K: Ord + Copy, V: Copy> Table<K, V> {
         ensures room { self.new.room + 1 ≡ self.old.room }
         ensures count { length self.new.rows ≡ length self.old.rows + 1 }
     {
-        let _ = write_new(&mut self.main, &mut self.tail, key, value);
+        add(&mut self.main, &mut self.tail, key, value);
         self.room -= 1;
     }
 }

@@ -5,7 +5,7 @@ ghost use Rattle.std.specs.Map.{keys_of};
 ghost use Rattle.std.specs.Option.{is_none};
 ghost use Rattle.sorted_rows.specs.Places.{AreApart, IsWritten, tail_size, value_at};
 
-use crate::find::place_of;
+use crate::find::{is_last, place_of};
 use crate::merge::merge_long;
 use std::marker::Brand;
 use std::sync::ledger::Blank;
@@ -61,6 +61,33 @@ pub(crate) fn write_new<K: Ord + Copy, V: Copy>(
     let is_new = put(tail, key, value);
     merge_long(main, tail);
     is_new
+}
+
+/// Writes the value of a key that no row has. It goes to the main rows at once where it comes after all of them, as a new key
+/// mostly does, and else to the tail.
+pub(crate) fn add<K: Ord + Copy, V: Copy>(
+    main: &mut Vec<(K, V)>,
+    tail: &mut Vec<(K, V)>,
+    key: K,
+    value: V,
+)
+    requires apart { AreApart K.cmp tail.old.items main.old.items }
+    requires new { value_at K.cmp key (tail.old.items ++ main.old.items) ≡ None }
+    requires short { vec_len tail.old < tail_size }
+    requires places { tail_size ≤ vec_capacity tail.old }
+    requires room { vec_len main.old + vec_len tail.old + 1 ≤ vec_capacity main.old }
+    ensures apart { AreApart K.cmp tail.new.items main.new.items }
+    ensures values { IsWritten K.cmp key value (tail.old.items ++ main.old.items) (tail.new.items ++ main.new.items) }
+    ensures short { vec_len tail.new < tail_size }
+    ensures places { vec_capacity tail.new ≡ vec_capacity tail.old }
+    ensures room { vec_capacity main.old ≤ vec_capacity main.new }
+    ensures count { vec_len main.new + vec_len tail.new ≡ vec_len main.old + vec_len tail.old + 1 }
+{
+    if is_last(main.as_slice(), &key) {
+        let _ = put(main, key, value);
+    } else {
+        let _ = write_new(main, tail, key, value);
+    }
 }
 
 /// Writes the value of a key if the rows have it, and answers whether they do.

@@ -1,7 +1,7 @@
 use Rattle.std.proofs.Common.{ap, sym, ◌∙◌, refl, arith}
 use Rattle.std.specs.BTreeMap.{is_at}
 use Rattle.std.specs.Option.{is_none}
-use Rattle.sorted_rows.proofs.Apart.{apart_main, written_main, in_neither, first_only, not_new}
+use Rattle.sorted_rows.proofs.Apart.{apart_main, written_main, tail_lacks, in_neither, first_only, not_new}
 use Rattle.sorted_rows.proofs.write.write.Goals as goal
 
 pub returns-then-write_over-clause-new : goal.returns-then-write_over-clause-new
@@ -9,11 +9,13 @@ returns-then-write_over-clause-new g c = not_new (is_at (g.K.Ord.cmp c.args.key)
 
 pub returns-then-write_over-clause-apart : goal.returns-then-write_over-clause-apart
 returns-then-write_over-clause-apart g c =
-    apart_main g.met.K.Ord.total c.args.key c.args.value c.args.tail.now.items c.args.main.now.items c.write_over.new.rows.items c.requires.apart c.write_over.ensures.sorted (c.if-write_over.ensures.written refl) (c.if-write_over.ensures.had refl)
+    apart_main g.met.K.Ord.total c.args.key c.args.value c.args.tail.now.items c.args.main.now.items c.write_over.new.rows.items c.requires.apart c.write_over.ensures.sorted (c.if-write_over.ensures.written refl)
+    (tail_lacks g.met.K.Ord.total c.args.key c.args.tail.now.items c.args.main.now.items c.requires.apart (c.if-write_over.ensures.had refl))
 
 pub returns-then-write_over-clause-values : goal.returns-then-write_over-clause-values
 returns-then-write_over-clause-values g c =
-    written_main g.met.K.Ord.total c.args.key c.args.value c.args.tail.now.items c.args.main.now.items c.write_over.new.rows.items c.requires.apart (c.if-write_over.ensures.written refl) (c.if-write_over.ensures.had refl)
+    written_main g.met.K.Ord.total c.args.key c.args.value c.args.tail.now.items c.args.main.now.items c.write_over.new.rows.items (c.if-write_over.ensures.written refl)
+    (tail_lacks g.met.K.Ord.total c.args.key c.args.tail.now.items c.args.main.now.items c.requires.apart (c.if-write_over.ensures.had refl))
 
 pub write_new-requires-clause-places : goal.write_new-requires-clause-places
 write_new-requires-clause-places g c = λ none.
