@@ -6,7 +6,7 @@ ghost use Rattle.office_history.specs.Answer.{IsLegal};
 use aid_filings::{CalendarFacts, Filing, WithdrawFacts};
 use aid_replies::{Outcome, Verdict};
 use aid_types::{Breaks, ByProgram, Day, Program, School, Student, Term, Year};
-use office_answers::{answer, gather, payment_facts, quote, sheet, standing};
+use office_answers::{answer, quote, sheet, standing};
 use office_history::{
     Account, CalendarRow, OnFile, PlaceRow, SchoolRow, SchoolYearRow, StudentRow, TermRow,
     admitted_is_legal,
@@ -218,8 +218,6 @@ fn use_before_this_office<L: Ledger>(
     let past = Plain::new(&filings);
     assert_eq!(rt; past.student(STUDENT, steps).used, 550_000);
     assert_eq!(rt; past.student(STRANGER, steps).used, 0);
-    let facts = payment_facts(&past, SCHOOL, STUDENT, YEAR, 1, Program::Pell, steps);
-    assert_eq!(rt; facts.used_else, 550_000);
     let nets = past.year(STUDENT, YEAR, steps).nets;
     assert_eq!(rt; nets.at(Program::Pell), 0);
     assert_eq!(rt;
@@ -277,7 +275,6 @@ fn assert_told<L: Ledger>(rt: &impl Abort, past: &Plain, prior: &Filing, steps: 
         outcome: Outcome::Noted,
     };
     assert_eq!(rt; answer(past, prior, steps), again);
-    assert_eq!(rt; gather(past, prior, steps).facts.prior_at, 2);
     assert_eq!(rt; past.filing(2), Some(prior));
     assert_eq!(rt; past.key_at(&prior.key, steps), 2);
     assert!(rt; past.front() == 2);

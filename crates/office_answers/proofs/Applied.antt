@@ -14,7 +14,7 @@ use Rattle.office_history.specs.Answer.{breaks, indexed, outcome_in}
 use Rattle.office_history.specs.Award.{award_under, scheduled_of, unfit_under}
 use Rattle.office_history.specs.Positions.{if_fit, transaction_of}
 use Rattle.office_history.specs.Past.{application, given, higher, the_book}
-use Rattle.office_history.proofs.Awards.{correction}
+use Rattle.office_history.proofs.Awards.{correction, higher_wins}
 use Rattle.office_history.proofs.Greatest.{award_at_most}
 use Rattle.office_answers.specs.Brought.{awarded, brought_by}
 
@@ -38,10 +38,6 @@ of_kind f a is = λ i. record { key = f.key; what = is i }
 pub fits : (past : List Filing) (f : Filing) (a : Application) → f.what ≡ Apply a → breaks past f ≡ None → unfit_under (the_book past a.year) a ≡ None
 fits past f a is sound =
     (correction past f.key a (subst (λ (g : Filing). breaks past g ≡ None) (of_kind f a is) sound)).fit
-
-higher_wins : (a : Application) (before : Option Application) → transaction_of before < a.transaction → higher (Some a) before ≡ Some a
-higher_wins a None above = refl
-higher_wins a (Some b) above = rw (lt-ltb b.transaction a.transaction above) refl
 
 -- it is the one in force from then on
 pub outcome : (past : List Filing) (f : Filing) (a : Application) → f.what ≡ Apply a → breaks past f ≡ None →

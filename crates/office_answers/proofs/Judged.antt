@@ -8,6 +8,14 @@ use Rattle.aid_types.proofs.Same.{tells_key}
 use Rattle.aid_filings.specs.declared.filing.Filing.{Filing}
 use Rattle.aid_filings.proofs.SameFiling.{tells_filing}
 use Rattle.aid_replies.specs.declared.reply.Verdict.TheVariants.{Again, Refused}
+use Rattle.aid_types.specs.declared.number.Key.{Key}
+use Rattle.aid_filings.specs.declared.filing.What.{What}
+use Rattle.filing_rules.specs.declared.facts.Facts.{Facts}
+use Rattle.filing_rules.specs.InRange.{AreFactsInRange}
+use Rattle.filing_rules.specs.Lines.{broken_of}
+use Rattle.office_history.specs.FactsOf.{facts_of}
+use Rattle.office_history.proofs.FactsInRange.{facts_in_range}
+use Rattle.office_history.proofs.LinesOf.{broken_is}
 use Rattle.office_history.specs.Answer.{IsLegal, answer_of, breaks, judged, outcome_at}
 use Rattle.office_history.specs.Past.{filing_at, first_at, first_of_two, key_at, same_filing, same_key}
 use Rattle.office_history.proofs.Cases.{answer_of-new, answer_of-used}
@@ -120,3 +128,17 @@ position_within past (suc i) g at =
 -- ---- a filing with a new key is judged by the rules of its kind
 pub judged_new : (past : List Filing) (f : Filing) (o : Option Refusal) → key_at f.key past ≡ 0 → breaks past f ≡ o → answer_of past f ≡ judged past f o
 judged_new past f o new e = answer_of-new past f (filing_at-new past f new) new ∙ ap (judged past f) e
+
+-- ---- what is read of a kind for what is filed
+-- it is in range
+pub read_in_range : (past : List Filing) (key : Key) (what : What) (facts : Facts) → IsLegal past → facts ≡ facts_of past key what → AreFactsInRange facts
+read_in_range past key what facts legal read = subst AreFactsInRange (sym read) (facts_in_range past legal (record { key = key; what = what }))
+
+-- and decides whether a rule is broken
+pub unbroken : (past : List Filing) (f : Filing) (what : What) (facts : Facts) → f.what ≡ what → facts ≡ facts_of past f.key what →
+    broken_of facts f.key f.what ≡ None → breaks past f ≡ None
+unbroken past f what facts is read none =
+    sym (broken_is past f)
+    ∙ ap (λ (w : What). broken_of (facts_of past f.key w) f.key f.what) is
+    ∙ ap (λ (fs : Facts). broken_of fs f.key f.what) (sym read)
+    ∙ none

@@ -29,15 +29,6 @@ nets-cents past school student year term a legal h =
     subst EachIsCents (sym (account-nets past school student year term a h))
     (six-cents (λ p. net_at past (cell_at school student year term p)) (λ p. net_is_small past legal (cell_at school student year term p)))
 
--- a worksheet on the term on file and on its account
-pub sheet-is : (past : List Filing) (key : Key) (w : WithdrawFacts) (t : Term) (a : Account) (l : Lines) →
-    l ≡ worksheet_of (days_upto t w.last) (days_upto t t.last) w.charges (minus a.paid a.taken) w.could →
-    Some t ≡ the_term past key.school w.year w.term → IsAccount past key.school w.student w.year w.term a → l ≡ sheet past key w
-sheet-is past key w t a l e is h =
-    e
-    ∙ ap (λ (net : List ℕ). worksheet_of (days_upto t w.last) (days_upto t t.last) w.charges net w.could) (account-nets past key.school w.student w.year w.term a h)
-    ∙ ap (λ (o : Option Term). worksheet_of (days_of o w.last) (days_of o (last_of o)) w.charges (six (λ p. net_at past (withdrawn_cell key w p))) w.could) is
-
 -- what is told stands at a position
 pub told-at : {A : Type 0} (ask : Filing → Option A) (past : List Filing) → nat_lt 0 (first_at (λ f. is_some (ask f)) past) ≡ is_some (earliest ask past)
 told-at ask past = go (first_at (λ f. is_some (ask f)) past) (is_some (earliest ask past)) (some_told ask past) (told_at ask past)

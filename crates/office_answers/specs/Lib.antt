@@ -1,3 +1,3 @@
-pub mod Basis
 pub mod Brought
+pub mod Noted
 pub mod Walked

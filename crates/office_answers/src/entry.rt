@@ -48,18 +48,17 @@ pub fn paid(amount: &Amount, withdrawn: bool) -> Account
     ensures { (past : List Filed) (key : Keyed) → withdrawn ≡ is_some (the_withdrawal past key.school amount.now.student amount.now.year amount.now.term)
         → IsOwnEntry past key (Pay amount.now) result }
 {
-    let moved = Account {
-        paid: ByProgram::of(amount.program, amount.cents),
-        ..Account::EMPTY
-    };
-    if withdrawn {
-        Account {
-            after: moved.paid,
-            after_all: amount.cents,
-            ..moved
-        }
+    let paid = ByProgram::of(amount.program, amount.cents);
+    let (after, after_all) = if withdrawn {
+        (paid, amount.cents)
     } else {
-        moved
+        (ByProgram::EMPTY, 0)
+    };
+    Account {
+        paid,
+        after,
+        after_all,
+        ..Account::EMPTY
     }
 }
 

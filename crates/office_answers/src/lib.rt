@@ -5,6 +5,7 @@
 mod applications;
 mod entry;
 mod gathered;
+mod noted;
 mod sheets;
 mod standings;
 mod uncounted;
@@ -12,7 +13,6 @@ mod verdicts;
 
 pub use applications::{award_in, indexed_by_book};
 pub use entry::{adjusted, entry_of, paid, repaid, returned};
-pub use gathered::{Basis, Gathered, gather, payment_facts};
 pub use sheets::sheet;
 pub use standings::{quote, standing};
 pub use uncounted::{quote_on, rule_on, standing_on, verdict_on};

@@ -7,7 +7,7 @@ ghost use Rattle.office_history.specs.Rows.{filing_in, told_application};
 ghost use Rattle.office_history.specs.Rules.{payment_rules};
 ghost use Rattle.office_answers.specs.Walked.{walked};
 
-use crate::gathered::payment_facts;
+use crate::gathered::for_payment;
 use aid_books::Book;
 use aid_filings::What;
 use aid_replies::StandingRow;
@@ -19,7 +19,7 @@ use steps::Steps;
 
 /// The greatest Pell payment in cents, of whole dollars, that the school could file for the student's term under a new
 /// key; 0 where there is none.
-#[tactic(auto, using(office_history::proofs::LinesOf::payment_lines_are))]
+#[tactic(auto, using(office_history::proofs::LinesOf::payment_lines_are, office_history::proofs::FactsInRange::payment_in_range))]
 pub fn quote<P: OnFile, L: Ledger>(
     past: &P,
     school: School,
@@ -35,8 +35,10 @@ pub fn quote<P: OnFile, L: Ledger>(
     ensures at_most { result ≤ 99999900 }
     ensures cost { steps.new ≤ steps.old + 5 * P.looks past.now + 4 * walked (P.history past.now) school (Some student) }
 {
-    let facts = payment_facts(past, school, student, year, term, Program::Pell, steps);
-    pell_quote::quote(&facts, school, student, year, term)
+    // The front tells that what is on file is legal.
+    let _filings = past.front();
+    let read = for_payment(past, school, student, year, term, Program::Pell, steps);
+    pell_quote::quote(&read.facts, school, student, year, term)
 }
 
 /// Where a student stands in a year: the application in force with its award, the year's net Pell at all schools and the

@@ -1,20 +1,21 @@
 //! The verdict on a filing, and with what it is admitted, over whatever keeps what is on file.
-ghost use Rattle.std.specs.Prelude.{◌≡◌, ◌+◌, ◌*◌, ◌≤◌, ◌∷◌, sum};
+ghost use Rattle.std.specs.Prelude.{◌≡◌, ◌+◌, ◌*◌, ◌≤◌, sum};
 ghost use Rattle.aid_filings.specs.Students.{student_of};
+ghost use Rattle.aid_filings.specs.declared.filing.What.TheVariants.{Apply, Pay, Withdraw};
 ghost use Rattle.aid_replies.specs.declared.reply.Outcome.TheVariants.{Returned};
 ghost use Rattle.aid_types.specs.Ranges.{EachIsCents, IsBetween};
-ghost use Rattle.office_history.specs.Answer.{IsLegal, answer_of, breaks, judged, outcome_of};
-ghost use Rattle.office_history.specs.Past.{key_at};
-ghost use Rattle.office_answers.specs.Basis.{IsBasis};
+ghost use Rattle.office_history.specs.Answer.{IsLegal, answer_of, breaks, judged};
 ghost use Rattle.office_answers.specs.Brought.{IsWithPayment, paid_with};
+ghost use Rattle.office_answers.specs.Noted.{IsNoted};
 ghost use Rattle.office_history.specs.Rows.{student_row, year_row};
 ghost use Rattle.office_answers.specs.Walked.{walked};
 
-use crate::gathered::{Basis, gather, used_else};
+use crate::gathered::{for_application, for_payment, for_withdrawal, used_else};
+use crate::noted::noted_facts;
 use crate::sheets::sheet_on_file;
-use aid_filings::{Amount, Filing, What};
+use aid_filings::{Amount, Filing, What, WithdrawFacts};
 use aid_replies::{Outcome, Verdict};
-use aid_types::{Program, Refusal};
+use aid_types::{Application, Program, Refusal};
 use filing_rules::broken;
 use lifetime_ledger::use_of;
 use office_history::{OnFile, StudentRow, YearRow};
@@ -47,35 +48,104 @@ pub fn answer<P: OnFile, L: Ledger>(past: &P, filing: &Filing, steps: &mut Steps
 }
 
 // The verdict on a filing with a new key: the first rule that it breaks, or that it is admitted.
-#[tactic(auto, using(office_history::proofs::LinesOf::broken_is))]
 fn judge<P: OnFile, L: Ledger>(past: &P, filing: &Filing, steps: &mut Steps<L>) -> Verdict
     requires legal { IsLegal (P.history past.now) }
-    requires new { key_at filing.now.key (P.history past.now) ≡ 0 }
     ensures value { result ≡ judged (P.history past.now) filing.now (breaks (P.history past.now) filing.now) }
     ensures cost { steps.new ≤ steps.old + 5 * P.looks past.now + 4 * walked (P.history past.now) filing.now.key.school (student_of filing.now.what) }
 {
-    let gathered = gather(past, filing, steps);
-    match broken(&gathered.facts, &filing.key, &filing.what) {
-        Some(refusal) => Verdict::Refused(refusal),
-        None => Verdict::Admit(outcome(past, filing, &gathered.basis)),
+    match &filing.what {
+        What::Apply(application) => judge_application(past, filing, application, steps),
+        What::Pay(payment) => judge_payment(past, filing, payment, steps),
+        What::Withdraw(withdrawal) => judge_withdrawal(past, filing, withdrawal, steps),
+        _ => judge_noted(past, filing, steps),
     }
 }
 
-// With what a filing is admitted after what is on file: an application with the award it brings, a payment with the year's
-// net of its program and the lifetime use, both with it, a withdrawal with its worksheet.
-#[tactic(auto, using(crate::proofs::Brought::pay_is_within, crate::proofs::Brought::outcome_of_pay, crate::proofs::Applied::fits, crate::proofs::Applied::outcome))]
-fn outcome<P: OnFile>(past: &P, filing: &Filing, basis: &Basis) -> Outcome
-    requires legal { IsLegal (filing.now ∷ P.history past.now) }
-    requires basis { IsBasis (P.history past.now) filing.now basis.now }
-    ensures { result ≡ outcome_of (P.history past.now) filing.now }
+// The verdict on a filing that is only noted.
+#[tactic(auto, using(office_history::proofs::LinesOf::broken_is, office_history::proofs::FactsInRange::facts_in_range))]
+fn judge_noted<P: OnFile, L: Ledger>(past: &P, filing: &Filing, steps: &mut Steps<L>) -> Verdict
+    requires legal { IsLegal (P.history past.now) }
+    requires noted { IsNoted filing.now.what }
+    ensures value { result ≡ judged (P.history past.now) filing.now (breaks (P.history past.now) filing.now) }
+    ensures cost { steps.new ≤ steps.old + 5 * P.looks past.now + 4 * walked (P.history past.now) filing.now.key.school (student_of filing.now.what) }
 {
-    match (&filing.what, basis) {
-        (What::Apply(_), Basis::Application { brought }) => *brought,
-        (What::Pay(amount), Basis::Payment { year, student }) => paid(past, amount, year, student),
-        (What::Withdraw(withdrawal), Basis::Withdrawal { term, account }) => {
-            returned_outcome(&sheet_on_file(past, &filing.key, withdrawal, term, account))
-        }
-        _ => Outcome::Noted,
+    let facts = noted_facts(past, filing, steps);
+    match broken(&facts, &filing.key, &filing.what) {
+        Some(refusal) => Verdict::Refused(refusal),
+        None => Verdict::Admit(Outcome::Noted),
+    }
+}
+
+// The verdict on an application, which is admitted with the award that it brings.
+#[tactic(auto, using(office_history::proofs::LinesOf::broken_is, office_history::proofs::FactsInRange::facts_in_range, crate::proofs::Applied::fits, crate::proofs::Applied::outcome))]
+fn judge_application<P: OnFile, L: Ledger>(
+    past: &P,
+    filing: &Filing,
+    application: &Application,
+    steps: &mut Steps<L>,
+) -> Verdict
+    requires legal { IsLegal (P.history past.now) }
+    requires what { filing.now.what ≡ Apply application.now }
+    ensures value { result ≡ judged (P.history past.now) filing.now (breaks (P.history past.now) filing.now) }
+    ensures cost { steps.new ≤ steps.old + 5 * P.looks past.now + 4 * walked (P.history past.now) filing.now.key.school (student_of filing.now.what) }
+{
+    let read = for_application(past, &filing.key, application, steps);
+    match broken(&read.facts, &filing.key, &filing.what) {
+        Some(refusal) => Verdict::Refused(refusal),
+        None => Verdict::Admit(read.brought),
+    }
+}
+
+// The verdict on a payment, which is admitted with the year's net of its program and the lifetime use, both with it.
+#[tactic(auto, using(office_history::proofs::LinesOf::broken_is, office_history::proofs::FactsInRange::facts_in_range, crate::proofs::Brought::pay_is_within, crate::proofs::Brought::outcome_of_pay))]
+fn judge_payment<P: OnFile, L: Ledger>(
+    past: &P,
+    filing: &Filing,
+    payment: &Amount,
+    steps: &mut Steps<L>,
+) -> Verdict
+    requires legal { IsLegal (P.history past.now) }
+    requires what { filing.now.what ≡ Pay payment.now }
+    ensures value { result ≡ judged (P.history past.now) filing.now (breaks (P.history past.now) filing.now) }
+    ensures cost { steps.new ≤ steps.old + 5 * P.looks past.now + 4 * walked (P.history past.now) filing.now.key.school (student_of filing.now.what) }
+{
+    let Amount {
+        student,
+        year,
+        term,
+        program,
+        ..
+    } = *payment;
+    let read = for_payment(past, filing.key.school, student, year, term, program, steps);
+    match broken(&read.facts, &filing.key, &filing.what) {
+        Some(refusal) => Verdict::Refused(refusal),
+        None => Verdict::Admit(paid(past, payment, &read.year, &read.student)),
+    }
+}
+
+// The verdict on a withdrawal, which is admitted with its worksheet.
+#[tactic(auto, using(office_history::proofs::LinesOf::broken_is, office_history::proofs::FactsInRange::facts_in_range))]
+fn judge_withdrawal<P: OnFile, L: Ledger>(
+    past: &P,
+    filing: &Filing,
+    withdrawal: &WithdrawFacts,
+    steps: &mut Steps<L>,
+) -> Verdict
+    requires legal { IsLegal (P.history past.now) }
+    requires what { filing.now.what ≡ Withdraw withdrawal.now }
+    ensures value { result ≡ judged (P.history past.now) filing.now (breaks (P.history past.now) filing.now) }
+    ensures cost { steps.new ≤ steps.old + 5 * P.looks past.now + 4 * walked (P.history past.now) filing.now.key.school (student_of filing.now.what) }
+{
+    let read = for_withdrawal(past, &filing.key, withdrawal, steps);
+    match broken(&read.facts, &filing.key, &filing.what) {
+        Some(refusal) => Verdict::Refused(refusal),
+        None => Verdict::Admit(returned_outcome(&sheet_on_file(
+            past,
+            &filing.key,
+            withdrawal,
+            &read.term.term,
+            &read.place.account,
+        ))),
     }
 }
 

@@ -38,7 +38,7 @@ pub struct PlaceRow {
 }
 
 /// A student's year at all schools: the transaction and the position of the application in force with the Scheduled Award that
-/// it gives, the nets by program, and the net Pell of the main terms.
+/// it gives, all three 0 where there is none; the nets by program, and the net Pell of the main terms.
 #[derive(Clone, Copy, PartialEq, Eq, Debug)]
 pub struct YearRow {
     pub transaction: u32,

@@ -1,6 +1,6 @@
 use Rattle.std.proofs.Common.{◌≡◌, arith, length}
 use Rattle.office_history.proofs.Ranges.{main_terms, main_terms_are_few}
-use Rattle.office_answers.proofs.gathered.calendar_facts.Goals as goal
+use Rattle.office_answers.proofs.noted.calendar_facts.Goals as goal
 
 pub overflow_cast-result : goal.overflow_cast-result
 overflow_cast-result g c =

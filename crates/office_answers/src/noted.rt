@@ -1,0 +1,152 @@
+//! What the rules of a filing that is only noted read of the filings so far. Each row is asked for once.
+ghost use Rattle.std.specs.Prelude.{◌≡◌, ◌+◌, ◌*◌, ◌≤◌, None};
+ghost use Rattle.aid_filings.specs.Students.{student_of};
+ghost use Rattle.aid_filings.specs.declared.filing.What.TheVariants.{Calendar, Enrol, Repay, Adjust};
+ghost use Rattle.office_history.specs.FactsOf.{facts_of, no_facts};
+ghost use Rattle.office_history.specs.Rows.{terms_at};
+ghost use Rattle.office_answers.specs.Noted.{IsNoted};
+ghost use Rattle.office_answers.specs.Walked.{walked};
+
+use crate::gathered::net_of;
+use aid_filings::{Amount, CalendarFacts, EnrolFacts, Filing, What};
+use aid_types::{Key, Program};
+use filing_rules::Facts;
+use office_history::{OnFile, SchoolRow};
+use std::sync::ledger::Ledger;
+use steps::Steps;
+
+/// What a filing that is only noted reads.
+pub(crate) fn noted_facts<P: OnFile, L: Ledger>(
+    past: &P,
+    filing: &Filing,
+    steps: &mut Steps<L>,
+) -> Facts
+    requires { IsNoted filing.now.what }
+    ensures value { result ≡ facts_of (P.history past.now) filing.now.key filing.now.what }
+    ensures cost { steps.new ≤ steps.old + 5 * P.looks past.now + 4 * walked (P.history past.now) filing.now.key.school (student_of filing.now.what) }
+{
+    let key = &filing.key;
+    let desk = key.school.0;
+    match &filing.what {
+        What::Book(book) => Facts {
+            book_at: past.book_at(book.as_book().year, steps),
+            ..desk_facts(past.front(), &past.school(desk, steps))
+        },
+        What::School(school) => Facts {
+            code_at: past.school(school.code, steps).at,
+            ..desk_facts(past.front(), &past.school(desk, steps))
+        },
+        What::Calendar(calendar) => calendar_facts(past, key, calendar, steps),
+        What::Prior(prior) => {
+            let student = past.student(prior.student, steps);
+            Facts {
+                prior_at: student.prior_at,
+                pell_at: student.pell_at,
+                ..desk_facts(past.front(), &past.school(desk, steps))
+            }
+        }
+        What::Enrol(enrolment) => enrolment_facts(past, key, enrolment, steps),
+        What::Originate(filed) => Facts {
+            transaction: past.year(filed.student, filed.year, steps).transaction,
+            cost_at: past
+                .school_year(key.school, filed.student, filed.year, steps)
+                .cost_at,
+            ..desk_facts(past.front(), &past.school(desk, steps))
+        },
+        What::Repay(amount) => repayment_facts(past, key, amount, steps),
+        What::Adjust(amount) => adjustment_facts(past, key, amount, steps),
+        What::Apply(_) | What::Pay(_) | What::Withdraw(_) => unreachable!(),
+    }
+}
+
+/// What is given for every kind.
+pub(crate) fn desk_facts(filings: u32, school: &SchoolRow) -> Facts
+    ensures { result ≡ record no_facts { filings = filings; school_at = school.now.at; terms = school.now.terms; full = school.now.full } }
+{
+    Facts {
+        filings,
+        school_at: school.at,
+        terms: school.terms,
+        full: school.full,
+        ..Facts::EMPTY
+    }
+}
+
+// What a term that is filed reads.
+fn calendar_facts<P: OnFile, L: Ledger>(
+    past: &P,
+    key: &Key,
+    calendar: &CalendarFacts,
+    steps: &mut Steps<L>,
+) -> Facts
+    ensures value { result ≡ facts_of (P.history past.now) key.now (Calendar calendar.now) }
+    ensures cost { steps.new ≤ steps.old + P.looks past.now + 4 * walked (P.history past.now) key.now.school None }
+{
+    let filings = past.front();
+    let (school, terms) = past.calendar(key.school, calendar, steps);
+    Facts {
+        term_at: terms.term_at,
+        overlap_at: terms.overlap_at,
+        main_terms: terms.main_terms as u8,
+        ..desk_facts(filings, &school)
+    }
+}
+
+// What an enrolment reads.
+fn enrolment_facts<P: OnFile, L: Ledger>(
+    past: &P,
+    key: &Key,
+    filed: &EnrolFacts,
+    steps: &mut Steps<L>,
+) -> Facts
+    ensures value { result ≡ facts_of (P.history past.now) key.now (Enrol filed.now) }
+    ensures cost { steps.new ≤ steps.old + 3 * P.looks past.now + 4 * terms_at (P.history past.now) key.now.school }
+{
+    let (school, term) = past.term(key.school, filed.year, filed.term, steps);
+    let place = past.place(key.school, filed.student, filed.year, filed.term, steps);
+    Facts {
+        term_at: term.at,
+        scheduled: past.year(filed.student, filed.year, steps).scheduled,
+        withdrawn_at: place.withdrawn_at,
+        pell_term: net_of(&place.account, Program::Pell),
+        ..desk_facts(past.front(), &school)
+    }
+}
+
+// What a repayment reads.
+fn repayment_facts<P: OnFile, L: Ledger>(
+    past: &P,
+    key: &Key,
+    filed: &Amount,
+    steps: &mut Steps<L>,
+) -> Facts
+    ensures value { result ≡ facts_of (P.history past.now) key.now (Repay filed.now) }
+    ensures cost { steps.new ≤ steps.old + 2 * P.looks past.now }
+{
+    let place = past.place(key.school, filed.student, filed.year, filed.term, steps);
+    Facts {
+        owed: place.account.owed.at(filed.program),
+        repaid: place.account.repaid.at(filed.program),
+        ..desk_facts(past.front(), &past.school(key.school.0, steps))
+    }
+}
+
+// What a downward adjustment reads.
+fn adjustment_facts<P: OnFile, L: Ledger>(
+    past: &P,
+    key: &Key,
+    filed: &Amount,
+    steps: &mut Steps<L>,
+) -> Facts
+    ensures value { result ≡ facts_of (P.history past.now) key.now (Adjust filed.now) }
+    ensures cost { steps.new ≤ steps.old + 2 * P.looks past.now + 4 * terms_at (P.history past.now) key.now.school }
+{
+    let (school, term) = past.term(key.school, filed.year, filed.term, steps);
+    let place = past.place(key.school, filed.student, filed.year, filed.term, steps);
+    Facts {
+        term_at: term.at,
+        withdrawn_at: place.withdrawn_at,
+        net: net_of(&place.account, filed.program),
+        ..desk_facts(past.front(), &school)
+    }
+}
