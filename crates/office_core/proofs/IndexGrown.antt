@@ -26,7 +26,7 @@ pub record AreRows (past : List Filing) (rows : IndexRows) : Type 0 where
   pub places : ArePlaces past rows.places
   pub years : AreYears past rows.years
   pub school_years : AreSchoolYears past rows.school_years
-  pub links : AreLinked past rows.places rows.links
+  pub links : AreLinked past rows.places rows.befores rows.links
 
 -- and has at most one row more
 pub record HaveOneMore (old new : IndexRows) : Type 0 where

@@ -9,11 +9,12 @@ use Rattle.office_core.specs.Index.{IndexRows, IsIndexed}
 use Rattle.office_links.specs.Links.{AreLinked}
 
 abbrev pub no_rows : IndexRows
-no_rows = record { keys = []; books = []; schools = []; students = []; places = []; years = []; school_years = []; links = [] }
+no_rows = record { keys = []; books = []; schools = []; students = []; places = []; years = []; school_years = []; befores = []; links = [] }
 
-none_linked : AreLinked [] [] []
+none_linked : AreLinked [] [] [] []
 none_linked = record {
-  befores = refl;
+  befores_are = refl;
+  count = refl;
   places = λ i f e l at is link. absurd (none-some f at);
 }
 

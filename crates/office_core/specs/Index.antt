@@ -128,6 +128,7 @@ pub record IndexRows : Type 0 where
   pub places : List (StudentPlace × PlaceRow)
   pub years : List (StudentYear × YearRow)
   pub school_years : List (StudentSchoolYear × SchoolYearRow)
+  pub befores : List ℕ
   pub links : List Link
 
 -- they tell what is on file, and no table has more rows than there are filings
@@ -141,7 +142,7 @@ pub record IsIndexed (past : List Filing) (outcomes : List Outcome) (rows : Inde
   pub places : ArePlaces past rows.places
   pub years : AreYears past rows.years
   pub school_years : AreSchoolYears past rows.school_years
-  pub links : AreLinked past rows.places rows.links
+  pub links : AreLinked past rows.places rows.befores rows.links
   pub few_keys : length rows.keys ≤ length past
   pub few_books : length rows.books ≤ length past
   pub few_schools : length rows.schools ≤ length past

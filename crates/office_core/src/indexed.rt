@@ -39,6 +39,7 @@ use steps::Steps;
 pub struct Indexed {
     filings: Vec<Filing>,
     outcomes: Vec<Outcome>,
+    befores: Vec<u32>,
     links: Vec<Link>,
     keys: Table<FilingNumber, u32>,
     books: Table<u16, u32>,
@@ -68,12 +69,13 @@ impl Model for Indexed {
       places = o.places.rows;
       years = o.years.rows;
       school_years = o.school_years.rows;
+      befores = o.befores.items;
       links = o.links.items;
     })
         × (vec_len o.filings + o.spare ≤ vec_capacity o.filings) × (vec_len o.outcomes + o.spare ≤ vec_capacity o.outcomes)
         × (vec_len o.links + o.spare ≤ vec_capacity o.links) × (o.spare ≤ o.keys.room) × (o.spare ≤ o.books.room)
         × (o.spare ≤ o.schools.room) × (o.spare ≤ o.students.room) × (o.spare ≤ o.places.room) × (o.spare ≤ o.years.room)
-        × (o.spare ≤ o.school_years.room) };
+        × (o.spare ≤ o.school_years.room) × (vec_len o.befores + o.spare ≤ vec_capacity o.befores) };
 }
 
 impl Indexed {
@@ -85,6 +87,7 @@ impl Indexed {
         Indexed {
             filings: Vec::new(alloc),
             outcomes: Vec::new(alloc),
+            befores: Vec::new(alloc),
             links: Vec::new(alloc),
             keys: Table::new(alloc),
             books: Table::new(alloc),
@@ -107,6 +110,7 @@ impl Indexed {
         if self.spare < n {
             self.filings.reserve(n as usize)?;
             self.outcomes.reserve(n as usize)?;
+            self.befores.reserve(n as usize)?;
             self.links.reserve(n as usize)?;
             self.keys.reserve(n)?;
             self.books.reserve(n)?;
@@ -163,8 +167,9 @@ impl Indexed {
         );
         write(&mut self.years, year_slot, &written.year);
         write(&mut self.school_years, cost_slot, &written.school_year);
+        self.befores.push_reserved(before);
         self.links
-            .push_reserved(link_of(&filing, before, slot, school_at, term_at));
+            .push_reserved(link_of(&filing, slot, school_at, term_at));
         self.filings.push_reserved(filing);
         self.outcomes.push_reserved(outcome);
         self.spare -= 1;
@@ -281,7 +286,7 @@ impl OnFile for Indexed {
         let entry = self.school_entry(school.0, steps);
         let term = school_term(
             self.filings.as_slice(),
-            self.links.as_slice(),
+            self.befores.as_slice(),
             entry.newest,
             school,
             year,
@@ -300,7 +305,7 @@ impl OnFile for Indexed {
         let entry = self.school_entry(school.0, steps);
         let terms = school_calendar(
             self.filings.as_slice(),
-            self.links.as_slice(),
+            self.befores.as_slice(),
             entry.newest,
             school,
             calendar,
@@ -363,6 +368,7 @@ impl OnFile for Indexed {
         let entry = self.student_entry(student, steps);
         let code = paid_beside(
             self.filings.as_slice(),
+            self.befores.as_slice(),
             self.links.as_slice(),
             &self.places,
             entry.newest,
@@ -384,6 +390,7 @@ impl OnFile for Indexed {
         let entry = self.student_entry(student, steps);
         let term = term_over(
             self.filings.as_slice(),
+            self.befores.as_slice(),
             self.links.as_slice(),
             &self.places,
             entry.newest,

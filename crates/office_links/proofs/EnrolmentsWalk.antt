@@ -2,7 +2,7 @@
 use Rattle.std.proofs.Common.{◌≡◌, ℕ, ◌+◌, ◌-◌, ◌*◌, ◌<◌, ◌≤◌, refl, sym, ap, ◌∙◌, arith, true, List, [], ◌∷◌, get_or, length, reverse, Option, Some, None}
 use Rattle.std.specs.Prelude.{◌==◌}
 use Rattle.std.specs.List.{slice_get}
-use Rattle.std.proofs.lemmas.List.{reverse-reverse}
+use Rattle.std.proofs.lemmas.List.{length-reverse, reverse-reverse}
 use Rattle.std.proofs.lemmas.Option.{slice_get-get_or, slice_get_read}
 use Rattle.aid_filings.specs.declared.filing.EnrolFacts.{EnrolFacts}
 use Rattle.aid_filings.specs.declared.filing.Filing.{Filing}
@@ -24,10 +24,13 @@ use Rattle.office_links.proofs.LinksChain.{IsAlong, IsStep, along_end, along_sta
 use Rattle.office_links.proofs.LinksMore.{enrolled_on_file}
 
 -- the filing and the link at the position of a walk
-module _ (h : List Filing) (links : List Link) (rows : List (StudentPlace × PlaceRow)) (student : ℕ) (older : List Filing) (n : ℕ)
-    (legal : IsLegal (reverse h)) (linked : AreLinked (reverse h) rows links) (along : IsAlong (is_first_of student) (reverse h) older n) (pos : 0 < n) where
-  pub step : IsStep (is_first_of student) h links older n
-  step = along_step (is_first_of student) h links older n (enrolments_tell student) linked.befores along pos
+module _ (h : List Filing) (befores : List ℕ) (links : List Link) (rows : List (StudentPlace × PlaceRow)) (student : ℕ) (older : List Filing) (n : ℕ)
+    (legal : IsLegal (reverse h)) (linked : AreLinked (reverse h) rows befores links) (along : IsAlong (is_first_of student) (reverse h) older n) (pos : 0 < n) where
+  pub step : IsStep (is_first_of student) h befores older n
+  step = along_step (is_first_of student) h befores older n (enrolments_tell student) linked.befores_are along pos
+
+  pub inside_links : n - 1 < length links
+  inside_links = omega (arith, linked.count, length-reverse h, step.inside)
 
   pub same_filing : (f : Filing) → f ≡ get_or h (n - 1) f → f ≡ step.filing
   same_filing f read = read ∙ step.read f
@@ -43,7 +46,7 @@ module _ (h : List Filing) (links : List Link) (rows : List (StudentPlace × Pla
       let w = own f read in
       let at : slice_get (reverse (reverse h)) (n - 1) ≡ Some f =
       ap (λ (fs : List Filing). slice_get fs (n - 1)) (reverse-reverse h) ∙ slice_get_read h (length h) (n - 1) f refl step.inside read in
-      let link : slice_get links (n - 1) ≡ Some (get_or links (n - 1) k) = slice_get-get_or links (n - 1) k step.inside_links in
+      let link : slice_get links (n - 1) ≡ Some (get_or links (n - 1) k) = slice_get-get_or links (n - 1) k inside_links in
       let stands = enrolled_on_file (reverse h) legal (n - 1) f w.0 at w.1 in
       record {
         facts = w.0;
@@ -56,12 +59,12 @@ module _ (h : List Filing) (links : List Link) (rows : List (StudentPlace × Pla
   -- the first enrolments that are left, of which this filing is the next
   pub next_first : (f : Filing) → f ≡ get_or h (n - 1) f → first_enrolments older student ≡ f ∷ first_enrolments step.rest student
   next_first f read =
-      passing_step (is_first_of student) h links older n step ∙ ap (λ (g : Filing). g ∷ first_enrolments step.rest student) (sym (same_filing f read))
+      passing_step (is_first_of student) h befores older n step ∙ ap (λ (g : Filing). g ∷ first_enrolments step.rest student) (sym (same_filing f read))
 
   pub one_fewer : places_of older student ≡ places_of step.rest student + 1
   one_fewer =
       let one : places_of older student ≡ length (step.filing ∷ first_enrolments step.rest student) =
-      ap (λ (fs : List Filing). length fs) (passing_step (is_first_of student) h links older n step) in
+      ap (λ (fs : List Filing). length fs) (passing_step (is_first_of student) h befores older n step) in
       omega arith
 
 -- at the end of a walk none is left
@@ -86,20 +89,20 @@ beside_start past school student this newest steps e = record {
   counted = omega arith;
 }
 
-pub beside_step : (h : List Filing) (links : List Link) (rows : List (StudentPlace × PlaceRow)) (school student : ℕ) (this : Term) (n least steps begun : ℕ) →
-    IsLegal (reverse h) → AreLinked (reverse h) rows links → IsBesideWalk (reverse h) school student this n least steps begun → 0 < n →
-    (f : Filing) → f ≡ get_or h (n - 1) f → (k : Link) (next later : ℕ) →
+pub beside_step : (h : List Filing) (befores : List ℕ) (links : List Link) (rows : List (StudentPlace × PlaceRow)) (school student : ℕ) (this : Term) (n least steps begun : ℕ) →
+    IsLegal (reverse h) → AreLinked (reverse h) rows befores links → IsBesideWalk (reverse h) school student this n least steps begun → 0 < n →
+    (f : Filing) → f ≡ get_or h (n - 1) f → (k : ℕ) (next later : ℕ) →
     next ≡ lesser_code (is_beside (reverse h) school student this f) f.key.school least →
-    later ≤ steps + 4 → steps + 2 ≤ later → IsBesideWalk (reverse h) school student this (get_or links (n - 1) k).before next later begun
-beside_step h links rows school student this n least steps begun legal linked w pos f read k next later is cheap looked =
-    let s = step h links rows student w.older n legal linked w.along pos in
-    let fewer = one_fewer h links rows student w.older n legal linked w.along pos in
+    later ≤ steps + 4 → steps + 2 ≤ later → IsBesideWalk (reverse h) school student this (get_or befores (n - 1) k) next later begun
+beside_step h befores links rows school student this n least steps begun legal linked w pos f read k next later is cheap looked =
+    let s = step h befores links rows student w.older n legal linked w.along pos in
+    let fewer = one_fewer h befores links rows student w.older n legal linked w.along pos in
     record {
       older = s.rest;
       along = s.along k;
       value =
           w.value
-          ∙ ap (λ (fs : List Filing). least_school (is_beside (reverse h) school student this) fs least) (next_first h links rows student w.older n legal linked w.along pos f read)
+          ∙ ap (λ (fs : List Filing). least_school (is_beside (reverse h) school student this) fs least) (next_first h befores links rows student w.older n legal linked w.along pos f read)
           ∙ ap (least_school (is_beside (reverse h) school student this) (first_enrolments s.rest student)) (sym is);
       few = let old = w.few in omega arith;
       counted = let old = w.counted in omega arith;
@@ -137,20 +140,20 @@ over_start past award student year newest steps e = record {
   counted = omega arith;
 }
 
-pub over_step : (h : List Filing) (links : List Link) (rows : List (StudentPlace × PlaceRow)) (award student year n : ℕ) (first : Option Over) (steps begun : ℕ) →
-    IsLegal (reverse h) → AreLinked (reverse h) rows links → IsOverWalk (reverse h) award student year n first steps begun → 0 < n →
-    (f : Filing) → f ≡ get_or h (n - 1) f → (k : Link) (next : Option Over) (later : ℕ) →
+pub over_step : (h : List Filing) (befores : List ℕ) (links : List Link) (rows : List (StudentPlace × PlaceRow)) (award student year n : ℕ) (first : Option Over) (steps begun : ℕ) →
+    IsLegal (reverse h) → AreLinked (reverse h) rows befores links → IsOverWalk (reverse h) award student year n first steps begun → 0 < n →
+    (f : Filing) → f ≡ get_or h (n - 1) f → (k : ℕ) (next : Option Over) (later : ℕ) →
     next ≡ earlier_over (over_of (reverse h) award student year f) first →
-    later ≤ steps + 4 → steps + 2 ≤ later → IsOverWalk (reverse h) award student year (get_or links (n - 1) k).before next later begun
-over_step h links rows award student year n first steps begun legal linked w pos f read k next later is cheap looked =
-    let s = step h links rows student w.older n legal linked w.along pos in
-    let fewer = one_fewer h links rows student w.older n legal linked w.along pos in
+    later ≤ steps + 4 → steps + 2 ≤ later → IsOverWalk (reverse h) award student year (get_or befores (n - 1) k) next later begun
+over_step h befores links rows award student year n first steps begun legal linked w pos f read k next later is cheap looked =
+    let s = step h befores links rows student w.older n legal linked w.along pos in
+    let fewer = one_fewer h befores links rows student w.older n legal linked w.along pos in
     record {
       older = s.rest;
       along = s.along k;
       value =
           w.value
-          ∙ ap (λ (fs : List Filing). first_over (over_of (reverse h) award student year) fs first) (next_first h links rows student w.older n legal linked w.along pos f read)
+          ∙ ap (λ (fs : List Filing). first_over (over_of (reverse h) award student year) fs first) (next_first h befores links rows student w.older n legal linked w.along pos f read)
           ∙ ap (first_over (over_of (reverse h) award student year) (first_enrolments s.rest student)) (sym is);
       few = let old = w.few in omega arith;
       counted = let old = w.counted in omega arith;

@@ -10,7 +10,6 @@ use Rattle.aid_filings.specs.declared.filing.What.{What}
 use Rattle.aid_filings.specs.declared.filing.What.TheVariants.{Book, School, Calendar, Prior, Apply, Enrol, Originate, Pay, Withdraw, Repay, Adjust}
 use Rattle.office_history.proofs.Oldest.{reverse-middle}
 use Rattle.office_links.specs.Links.{before_in, befores_of, is_first, is_first_in, is_first_of, is_term_of, last_at, newest_place, newest_term, passing}
-use Rattle.office_links.specs.declared.links.Link.{Link}
 
 -- none of the newer filings passes, each after those before it
 abbrev pub NonePass : (List Filing → Filing → Bool) → List Filing → List Filing → Type 0
@@ -142,8 +141,9 @@ pub record IsAlong (p : List Filing → Filing → Bool) (past older : List Fili
   pub split : past ≡ newer ++ older
   pub here : position ≡ last_at p older
 
--- one step of a walk: the filing at the position, with the link's, and the filings that the walk has before it afterwards
-pub record IsStep (p : List Filing → Filing → Bool) (h : List Filing) (links : List Link) (older : List Filing) (position : ℕ) : Type 0 where
+-- one step of a walk: the filing at the position, with where the one before it stands, and the filings that the walk has before
+-- it afterwards
+pub record IsStep (p : List Filing → Filing → Bool) (h : List Filing) (befores : List ℕ) (older : List Filing) (position : ℕ) : Type 0 where
   pub filing : Filing
   pub skipped : List Filing
   pub rest : List Filing
@@ -152,10 +152,10 @@ pub record IsStep (p : List Filing → Filing → Bool) (h : List Filing) (links
   pub passes : p rest filing ≡ true
   pub place : length rest + 1 ≡ position
   pub inside : position - 1 < length h
-  pub inside_links : position - 1 < length links
+  pub inside_befores : position - 1 < length befores
   pub read : (d : Filing) → get_or h (position - 1) d ≡ filing
-  pub along : (d : Link) → IsAlong p (reverse h) rest (get_or links (position - 1) d).before
-  pub lower : (d : Link) → (get_or links (position - 1) d).before < position
+  pub along : (d : ℕ) → IsAlong p (reverse h) rest (get_or befores (position - 1) d)
+  pub lower : (d : ℕ) → get_or befores (position - 1) d < position
 
 pub along_start : (p : List Filing → Filing → Bool) (past : List Filing) (n : ℕ) → n ≡ last_at p past → IsAlong p past past n
 along_start p past n e = record { newer = []; split = refl; here = e }
@@ -163,9 +163,9 @@ along_start p past n e = record { newer = []; split = refl; here = e }
 pub along_end : (p : List Filing → Filing → Bool) (past older : List Filing) (n : ℕ) → IsAlong p past older n → n ≡ 0 → last_at p older ≡ 0
 along_end p past older n a e = sym a.here ∙ e
 
-pub along_step : (p : List Filing → Filing → Bool) (h : List Filing) (links : List Link) (older : List Filing) (n : ℕ) → Tells p →
-    map (λ l. l.before) links ≡ befores_of (reverse h) → IsAlong p (reverse h) older n → 0 < n → IsStep p h links older n
-along_step p h links older n tells linked a pos =
+pub along_step : (p : List Filing → Filing → Bool) (h : List Filing) (befores : List ℕ) (older : List Filing) (n : ℕ) → Tells p →
+    befores ≡ befores_of (reverse h) → IsAlong p (reverse h) older n → 0 < n → IsStep p h befores older n
+along_step p h befores older n tells linked a pos =
     let here = a.here in
     let w = newest p older (omega arith) in
     let front = a.newer ++ w.newer in
@@ -175,14 +175,11 @@ along_step p h links older n tells linked a pos =
     let index : length w.older ≡ n - 1 = omega arith in
     let size : length h ≡ length front + (length w.older + 1) =
     omega (arith, length-reverse h, ap (λ (l : List Filing). length l) whole, length-append front (w.filing ∷ w.older)) in
-    let size_links : length links ≡ length h =
-    omega (arith, length-map links (λ (l : Link). l.before), ap (λ (l : List ℕ). length l) linked, befores_length (reverse h), length-reverse h) in
-    let inside : n - 1 < length links = omega arith in
-    let next : (d : Link) → (get_or links (n - 1) d).before ≡ last_at p w.older =
-    λ d. sym (get_or-map (λ (l : Link). l.before) links (n - 1) d d.before inside)
-    ∙ ap (λ (l : List ℕ). get_or l (n - 1) d.before) (linked ∙ ap befores_of whole)
-    ∙ ap (λ (i : ℕ). get_or (befores_of (front ++ w.filing ∷ w.older)) i d.before) (sym index)
-    ∙ befores_at front w.older w.filing d.before
+    let size_befores : length befores ≡ length h = omega (arith, ap (λ (l : List ℕ). length l) linked, befores_length (reverse h), length-reverse h) in
+    let next : (d : ℕ) → get_or befores (n - 1) d ≡ last_at p w.older =
+    λ d. ap (λ (l : List ℕ). get_or l (n - 1) d) (linked ∙ ap befores_of whole)
+    ∙ ap (λ (i : ℕ). get_or (befores_of (front ++ w.filing ∷ w.older)) i d) (sym index)
+    ∙ befores_at front w.older w.filing d
     ∙ tells w.older w.filing w.passes in
     record {
       filing = w.filing;
@@ -193,7 +190,7 @@ along_step p h links older n tells linked a pos =
       passes = w.passes;
       place = place;
       inside = omega arith;
-      inside_links = inside;
+      inside_befores = omega arith;
       read = λ d. ap (λ (i : ℕ). get_or h i d) (sym index) ∙ read_at h front w.older w.filing d whole;
       along = λ d. record { newer = front ++ w.filing ∷ []; split = whole ∙ sym (append_assoc front (w.filing ∷ []) w.older); here = next d };
       lower = λ d. let e = next d in let l = last_within p w.older in omega arith;
@@ -214,9 +211,9 @@ module _ {B : Type 0} (F : List Filing → B) (p : List Filing → Filing → Bo
       go false e h ih = out f older e ∙ ih h
 
 -- the filings that pass, of which the first is that of a step
-pub passing_step : (p : List Filing → Filing → Bool) (h : List Filing) (links : List Link) (older : List Filing) (n : ℕ) (s : IsStep p h links older n) →
+pub passing_step : (p : List Filing → Filing → Bool) (h : List Filing) (befores : List ℕ) (older : List Filing) (n : ℕ) (s : IsStep p h befores older n) →
     passing p older ≡ s.filing ∷ passing p s.rest
-passing_step p h links older n s =
+passing_step p h befores older n s =
     ap (passing p) s.split ∙ skip (passing p) p (λ f past fails. rw fails refl) s.skipped (s.filing ∷ s.rest) s.none ∙ rw s.passes refl
 
 pub passing_end : (p : List Filing → Filing → Bool) (older : List Filing) → last_at p older ≡ 0 → passing p older ≡ []

@@ -19,7 +19,6 @@ use Rattle.office_history.proofs.Asked.{none_told}
 use Rattle.office_history.proofs.Checks.{all_hold, stands_holds}
 use Rattle.office_history.proofs.Legal.{older_legal}
 use Rattle.office_links.specs.Links.{befores_of, is_term_of}
-use Rattle.office_links.specs.declared.links.Link.{Link}
 use Rattle.office_links.proofs.LinksTerms.{IsTermWalk, asked_here, filed_here, no_term, term_at_hand, walked_earliest, walked_first, walked_one}
 
 -- a term that is admitted is the first of its school, year and number
@@ -52,14 +51,14 @@ none_older past school year number key (Withdraw b) of sound tells = absurd cc
 none_older past school year number key (Repay b) of sound tells = absurd cc
 none_older past school year number key (Adjust b) of sound tells = absurd cc
 
-module _ (h : List Filing) (links : List Link) (school year number n steps begun : ℕ) (legal : IsLegal (reverse h))
-    (linked : map (λ l. l.before) links ≡ befores_of (reverse h))
+module _ (h : List Filing) (befores : List ℕ) (school year number n steps begun : ℕ) (legal : IsLegal (reverse h))
+    (linked : befores ≡ befores_of (reverse h))
     (w : IsTermWalk (reverse h) school year number n (record { at = 0; term = None }) steps begun) (pos : 0 < n) where
   -- the term at the walk's position is the one on file
   pub term_found : (f : Filing) → f ≡ get_or h (n - 1) f → (t : Term) → term_in year number f.what ≡ Some t →
       ◌≡◌ {A = TermRow} (record { at = n; term = Some t }) (term_row (reverse h) school year number)
   term_found f read t told =
-      let s = term_at_hand h links school w.older n linked w.along pos in
+      let s = term_at_hand h befores school w.older n linked w.along pos in
       let same : f ≡ s.filing = read ∙ s.read f in
       let tells : term_in year number s.filing.what ≡ Some t = ap (λ (x : Filing). term_in year number x.what) (sym same) ∙ told in
       let asked : at_school school (term_in year number) s.filing ≡ Some t = asked_here school (term_in year number) s.filing s.passes ∙ tells in
@@ -70,12 +69,12 @@ module _ (h : List Filing) (links : List Link) (school year number n steps begun
       none_older s.rest school year number s.filing.key s.filing.what (eqb-true s.filing.key.school school (filed_here school s.filing s.passes)) sound.2 (ap is_some tells) in
       let none_there : the_term s.rest school year number ≡ None = none_told (at_school school (term_in year number)) s.rest none in
       let place : term_at (reverse h) school year number ≡ n =
-      walked_first (is_term_of school) h links w.older n s (λ x. is_some (at_school school (term_in year number) x))
+      walked_first (is_term_of school) h befores w.older n s (λ x. is_some (at_school school (term_in year number) x))
       (λ x fails. ap is_some (no_term school year number x fails)) (term_at (reverse h) school year number) 0 w.place
       ∙ ap (λ (o : Option Term). first_of_two true (term_at s.rest school year number) (cond (is_some o) n 0)) asked
       ∙ ap (λ (k : ℕ). first_of_two true k n) none in
       let term : the_term (reverse h) school year number ≡ Some t =
-      walked_earliest (is_term_of school) h links w.older n s (at_school school (term_in year number)) (no_term school year number)
+      walked_earliest (is_term_of school) h befores w.older n s (at_school school (term_in year number)) (no_term school year number)
       (the_term (reverse h) school year number) None w.term
       ∙ ap (λ (o : Option Term). earlier (later o None) (the_term s.rest school year number)) asked
       ∙ ap (λ (o : Option Term). earlier (Some t) o) none_there in
@@ -84,7 +83,7 @@ module _ (h : List Filing) (links : List Link) (school year number n steps begun
   -- and so far no more than two looks a term were taken, the one at this filing too
   pub found_looks : steps + 1 ≤ begun + 2 * terms_at (reverse h) school
   found_looks =
-      let s = term_at_hand h links school w.older n linked w.along pos in
-      let k = walked_one (is_term_of school) h links w.older n s in
+      let s = term_at_hand h befores school w.older n linked w.along pos in
+      let k = walked_one (is_term_of school) h befores w.older n s in
       let all = w.cost in
       omega arith

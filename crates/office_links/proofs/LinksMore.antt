@@ -1,12 +1,12 @@
 -- A filing more leaves the links of those before it, and has its own.
 use Rattle.std.proofs.Common.{◌≡◌, ℕ, zero, suc, ◌+◌, ◌<◌, refl, sym, ap, subst, ◌∙◌, arith, Bool, true, false, List, [], ◌∷◌, ◌++◌, ◌⊎◌, inl, inr, length, reverse, Some, None}
 use Rattle.std.specs.List.{slice_get}
-use Rattle.std.proofs.lemmas.List.{length-map, length-reverse, map-append, reverse-append}
+use Rattle.std.proofs.lemmas.List.{length-append, length-reverse, reverse-append}
 use Rattle.std.proofs.lemmas.Option.{slice_get_within}
 use Rattle.aid_filings.specs.declared.filing.EnrolFacts.{EnrolFacts}
 use Rattle.aid_filings.specs.declared.filing.Filing.{Filing}
 use Rattle.aid_filings.specs.declared.filing.What.{What}
-use Rattle.aid_filings.specs.declared.filing.What.TheVariants.{Book, School, Calendar, Prior, Apply, Enrol, Originate, Pay, Withdraw, Repay, Adjust}
+use Rattle.aid_filings.specs.declared.filing.What.TheVariants.{Enrol}
 use Rattle.filing_rules.specs.Rules.{first_broken}
 use Rattle.office_history.specs.Rules.{rules_of}
 use Rattle.office_history.specs.Answer.{IsLegal}
@@ -14,11 +14,10 @@ use Rattle.office_history.specs.Positions.{school_at, term_at}
 use Rattle.office_history.specs.Past.{first_at, first_of_two}
 use Rattle.office_history.proofs.Checks.{all_hold, lacks_holds}
 use Rattle.office_history.specs.declared.rows.PlaceRow.{PlaceRow}
-use Rattle.office_links.specs.Links.{AreLinked, IsLinkable, IsPlaced, before_in, befores_of, link_told}
+use Rattle.office_links.specs.Links.{AreLinked, IsLinkable, IsPlaced, link_told}
 use Rattle.office_history.specs.Names.{place_name}
 use Rattle.office_links.specs.declared.links.Link.{Link}
 use Rattle.office_history.specs.declared.names.StudentPlace.{StudentPlace}
-use Rattle.office_links.proofs.LinksChain.{befores_length}
 
 -- an element of a list with one appended is one of the list, or the appended one
 appended : {A : Type 0} (xs : List A) (x y : A) (i : ℕ) → slice_get (xs ++ x ∷ []) i ≡ Some y → (slice_get xs i ≡ Some y) ⊎ ((i ≡ length xs) × (x ≡ y))
@@ -106,56 +105,34 @@ placed_now past new f g e l s is = record {
 
 module _ (past : List Filing) (old new : List (StudentPlace × PlaceRow)) (f : Filing) (newest slot school term : ℕ)
     (can : IsLinkable past old new f newest slot school term) where
-  -- what the link tells of the one before
-  before_told : (link_told f.what newest slot school term).before ≡ before_in past f.key.school f.what
-  before_told = go f.what can.before
-    where
-      go : (w : What) → newest ≡ before_in past f.key.school w → (link_told w newest slot school term).before ≡ before_in past f.key.school w
-      go (Calendar c) a = a
-      go (Enrol e) a = a
-      go (Book x) a = refl
-      go (School x) a = refl
-      go (Prior x) a = refl
-      go (Apply x) a = refl
-      go (Originate x) a = refl
-      go (Pay x) a = refl
-      go (Withdraw x) a = refl
-      go (Repay x) a = refl
-      go (Adjust x) a = refl
-
-  own_place : (e : EnrolFacts) → f.what ≡ Enrol e → IsPlaced (f ∷ past) new f e (link_told f.what newest slot school term)
+  own_place : (e : EnrolFacts) → f.what ≡ Enrol e → IsPlaced (f ∷ past) new f e (link_told f.what slot school term)
   own_place e is =
-      subst (λ (w : What). IsPlaced (f ∷ past) new f e (link_told w newest slot school term)) (sym is)
-      (placed_now past new f f e (link_told (Enrol e) newest slot school term) (enrols past f e can.legal is) (can.placed e is))
+      subst (λ (w : What). IsPlaced (f ∷ past) new f e (link_told w slot school term)) (sym is)
+      (placed_now past new f f e (link_told (Enrol e) slot school term) (enrols past f e can.legal is) (can.placed e is))
 
-  size : (links : List Link) → AreLinked past old links → length links ≡ length past
-  size links are =
-      omega (arith, length-map links (λ (l : Link). l.before), ap (λ (l : List ℕ). length l) are.befores, befores_length past)
-
-  place : (links : List Link) → AreLinked past old links → (i : ℕ) (g : Filing) (e : EnrolFacts) (l : Link) → g.what ≡ Enrol e →
+  place : (befores : List ℕ) (links : List Link) → AreLinked past old befores links → (i : ℕ) (g : Filing) (e : EnrolFacts) (l : Link) → g.what ≡ Enrol e →
       (slice_get (reverse past) i ≡ Some g) ⊎ ((i ≡ length past) × (f ≡ g)) →
-      (slice_get links i ≡ Some l) ⊎ ((i ≡ length links) × (link_told f.what newest slot school term ≡ l)) → IsPlaced (f ∷ past) new g e l
-  place links are i g e l is (inl at) (inl linked) =
+      (slice_get links i ≡ Some l) ⊎ ((i ≡ length links) × (link_told f.what slot school term ≡ l)) → IsPlaced (f ∷ past) new g e l
+  place befores links are i g e l is (inl at) (inl linked) =
       placed_stays past old new f g e l (enrolled_on_file past can.legal.0 i g e at is) can.stays (are.places i g e l at is linked)
-  place links are i g e l is (inl at) (inr w) =
+  place befores links are i g e l is (inl at) (inr w) =
       let inside = slice_get_within (reverse past) i g at in
       let k = w.0 in
-      absurd (omega (arith, length-reverse past, size links are))
-  place links are i g e l is (inr w) (inl linked) =
+      absurd (omega (arith, length-reverse past, are.count))
+  place befores links are i g e l is (inr w) (inl linked) =
       let inside = slice_get_within links i l linked in
       let k = w.0 in
-      absurd (omega (arith, size links are))
-  place links are i g e l is (inr v) (inr w) =
+      absurd (omega (arith, are.count))
+  place befores links are i g e l is (inr v) (inr w) =
       subst (λ (x : Link). IsPlaced (f ∷ past) new g e x) w.1
-      (subst (λ (x : Filing). IsPlaced (f ∷ past) new x e (link_told f.what newest slot school term)) v.1
+      (subst (λ (x : Filing). IsPlaced (f ∷ past) new x e (link_told f.what slot school term)) v.1
       (own_place e (ap (λ (x : Filing). x.what) v.1 ∙ is)))
 
-  pub linked_more : (links : List Link) → AreLinked past old links → AreLinked (f ∷ past) new (links ++ link_told f.what newest slot school term ∷ [])
-  linked_more links are = record {
-    befores =
-        map-append (λ (l : Link). l.before) links (link_told f.what newest slot school term ∷ [])
-        ∙ ap (λ (l : List ℕ). l ++ (link_told f.what newest slot school term).before ∷ []) are.befores
-        ∙ ap (λ (n : ℕ). befores_of past ++ n ∷ []) before_told;
+  pub linked_more : (befores : List ℕ) (links : List Link) → AreLinked past old befores links →
+      AreLinked (f ∷ past) new (befores ++ newest ∷ []) (links ++ link_told f.what slot school term ∷ [])
+  linked_more befores links are = record {
+    befores_are = λ i. are.befores_are i ++ can.before i ∷ [];
+    count = omega (arith, length-append links (link_told f.what slot school term ∷ []), are.count);
     places = λ i g e l at is linked.
-        place links are i g e l is (newest_or_older past f g i at) (appended links (link_told f.what newest slot school term) l i linked);
+        place befores links are i g e l is (newest_or_older past f g i at) (appended links (link_told f.what slot school term) l i linked);
   }

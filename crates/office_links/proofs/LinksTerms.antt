@@ -20,11 +20,10 @@ use Rattle.office_history.specs.declared.rows.TermRow.{TermRow}
 use Rattle.office_history.proofs.FiledTerms.{overlap_place}
 use Rattle.office_links.specs.Links.{befores_of, is_calendar, is_term_of, last_at, newest_term}
 use Rattle.office_links.specs.Walks.{is_main, overlaps}
-use Rattle.office_links.specs.declared.links.Link.{Link}
 use Rattle.office_links.proofs.LinksChain.{IsAlong, IsStep, along_end, along_start, along_step, skip, skip_all, terms_tell}
 
 -- what was found so far, with one step more, where only filings that pass can be found
-module _ (p : Filing → Bool) (h : List Filing) (links : List Link) (older : List Filing) (n : ℕ) (s : IsStep (λ past. p) h links older n) where
+module _ (p : Filing → Bool) (h : List Filing) (befores : List ℕ) (older : List Filing) (n : ℕ) (s : IsStep (λ past. p) h befores older n) where
   pub walked_first : (q : Filing → Bool) → ((f : Filing) → p f ≡ false → q f ≡ false) → (total acc : ℕ) →
       total ≡ first_of_two true (first_at q older) acc → total ≡ first_of_two true (first_at q s.rest) (cond (q s.filing) n acc)
   walked_first q only total acc e =
@@ -304,9 +303,9 @@ module _ (school : ℕ) where
       go (Adjust b) e = refl
 
 -- the term of the school at a position on its chain
-pub term_at_hand : (h : List Filing) (links : List Link) (school : ℕ) (older : List Filing) (n : ℕ) → map (λ l. l.before) links ≡ befores_of (reverse h) →
-    IsAlong (λ past. is_term_of school) (reverse h) older n → 0 < n → IsStep (λ past. is_term_of school) h links older n
-term_at_hand h links school older n linked along pos = along_step (λ past. is_term_of school) h links older n (terms_tell school) linked along pos
+pub term_at_hand : (h : List Filing) (befores : List ℕ) (school : ℕ) (older : List Filing) (n : ℕ) → befores ≡ befores_of (reverse h) →
+    IsAlong (λ past. is_term_of school) (reverse h) older n → 0 < n → IsStep (λ past. is_term_of school) h befores older n
+term_at_hand h befores school older n linked along pos = along_step (λ past. is_term_of school) h befores older n (terms_tell school) linked along pos
 
 -- a walk for a term of a year and a number: what was found so far stands unless an older filing tells
 pub record IsTermWalk (past : List Filing) (school year number position : ℕ) (row : TermRow) (steps begun : ℕ) : Type 0 where
@@ -326,13 +325,13 @@ term_start past school year number newest steps e = record {
   cost = omega (arith, terms_counted past school);
 }
 
-pub term_step : (h : List Filing) (links : List Link) (school year number n : ℕ) (row : TermRow) (steps begun : ℕ) →
-    map (λ l. l.before) links ≡ befores_of (reverse h) → (w : IsTermWalk (reverse h) school year number n row steps begun) → 0 < n →
-    (f : Filing) → f ≡ get_or h (n - 1) f → (d : Link) (next : TermRow) (after : ℕ) → after ≡ steps + 2 →
+pub term_step : (h : List Filing) (befores : List ℕ) (school year number n : ℕ) (row : TermRow) (steps begun : ℕ) →
+    befores ≡ befores_of (reverse h) → (w : IsTermWalk (reverse h) school year number n row steps begun) → 0 < n →
+    (f : Filing) → f ≡ get_or h (n - 1) f → (d : ℕ) (next : TermRow) (after : ℕ) → after ≡ steps + 2 →
     next.at ≡ cond (is_some (term_in year number f.what)) n row.at → next.term ≡ later (term_in year number f.what) row.term →
-    IsTermWalk (reverse h) school year number (get_or links (n - 1) d).before next after begun
-term_step h links school year number n row steps begun linked w pos f read d next after two at_is term_is =
-    let s = term_at_hand h links school w.older n linked w.along pos in
+    IsTermWalk (reverse h) school year number (get_or befores (n - 1) d) next after begun
+term_step h befores school year number n row steps begun linked w pos f read d next after two at_is term_is =
+    let s = term_at_hand h befores school w.older n linked w.along pos in
     let same : f ≡ s.filing = read ∙ s.read f in
     let asked : at_school school (term_in year number) s.filing ≡ term_in year number f.what =
     asked_here school (term_in year number) s.filing s.passes ∙ ap (λ (x : Filing). term_in year number x.what) (sym same) in
@@ -340,16 +339,16 @@ term_step h links school year number n row steps begun linked w pos f read d nex
       older = s.rest;
       along = s.along d;
       place =
-          walked_first (is_term_of school) h links w.older n s (λ x. is_some (at_school school (term_in year number) x))
+          walked_first (is_term_of school) h befores w.older n s (λ x. is_some (at_school school (term_in year number) x))
           (λ x fails. ap is_some (no_term school year number x fails)) (term_at (reverse h) school year number) row.at w.place
           ∙ ap (λ (o : Option Term). first_of_two true (term_at s.rest school year number) (cond (is_some o) n row.at)) asked
           ∙ ap (λ (k : ℕ). first_of_two true (term_at s.rest school year number) k) (sym at_is);
       term =
-          walked_earliest (is_term_of school) h links w.older n s (at_school school (term_in year number)) (no_term school year number)
+          walked_earliest (is_term_of school) h befores w.older n s (at_school school (term_in year number)) (no_term school year number)
           (the_term (reverse h) school year number) row.term w.term
           ∙ ap (λ (o : Option Term). earlier (later o row.term) (the_term s.rest school year number)) asked
           ∙ ap (λ (o : Option Term). earlier o (the_term s.rest school year number)) (sym term_is);
-      cost = let k = walked_one (is_term_of school) h links w.older n s in let old = w.cost in omega arith;
+      cost = let k = walked_one (is_term_of school) h befores w.older n s in let old = w.cost in omega arith;
     }
 
 pub term_end : (past : List Filing) (school year number n : ℕ) (row : TermRow) (steps begun : ℕ) → IsTermWalk past school year number n row steps begun → n ≡ 0 →
@@ -395,15 +394,15 @@ calendar_start past school c newest steps e = record {
     none_more : (k : ℕ) → k ≡ k + 0
     none_more k = omega arith
 
-pub calendar_step : (h : List Filing) (links : List Link) (school : ℕ) (c : CalendarFacts) (n : ℕ) (row : CalendarRow) (steps begun : ℕ) →
-    map (λ l. l.before) links ≡ befores_of (reverse h) → (w : IsCalendarWalk (reverse h) school c n row steps begun) → 0 < n →
-    (f : Filing) → f ≡ get_or h (n - 1) f → (d : Link) (next : CalendarRow) (after : ℕ) → after ≡ steps + 2 →
+pub calendar_step : (h : List Filing) (befores : List ℕ) (school : ℕ) (c : CalendarFacts) (n : ℕ) (row : CalendarRow) (steps begun : ℕ) →
+    befores ≡ befores_of (reverse h) → (w : IsCalendarWalk (reverse h) school c n row steps begun) → 0 < n →
+    (f : Filing) → f ≡ get_or h (n - 1) f → (d : ℕ) (next : CalendarRow) (after : ℕ) → after ≡ steps + 2 →
     next.term_at ≡ cond (is_some (term_in c.year c.term f.what)) n row.term_at →
     next.overlap_at ≡ cond (overlaps (term_of c) f.what) n row.overlap_at →
     next.main_terms ≡ row.main_terms + cond (is_main c.year f.what) 1 0 →
-    IsCalendarWalk (reverse h) school c (get_or links (n - 1) d).before next after begun
-calendar_step h links school c n row steps begun linked w pos f read d next after two at_is overlap_is mains_is =
-    let s = term_at_hand h links school w.older n linked w.along pos in
+    IsCalendarWalk (reverse h) school c (get_or befores (n - 1) d) next after begun
+calendar_step h befores school c n row steps begun linked w pos f read d next after two at_is overlap_is mains_is =
+    let s = term_at_hand h befores school w.older n linked w.along pos in
     let same : f ≡ s.filing = read ∙ s.read f in
     let asked : at_school school (term_in c.year c.term) s.filing ≡ term_in c.year c.term f.what =
     asked_here school (term_in c.year c.term) s.filing s.passes ∙ ap (λ (x : Filing). term_in c.year c.term x.what) (sym same) in
@@ -415,21 +414,21 @@ calendar_step h links school c n row steps begun linked w pos f read d next afte
       older = s.rest;
       along = s.along d;
       place =
-          walked_first (is_term_of school) h links w.older n s (λ x. is_some (at_school school (term_in c.year c.term) x))
+          walked_first (is_term_of school) h befores w.older n s (λ x. is_some (at_school school (term_in c.year c.term) x))
           (λ x fails. ap is_some (no_term school c.year c.term x fails)) (term_at (reverse h) school c.year c.term) row.term_at w.place
           ∙ ap (λ (o : Option Term). first_of_two true (term_at s.rest school c.year c.term) (cond (is_some o) n row.term_at)) asked
           ∙ ap (λ (k : ℕ). first_of_two true (term_at s.rest school c.year c.term) k) (sym at_is);
       overlap =
-          walked_first (is_term_of school) h links w.older n s (λ x. is_overlapping school (term_of c) x.key.school x.what)
+          walked_first (is_term_of school) h befores w.older n s (λ x. is_overlapping school (term_of c) x.key.school x.what)
           (no_overlap school (term_of c)) _ row.overlap_at w.overlap
           ∙ ap (λ (b : Bool). first_of_two true (first_at (λ x. is_overlapping school (term_of c) x.key.school x.what) s.rest) (cond b n row.overlap_at)) shared
           ∙ ap (λ (k : ℕ). first_of_two true (first_at (λ x. is_overlapping school (term_of c) x.key.school x.what) s.rest) k) (sym overlap_is);
       mains =
-          walked_count (is_term_of school) h links w.older n s (λ x. is_main_term school c.year x.key.school x.what)
+          walked_count (is_term_of school) h befores w.older n s (λ x. is_main_term school c.year x.key.school x.what)
           (no_main school c.year) _ row.main_terms w.mains
           ∙ ap (λ (b : Bool). count_by (λ x. is_main_term school c.year x.key.school x.what) s.rest + (row.main_terms + cond b 1 0)) main
           ∙ ap (λ (k : ℕ). count_by (λ x. is_main_term school c.year x.key.school x.what) s.rest + k) (sym mains_is);
-      cost = let k = walked_one (is_term_of school) h links w.older n s in let old = w.cost in omega arith;
+      cost = let k = walked_one (is_term_of school) h befores w.older n s in let old = w.cost in omega arith;
     }
 
 -- the main terms found so far are no more than the filings

@@ -1,5 +1,5 @@
--- Links: each term of a school, and each first enrolment of a student in a term, tells where the one before it stands.
-use Rattle.std.specs.Prelude.{◌≡◌, ℕ, ◌+◌, ◌==◌, ◌&&◌, Bool, true, false, List, [], ◌∷◌, ◌++◌, length, map, reverse, Some, is_some, not, if◌then◌else◌}
+-- Of each term of a school, and of each first enrolment of a student in a term, where the one before it stands; and links.
+use Rattle.std.specs.Prelude.{◌≡◌, ℕ, ◌+◌, ◌==◌, ◌&&◌, Bool, true, false, List, [], ◌∷◌, ◌++◌, length, reverse, Some, is_some, not, if◌then◌else◌}
 use Rattle.std.specs.List.{list_any, slice_get}
 use Rattle.aid_filings.specs.declared.filing.EnrolFacts.{EnrolFacts}
 use Rattle.aid_filings.specs.declared.filing.Filing.{Filing}
@@ -84,21 +84,21 @@ pub record IsPlaced (past : List Filing) (rows : List (StudentPlace × PlaceRow)
   pub school : l.school_at ≡ school_at past f.key.school
   pub term : l.term_at ≡ term_at past f.key.school e.year e.term
 
--- the links of a history's filings, the oldest first
-pub record AreLinked (past : List Filing) (rows : List (StudentPlace × PlaceRow)) (links : List Link) : Type 0 where
-  pub befores : map (λ l. l.before) links ≡ befores_of past
+-- where the ones before a history's filings stand, and the links of these, the oldest first
+pub record AreLinked (past : List Filing) (rows : List (StudentPlace × PlaceRow)) (befores : List ℕ) (links : List Link) : Type 0 where
+  pub befores_are : befores ≡ befores_of past
+  pub count : length links ≡ length past
   pub places : (i : ℕ) (f : Filing) (e : EnrolFacts) (l : Link) → slice_get (reverse past) i ≡ Some f → f.what ≡ Enrol e →
       slice_get links i ≡ Some l → IsPlaced past rows f e l
 
--- the link of a filing, where the newest before it, its place's slot, and its school's and its term's positions are these
-abbrev pub link_told : What → ℕ → ℕ → ℕ → ℕ → Link
-link_told (Calendar c) newest slot school term = record { before = newest; slot = 0; school_at = 0; term_at = 0 }
-link_told (Enrol e) newest slot school term = record { before = newest; slot = slot; school_at = school; term_at = term }
-link_told _ newest slot school term = record { before = 0; slot = 0; school_at = 0; term_at = 0 }
+-- the link of a filing, where its place's slot, and its school's and its term's positions are these
+abbrev pub link_told : What → ℕ → ℕ → ℕ → Link
+link_told (Enrol e) slot school term = record { slot = slot; school_at = school; term_at = term }
+link_told _ slot school term = record { slot = 0; school_at = 0; term_at = 0 }
 
 -- what is told of a filing that comes legally after others is true of it, and each row has stayed at its slot
 pub record IsLinkable (past : List Filing) (old new : List (StudentPlace × PlaceRow)) (f : Filing) (newest slot school term : ℕ) : Type 0 where
   pub legal : IsLegal (f ∷ past)
   pub stays : (i : ℕ) (row : StudentPlace × PlaceRow) → slice_get old i ≡ Some row → (v : PlaceRow) × (slice_get new i ≡ Some (row.0, v))
   pub before : newest ≡ before_in past f.key.school f.what
-  pub placed : (e : EnrolFacts) → f.what ≡ Enrol e → IsPlaced past new f e (record { before = newest; slot = slot; school_at = school; term_at = term })
+  pub placed : (e : EnrolFacts) → f.what ≡ Enrol e → IsPlaced past new f e (record { slot = slot; school_at = school; term_at = term })

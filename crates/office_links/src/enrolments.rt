@@ -1,5 +1,5 @@
-//! Walks along the links of a student's first enrolments, from the newest to the oldest, so that each term at a school in which
-//! the student is enrolled is visited once. A step is a look at a link, at the filing that it belongs to, at the row of a
+//! Walks along a student's first enrolments, from the newest to the oldest, so that each term at a school in which the student
+//! is enrolled is visited once. A step is a look at where the one before stands, at an enrolment and its link, at the row of a
 //! place, or at the filing of a school or a term.
 ghost use Rattle.std.specs.Prelude.{◌≡◌, ◌+◌, ◌-◌, ◌*◌, ◌≤◌, ◌<◌, ℕ, true, Some, length, reverse, slice_index};
 ghost use Rattle.aid_types.specs.declared.term.Term.{Term as TermData};
@@ -35,6 +35,7 @@ pub struct Over {
 /// where there is none. `newest` is the position of the newest of the student's first enrolments.
 pub fn paid_beside<L: Ledger>(
     filings: &[Filing],
+    befores: &[u32],
     links: &[Link],
     places: &Slots<StudentPlace, PlaceRow>,
     newest: u32,
@@ -44,7 +45,7 @@ pub fn paid_beside<L: Ledger>(
     steps: &mut Steps<L>,
 ) -> u32
     requires legal { IsLegal (reverse filings.now) }
-    requires linked { AreLinked (reverse filings.now) places.now.rows links.now }
+    requires linked { AreLinked (reverse filings.now) places.now.rows befores.now links.now }
     requires newest { newest ≡ newest_place (reverse filings.now) student }
     requires rows { ArePlaces (reverse filings.now) places.now.rows }
     ensures value { result ≡ least_code (is_paid_beside_of (reverse filings.now) school student this.now) (terms_on_file (reverse filings.now)) }
@@ -59,8 +60,8 @@ pub fn paid_beside<L: Ledger>(
     let mut at = newest;
     while 0 < at {
         let index = at as usize - 1;
-        steps.tick(); // the filing
-        steps.tick(); // the link
+        steps.tick(); // the filing, with its link
+        steps.tick(); // where the one before it stands
         least = with_beside(
             filings,
             places,
@@ -71,7 +72,7 @@ pub fn paid_beside<L: Ledger>(
             least,
             steps,
         );
-        at = links[index].before;
+        at = befores[index];
     }
     least
 }
@@ -161,6 +162,7 @@ fn term_in(what: &What) -> Option<Term>
 /// it, told as a refusal. `newest` is the position of the newest of the student's first enrolments.
 pub fn term_over<L: Ledger>(
     filings: &[Filing],
+    befores: &[u32],
     links: &[Link],
     places: &Slots<StudentPlace, PlaceRow>,
     newest: u32,
@@ -170,7 +172,7 @@ pub fn term_over<L: Ledger>(
     steps: &mut Steps<L>,
 ) -> Option<Refusal>
     requires legal { IsLegal (reverse filings.now) }
-    requires linked { AreLinked (reverse filings.now) places.now.rows links.now }
+    requires linked { AreLinked (reverse filings.now) places.now.rows befores.now links.now }
     requires newest { newest ≡ newest_place (reverse filings.now) student }
     requires rows { ArePlaces (reverse filings.now) places.now.rows }
     requires award { award ≤ 100000 }
@@ -183,8 +185,8 @@ pub fn term_over<L: Ledger>(
     let mut at = newest;
     while 0 < at {
         let index = at as usize - 1;
-        steps.tick(); // the filing
-        steps.tick(); // the link
+        steps.tick(); // the filing, with its link
+        steps.tick(); // where the one before it stands
         let over = over_in(
             filings,
             places,
@@ -195,7 +197,7 @@ pub fn term_over<L: Ledger>(
             steps,
         );
         first = earlier(over, first);
-        at = links[index].before;
+        at = befores[index];
     }
     refusal(first)
 }

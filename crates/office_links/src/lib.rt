@@ -1,5 +1,5 @@
-//! Links from each term of a school, and from each first enrolment of a student in a term, to the one before it, and walks
-//! along them.
+//! Walks from each term of a school, and from each first enrolment of a student in a term, to the one before it, and links from
+//! an enrolment to its place, its school and its term.
 #![tactic(auto)]
 
 mod enrolments;

@@ -1,6 +1,6 @@
-//! Walks along the links of a school's terms, from the newest to the oldest. A step is a look at a link, at the filing that it
-//! belongs to, at the row of a place, or at the filing of a school or a term.
-ghost use Rattle.std.specs.Prelude.{◌≡◌, ◌+◌, ◌*◌, ◌<◌, ◌≤◌, cond, is_some, length, map, reverse};
+//! Walks along a school's terms, from the newest to the oldest. A step is a look at a term that is filed, or at where the one
+//! before it stands.
+ghost use Rattle.std.specs.Prelude.{◌≡◌, ◌+◌, ◌*◌, ◌<◌, ◌≤◌, cond, is_some, length, reverse};
 ghost use Rattle.aid_filings.specs.Calendars.{term_of};
 ghost use Rattle.office_history.specs.Answer.{IsLegal};
 ghost use Rattle.office_history.specs.Past.{term_in as term_filed};
@@ -8,7 +8,6 @@ ghost use Rattle.office_history.specs.Rows.{calendar_row, term_row, terms_at};
 ghost use Rattle.office_links.specs.Links.{befores_of, newest_term};
 ghost use Rattle.office_links.specs.Walks.{is_main as is_main_term, overlaps as is_overlapping};
 
-use crate::links::Link;
 use aid_filings::{CalendarFacts, Filing, What};
 use aid_types::{School, Term, Year};
 use enrolment::shares_day;
@@ -16,10 +15,11 @@ use office_history::{CalendarRow, TermRow};
 use std::sync::ledger::Ledger;
 use steps::Steps;
 
-/// A school's term of a year and a number, where `newest` is the position of the school's newest term.
+/// A school's term of a year and a number, where `newest` is the position of the school's newest term, and `befores` tells of
+/// each filing where the one before it stands.
 pub fn school_term<L: Ledger>(
     filings: &[Filing],
-    links: &[Link],
+    befores: &[u32],
     newest: u32,
     school: School,
     year: Year,
@@ -27,7 +27,7 @@ pub fn school_term<L: Ledger>(
     steps: &mut Steps<L>,
 ) -> TermRow
     requires legal { IsLegal (reverse filings.now) }
-    requires linked { map (λ l. l.before) links.now ≡ befores_of (reverse filings.now) }
+    requires linked { befores.now ≡ befores_of (reverse filings.now) }
     requires newest { newest ≡ newest_term (reverse filings.now) school }
     ensures value { result ≡ term_row (reverse filings.now) school year number }
     ensures cost { steps.new ≤ steps.old + 2 * terms_at (reverse filings.now) school }
@@ -43,8 +43,8 @@ pub fn school_term<L: Ledger>(
                 term: Some(term),
             };
         }
-        steps.tick(); // the link
-        at = links[index].before;
+        steps.tick(); // where the one before it stands
+        at = befores[index];
     }
     TermRow { at: 0, term: None }
 }
@@ -52,14 +52,14 @@ pub fn school_term<L: Ledger>(
 /// What the school's terms say of a calendar, where `newest` is the position of the school's newest term.
 pub fn school_calendar<L: Ledger>(
     filings: &[Filing],
-    links: &[Link],
+    befores: &[u32],
     newest: u32,
     school: School,
     calendar: &CalendarFacts,
     steps: &mut Steps<L>,
 ) -> CalendarRow
     requires legal { IsLegal (reverse filings.now) }
-    requires linked { map (λ l. l.before) links.now ≡ befores_of (reverse filings.now) }
+    requires linked { befores.now ≡ befores_of (reverse filings.now) }
     requires newest { newest ≡ newest_term (reverse filings.now) school }
     ensures value { result ≡ calendar_row (reverse filings.now) school calendar.now }
     ensures cost { steps.new ≡ steps.old + 2 * terms_at (reverse filings.now) school }
@@ -75,7 +75,7 @@ pub fn school_calendar<L: Ledger>(
         steps.tick();
         row = with_calendar(&filings[index], at, calendar, row);
         steps.tick();
-        at = links[index].before;
+        at = befores[index];
     }
     row
 }

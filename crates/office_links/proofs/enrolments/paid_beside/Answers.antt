@@ -4,7 +4,7 @@ use Rattle.office_history.specs.Positions.{is_paid_beside, least_code}
 use Rattle.office_history.specs.Past.{terms_on_file}
 use Rattle.office_links.proofs.EnrolmentsFirst.{few_places}
 use Rattle.office_links.proofs.EnrolmentsTerms.{none_beside}
-use Rattle.office_links.proofs.EnrolmentsWalk.{beside_end, beside_looks, beside_step, enrolled_here, enrolment_here, step}
+use Rattle.office_links.proofs.EnrolmentsWalk.{beside_end, beside_looks, beside_step, enrolled_here, enrolment_here, inside_links, step}
 use Rattle.office_links.proofs.enrolments.paid_beside.Goals as goal
 
 -- beside no term nothing is paid
@@ -16,36 +16,36 @@ returns-in_default-clause-value g c =
 
 pub bounds-filings-index : goal.bounds-filings-index
 bounds-filings-index g c =
-    (step c.args.filings.now c.args.links.now c.args.places.now.rows c.args.student c.loop-at.invariant.older c.loop-at.at c.requires.legal c.requires.linked
+    (step c.args.filings.now c.args.befores.now c.args.links.now c.args.places.now.rows c.args.student c.loop-at.invariant.older c.loop-at.at c.requires.legal c.requires.linked
     c.loop-at.invariant.along c.loop-at-test.true).inside
 
 pub bounds-links-index : goal.bounds-links-index
 bounds-links-index g c =
-    (step c.args.filings.now c.args.links.now c.args.places.now.rows c.args.student c.loop-at.invariant.older c.loop-at.at c.requires.legal c.requires.linked
-    c.loop-at.invariant.along c.loop-at-test.true).inside_links
+    inside_links c.args.filings.now c.args.befores.now c.args.links.now c.args.places.now.rows c.args.student c.loop-at.invariant.older c.loop-at.at c.requires.legal c.requires.linked
+    c.loop-at.invariant.along c.loop-at-test.true
 
-pub bounds-links-index-in-loop-at : goal.bounds-links-index-in-loop-at
-bounds-links-index-in-loop-at g c =
-    (step c.args.filings.now c.args.links.now c.args.places.now.rows c.args.student c.loop-at.invariant.older c.loop-at.at c.requires.legal c.requires.linked
-    c.loop-at.invariant.along c.loop-at-test.true).inside_links
+pub bounds-befores-index : goal.bounds-befores-index
+bounds-befores-index g c =
+    (step c.args.filings.now c.args.befores.now c.args.links.now c.args.places.now.rows c.args.student c.loop-at.invariant.older c.loop-at.at c.requires.legal c.requires.linked
+    c.loop-at.invariant.along c.loop-at-test.true).inside_befores
 
 pub with_beside-least-requires-clause-enrolment : goal.with_beside-least-requires-clause-enrolment
 with_beside-least-requires-clause-enrolment g c =
-    enrolment_here c.args.filings.now c.args.links.now c.args.places.now.rows c.args.student c.loop-at.invariant.older c.loop-at.at c.requires.legal c.requires.linked
+    enrolment_here c.args.filings.now c.args.befores.now c.args.links.now c.args.places.now.rows c.args.student c.loop-at.invariant.older c.loop-at.at c.requires.legal c.requires.linked
     c.loop-at.invariant.along c.loop-at-test.true c.index-filings-index.result c.index-filings-index.is _
 
 pub loop-at-smaller : goal.loop-at-smaller
 loop-at-smaller g c =
-    (step c.args.filings.now c.args.links.now c.args.places.now.rows c.args.student c.loop-at.invariant.older c.loop-at.at c.requires.legal c.requires.linked
+    (step c.args.filings.now c.args.befores.now c.args.links.now c.args.places.now.rows c.args.student c.loop-at.invariant.older c.loop-at.at c.requires.legal c.requires.linked
     c.loop-at.invariant.along c.loop-at-test.true).lower _
 
 pub loop-at-preserved : goal.loop-at-preserved
 loop-at-preserved g c =
     let h = c.args.filings.now in
     let own =
-    enrolled_here h c.args.links.now c.args.places.now.rows c.args.student c.loop-at.invariant.older c.loop-at.at c.requires.legal c.requires.linked
+    enrolled_here h c.args.befores.now c.args.links.now c.args.places.now.rows c.args.student c.loop-at.invariant.older c.loop-at.at c.requires.legal c.requires.linked
     c.loop-at.invariant.along c.loop-at-test.true c.index-filings-index.result c.index-filings-index.is in
-    beside_step h c.args.links.now c.args.places.now.rows c.args.school c.args.student c.in-Some.term c.loop-at.at c.loop-at.least c.loop-at.steps _
+    beside_step h c.args.befores.now c.args.links.now c.args.places.now.rows c.args.school c.args.student c.in-Some.term c.loop-at.at c.loop-at.least c.loop-at.steps _
     c.requires.legal c.requires.linked c.loop-at.invariant c.loop-at-test.true c.index-filings-index.result c.index-filings-index.is _
     c.with_beside-least.result c.with_beside-least.new.steps (c.with_beside-least.ensures.value c.args.student own)
     (omega (arith, c.tick.ensures, c.tick-in-loop-at.ensures, c.with_beside-least.ensures.cost)) (omega (arith, c.tick.ensures, c.tick-in-loop-at.ensures, c.with_beside-least.ensures.later))

@@ -5,6 +5,6 @@ use Rattle.office_links.proofs.LinksMore.{linked_more}
 use Rattle.office_links.proofs.links.link_of.Goals as goal
 
 pub returns : goal.returns
-returns c = λ past old new links can are.
-    subst (λ (l : Link). AreLinked (c.args.filing.now ∷ past) new (links ++ l ∷ [])) (sym c.link_in.ensures)
-    (linked_more past old new c.args.filing.now c.args.newest c.args.slot c.args.school_at c.args.term_at can links are)
+returns c = λ past old new befores newest links can are.
+    subst (λ (l : Link). AreLinked (c.args.filing.now ∷ past) new (befores ++ newest ∷ []) (links ++ l ∷ [])) (sym c.link_in.ensures)
+    (linked_more past old new c.args.filing.now newest c.args.slot c.args.school_at c.args.term_at can befores links are)

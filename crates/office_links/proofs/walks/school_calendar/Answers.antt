@@ -10,7 +10,7 @@ loop-at-init g c =
 pub bounds-filings-index : goal.bounds-filings-index
 bounds-filings-index g c =
     let w = c.loop-at.invariant in
-    (term_at_hand c.args.filings.now c.args.links.now c.args.school w.older c.loop-at.at c.requires.linked w.along (omega arith)).inside
+    (term_at_hand c.args.filings.now c.args.befores.now c.args.school w.older c.loop-at.at c.requires.linked w.along (omega arith)).inside
 
 pub with_calendar-row-requires : goal.with_calendar-row-requires
 with_calendar-row-requires g c =
@@ -20,19 +20,19 @@ with_calendar-row-requires g c =
     let short = legal_is_short past c.requires.legal in
     omega arith
 
-pub bounds-links-index : goal.bounds-links-index
-bounds-links-index g c =
+pub bounds-befores-index : goal.bounds-befores-index
+bounds-befores-index g c =
     let w = c.loop-at.invariant in
-    (term_at_hand c.args.filings.now c.args.links.now c.args.school w.older c.loop-at.at c.requires.linked w.along (omega arith)).inside_links
+    (term_at_hand c.args.filings.now c.args.befores.now c.args.school w.older c.loop-at.at c.requires.linked w.along (omega arith)).inside_befores
 
 pub loop-at-smaller : goal.loop-at-smaller
 loop-at-smaller g c =
     let w = c.loop-at.invariant in
-    (term_at_hand c.args.filings.now c.args.links.now c.args.school w.older c.loop-at.at c.requires.linked w.along (omega arith)).lower _
+    (term_at_hand c.args.filings.now c.args.befores.now c.args.school w.older c.loop-at.at c.requires.linked w.along (omega arith)).lower _
 
 pub loop-at-preserved : goal.loop-at-preserved
 loop-at-preserved g c =
-    calendar_step c.args.filings.now c.args.links.now c.args.school c.args.calendar.now c.loop-at.at c.loop-at.row c.loop-at.steps
+    calendar_step c.args.filings.now c.args.befores.now c.args.school c.args.calendar.now c.loop-at.at c.loop-at.row c.loop-at.steps
     c.args.steps.now c.requires.linked c.loop-at.invariant (omega arith)
     c.index-filings-index.result c.index-filings-index.is _ c.with_calendar-row.result _ (omega arith)
     c.with_calendar-row.ensures.term_at c.with_calendar-row.ensures.overlap_at c.with_calendar-row.ensures.main_terms

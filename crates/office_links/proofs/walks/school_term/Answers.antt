@@ -14,31 +14,31 @@ loop-at-init g c =
 pub bounds-filings-index : goal.bounds-filings-index
 bounds-filings-index g c =
     let w = c.loop-at.invariant in
-    (term_at_hand c.args.filings.now c.args.links.now c.args.school w.older c.loop-at.at c.requires.linked w.along (omega arith)).inside
+    (term_at_hand c.args.filings.now c.args.befores.now c.args.school w.older c.loop-at.at c.requires.linked w.along (omega arith)).inside
 
-pub bounds-links-index : goal.bounds-links-index
-bounds-links-index g c =
+pub bounds-befores-index : goal.bounds-befores-index
+bounds-befores-index g c =
     let w = c.loop-at.invariant in
-    (term_at_hand c.args.filings.now c.args.links.now c.args.school w.older c.loop-at.at c.requires.linked w.along (omega arith)).inside_links
+    (term_at_hand c.args.filings.now c.args.befores.now c.args.school w.older c.loop-at.at c.requires.linked w.along (omega arith)).inside_befores
 
 pub loop-at-smaller : goal.loop-at-smaller
 loop-at-smaller g c =
     let w = c.loop-at.invariant in
-    (term_at_hand c.args.filings.now c.args.links.now c.args.school w.older c.loop-at.at c.requires.linked w.along (omega arith)).lower _
+    (term_at_hand c.args.filings.now c.args.befores.now c.args.school w.older c.loop-at.at c.requires.linked w.along (omega arith)).lower _
 
 pub loop-at-preserved : goal.loop-at-preserved
 loop-at-preserved g c =
     let f = c.index-filings-index.result in
     let none : term_in c.args.year c.args.number f.what ≡ None =
     ap (λ (x : Filing). term_in c.args.year c.args.number x.what) c.index-filings-index.is ∙ sym c.term_here.ensures ∙ c.in_default.is in
-    term_step c.args.filings.now c.args.links.now c.args.school c.args.year c.args.number c.loop-at.at (record { at = 0; term = None }) c.loop-at.steps
+    term_step c.args.filings.now c.args.befores.now c.args.school c.args.year c.args.number c.loop-at.at (record { at = 0; term = None }) c.loop-at.steps
     c.args.steps.now c.requires.linked c.loop-at.invariant (omega arith)
     f c.index-filings-index.is _ (record { at = 0; term = None }) _ (omega arith)
     (sym (ap (λ (o : Option Term). cond (is_some o) c.loop-at.at 0) none)) (sym (ap (λ (o : Option Term). later o None) none))
 
 pub returns-in-Some-clause-value : goal.returns-in-Some-clause-value
 returns-in-Some-clause-value g c =
-    term_found c.args.filings.now c.args.links.now c.args.school c.args.year c.args.number c.loop-at.at c.loop-at.steps c.args.steps.now
+    term_found c.args.filings.now c.args.befores.now c.args.school c.args.year c.args.number c.loop-at.at c.loop-at.steps c.args.steps.now
     c.requires.legal c.requires.linked c.loop-at.invariant (omega arith)
     c.index-filings-index.result c.index-filings-index.is c.in-Some.term
     (ap (λ (x : Filing). term_in c.args.year c.args.number x.what) c.index-filings-index.is ∙ sym c.term_here.ensures ∙ c.in-Some.is)
@@ -46,7 +46,7 @@ returns-in-Some-clause-value g c =
 pub returns-in-Some-clause-cost : goal.returns-in-Some-clause-cost
 returns-in-Some-clause-cost g c =
     let looks =
-    found_looks c.args.filings.now c.args.links.now c.args.school c.args.year c.args.number c.loop-at.at c.loop-at.steps c.args.steps.now
+    found_looks c.args.filings.now c.args.befores.now c.args.school c.args.year c.args.number c.loop-at.at c.loop-at.steps c.args.steps.now
     c.requires.legal c.requires.linked c.loop-at.invariant (omega arith) in
     omega (arith, looks, c.tick.ensures)
 

@@ -1,4 +1,4 @@
-use Rattle.std.proofs.Common.{◌≡◌, ℕ, ◌+◌, ◌≤◌, ◌∷◌, [], List, ap, length, reverse, subst, sym, ◌∙◌}
+use Rattle.std.proofs.Common.{◌≡◌, ℕ, ◌+◌, ◌≤◌, ◌∷◌, ◌++◌, [], List, ap, length, reverse, subst, sym, ◌∙◌}
 use Rattle.std.proofs.lemmas.List.{reverse-append}
 use Rattle.std.specs.Option.{option_copied}
 use Rattle.aid_filings.specs.declared.filing.Filing.{Filing}
@@ -130,6 +130,7 @@ invariant_of-self c =
       places = c.self.inside.places.rows;
       years = c.self.inside.years.rows;
       school_years = c.self.inside.school_years.rows;
+      befores = c.self.inside.befores.items;
       links = c.self.inside.links.items;
     } in
     let new : IndexRows = record {
@@ -140,7 +141,8 @@ invariant_of-self c =
       places = c.write-slot.new.rows.rows;
       years = c.write.new.rows.rows;
       school_years = c.write-2.new.rows.rows;
-      links = c.push_reserved.new.self.items;
+      befores = c.push_reserved.new.self.items;
+      links = c.push_reserved-2.new.self.items;
     } in
     let view : reverse filings ≡ past = ap (λ (r : Register). r.history) c.self.view_is in
     let before : IsIndexed past c.self.inside.outcomes.items old =
@@ -157,12 +159,13 @@ invariant_of-self c =
       places = places_after past f w.place old.places new.places c.write-slot.ensures.values before.places written.place;
       years = years_after past f w.year old.years new.years c.write.ensures.values before.years written.year;
       school_years = school_years_after past f w.school_year old.school_years new.school_years c.write-2.ensures.values before.school_years written.school_year;
-      links = subst (λ (l : List Link). AreLinked (f ∷ past) new.places l) (sym c.push_reserved.ensures.items)
-          (c.link_of.ensures past old.places new.places old.links
+      links = subst (λ (l : List Link). AreLinked (f ∷ past) new.places new.befores l) (sym c.push_reserved-2.ensures.items)
+          (subst (λ (ns : List ℕ). AreLinked (f ∷ past) new.places ns (old.links ++ c.link_of.result ∷ [])) (sym c.push_reserved.ensures.items)
+          (c.link_of.ensures past old.places new.places old.befores c.newest_before-before.result old.links
           (linkable past f w old.places new.places c.newest_before-before.result c.write-slot.result c.term_of-school_at.result.0 c.term_of-school_at.result.1
           c.requires.legal written c.write-slot.ensures.stays
           (λ name row is. placed_there name new.places c.write-slot.result (c.write-slot.ensures.slot name row is)) c.newest_before-before.ensures c.term_of-school_at.ensures)
-          before.links);
+          before.links));
     } in
     let more : HaveOneMore old new = record {
       keys = c.write_key.ensures.count;
@@ -173,14 +176,14 @@ invariant_of-self c =
       years = c.write.ensures.count;
       school_years = c.write-2.ensures.count;
     } in
-    let grown : reverse c.push_reserved-2.new.self.items ≡ f ∷ past =
-    ap (λ (l : List Filing). reverse l) c.push_reserved-2.ensures.items ∙ reverse-append filings (f ∷ []) ∙ ap (λ (l : List Filing). f ∷ l) view in
+    let grown : reverse c.push_reserved-3.new.self.items ≡ f ∷ past =
+    ap (λ (l : List Filing). reverse l) c.push_reserved-3.ensures.items ∙ reverse-append filings (f ∷ []) ∙ ap (λ (l : List Filing). f ∷ l) view in
     let some : 1 ≤ c.self.inside.spare = subst (λ (n : ℕ). 1 ≤ n) (sym (ap (λ (r : Register). r.spare) c.self.view_is)) c.requires.room in (
-      index_grown past (reverse c.push_reserved-2.new.self.items) f c.self.inside.outcomes.items c.push_reserved-3.new.self.items c.args.outcome old new grown
-          c.push_reserved-3.ensures.items c.requires.legal c.requires.outcome before rows more,
-      places_left c.self.inside.spare _ _ _ _ some c.self.invariant.1 c.push_reserved-2.ensures.len c.push_reserved-2.ensures.capacity,
-      places_left c.self.inside.spare _ _ _ _ some c.self.invariant.2 c.push_reserved-3.ensures.len c.push_reserved-3.ensures.capacity,
-      places_left c.self.inside.spare _ _ _ _ some c.self.invariant.3 c.push_reserved.ensures.len c.push_reserved.ensures.capacity,
+      index_grown past (reverse c.push_reserved-3.new.self.items) f c.self.inside.outcomes.items c.push_reserved-4.new.self.items c.args.outcome old new grown
+          c.push_reserved-4.ensures.items c.requires.legal c.requires.outcome before rows more,
+      places_left c.self.inside.spare _ _ _ _ some c.self.invariant.1 c.push_reserved-3.ensures.len c.push_reserved-3.ensures.capacity,
+      places_left c.self.inside.spare _ _ _ _ some c.self.invariant.2 c.push_reserved-4.ensures.len c.push_reserved-4.ensures.capacity,
+      places_left c.self.inside.spare _ _ _ _ some c.self.invariant.3 c.push_reserved-2.ensures.len c.push_reserved-2.ensures.capacity,
       room_left c.self.inside.spare _ _ c.self.invariant.4 c.write_key.ensures.room,
       room_left c.self.inside.spare _ _ c.self.invariant.5 c.write_book.ensures.room,
       room_left c.self.inside.spare _ _ c.self.invariant.6 c.write_school.ensures.room,
@@ -188,4 +191,5 @@ invariant_of-self c =
       room_left c.self.inside.spare _ _ c.self.invariant.8 c.write-slot.ensures.room,
       room_left c.self.inside.spare _ _ c.self.invariant.9 c.write.ensures.room,
       room_left c.self.inside.spare _ _ c.self.invariant.10 c.write-2.ensures.room,
+      places_left c.self.inside.spare _ _ _ _ some c.self.invariant.11 c.push_reserved.ensures.len c.push_reserved.ensures.capacity,
     )
