@@ -12,7 +12,7 @@ use Rattle.std.proofs.lemmas.Bool.{cases_lt}
 use Rattle.std.proofs.lemmas.Cmp.{eq_by_cmp_equiv, alike_right}
 use Rattle.std.proofs.lemmas.Map.{lookup-insert, lookup-set_value, none_passes_from_lookup, keys-set_value}
 use Rattle.std.proofs.lemmas.Map.Entries.{lookup_at_gap}
-use Rattle.std.proofs.lemmas.Option.{slice_get-get_or, none-some}
+use Rattle.std.proofs.lemmas.Option.{slice_get-get_or, slice_get_within, none-some}
 use Rattle.sorted_rows.specs.Places.{IsHere, IsGap, IsAfterSmaller, IsBeforeGreater}
 
 pub some_same : {X : Type 0} (x y : X) → Some x ≡ Some y → x ≡ y
@@ -105,6 +105,14 @@ module _ {K V : Type 0} {R : K → K → Ordering} (o : IsTotalOrder R) where
 
   pub gap_in : (k : K) (slice rows : List (K × V)) (i : ℕ) → slice ≡ rows → IsGap R k slice i → IsGap R k rows i
   gap_in k slice rows i same gap = subst (λ (xs : List (K × V)). IsGap R k xs i) same gap
+
+  -- behind all rows a key that comes after the last has its gap
+  pub gap_last : (k : K) (rows : List (K × V)) → IsAfterSmaller R k rows (length rows) → IsGap R k rows (length rows)
+  gap_last k rows last = record {
+    in_range = omega arith;
+    before = last;
+    after = λ e at. let inside = slice_get_within rows (length rows) e at in absurd (omega arith);
+  }
 
   -- a row written over
   pub set_same : (k : K) (rows : List (K × V)) (i : ℕ) (e : K × V) (w : V) → IsStrictlySortedBy R (keys_of rows) → IsHere R k rows i → slice_get rows i ≡ Some e → set rows i (e.0, w) ≡ set_value (is_at (R k)) rows w

@@ -1,4 +1,4 @@
-//! The table: most rows in one sorted list, and in a short one those of new keys that came before others.
+//! The table: most rows in one sorted list, and in a short one new keys that wait to be merged.
 ghost use Rattle.std.specs.Prelude.{◌≡◌, ◌+◌, ◌*◌, ◌<◌, ◌≤◌, ◌^◌, [], ℕ, Some, None, OnOk, OnErr, cond, max, length};
 ghost use Rattle.std.specs.Option.{is_none};
 ghost use Rattle.sorted_rows.specs.Places.{IsWritten, tail_looks, value_at};

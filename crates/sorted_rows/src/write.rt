@@ -1,9 +1,9 @@
 //! The write of a row into the main rows or the tail.
-ghost use Rattle.std.specs.Prelude.{◌≡◌, ◌+◌, ◌<◌, ◌≤◌, ◌++◌, true, false, None, IsSome, cond, vec_len, vec_capacity};
+ghost use Rattle.std.specs.Prelude.{◌≡◌, ◌+◌, ◌<◌, ◌≤◌, ◌++◌, true, false, None, IsSome, cond, length, vec_len, vec_capacity};
 ghost use Rattle.std.specs.List.Sorted.{IsStrictlySortedBy};
 ghost use Rattle.std.specs.Map.{keys_of};
 ghost use Rattle.std.specs.Option.{is_none};
-ghost use Rattle.sorted_rows.specs.Places.{AreApart, IsWritten, tail_size, value_at};
+ghost use Rattle.sorted_rows.specs.Places.{AreApart, IsAfterSmaller, IsWritten, tail_size, value_at};
 
 use crate::find::{is_last, place_of};
 use crate::merge::merge_long;
@@ -84,10 +84,23 @@ pub(crate) fn add<K: Ord + Copy, V: Copy>(
     ensures count { vec_len main.new + vec_len tail.new ≡ vec_len main.old + vec_len tail.old + 1 }
 {
     if is_last(main.as_slice(), &key) {
-        let _ = put(main, key, value);
+        append(main, key, value);
     } else {
         let _ = write_new(main, tail, key, value);
     }
+}
+
+/// Writes the value of a key behind all rows, after which it comes. The rows have a place.
+fn append<K: Ord + Copy, V: Copy>(rows: &mut Vec<(K, V)>, key: K, value: V)
+    requires sorted { IsStrictlySortedBy K.cmp (keys_of rows.old.items) }
+    requires last { IsAfterSmaller K.cmp key rows.old.items (length rows.old.items) }
+    requires room { vec_len rows.old < vec_capacity rows.old }
+    ensures sorted { IsStrictlySortedBy K.cmp (keys_of rows.new.items) }
+    ensures values { IsWritten K.cmp key value rows.old.items rows.new.items }
+    ensures count { vec_len rows.new ≡ vec_len rows.old + 1 }
+    ensures capacity { vec_capacity rows.new ≡ vec_capacity rows.old }
+{
+    rows.push_reserved((key, value));
 }
 
 /// Writes the value of a key if the rows have it, and answers whether they do.
