@@ -7,7 +7,6 @@ use Rattle.std.proofs.lemmas.List.{length-reverse, reverse-append, reverse-rever
 use Rattle.std.proofs.lemmas.Option.{get_or_from_slice_get, slice_get_within}
 use Rattle.sorted_rows.specs.Places.{value_at}
 use Rattle.aid_filings.specs.Calendars.{term_of}
-use Rattle.aid_filings.specs.declared.filing.EnrolFacts.{EnrolFacts}
 use Rattle.aid_filings.specs.declared.filing.Filing.{Filing}
 use Rattle.aid_filings.specs.declared.filing.SchoolFacts.{SchoolFacts}
 use Rattle.aid_filings.specs.declared.filing.What.{What}
@@ -165,16 +164,17 @@ module _ (h : List Filing) (rows : List (StudentPlace × PlaceRow)) (f : Filing)
       (read_tells (λ g. school_in f.key.school g.what) h l.school_at e.placed.school (subst (λ (n : ℕ). 0 < n) (sym e.placed.school) e.school_stands) d)
       (some_told (λ g. school_in f.key.school g.what) (reverse h) e.school_stands)
 
-  -- the row at the slot that the link tells is the one of its place
-  pub row_read : ArePlaces (reverse h) rows → (name : StudentPlace) (row : PlaceRow) → slice_get rows l.slot ≡ Some (name, row) → value_at place_cmp name rows ≡ Some row →
-      row ≡ place_row (reverse h) f.key.school e.facts.student e.facts.year e.facts.term
-  row_read are name row here own =
-      let both : ◌≡◌ {A = Option (StudentPlace × PlaceRow)} (Some (name, row)) (Some (place_name f.key.school e.facts, e.placed.row)) = sym here ∙ e.placed.slot in
-      let named : name ≡ place_name f.key.school e.facts = first_part both in
-      ap place_or (sym own) ∙ ap (λ (n : StudentPlace). place_or (value_at place_cmp n rows)) named ∙ are f.key.school e.facts.student e.facts.year e.facts.term
+  -- the row at the slot that the link tells is the one of its place, and has its name
+  pub name_read : (name : StudentPlace) (row : PlaceRow) → slice_get rows l.slot ≡ Some (name, row) → name ≡ place_name f.key.school e.facts
+  name_read name row here = first_part (sym here ∙ e.placed.slot)
     where
       first_part : {x y : StudentPlace × PlaceRow} → ◌≡◌ {A = Option (StudentPlace × PlaceRow)} (Some x) (Some y) → x.0 ≡ y.0
       first_part {x} {y} e = let same : x ≡ y = cc in ap (λ (z : StudentPlace × PlaceRow). z.0) same
+
+  pub row_read : ArePlaces (reverse h) rows → (name : StudentPlace) (row : PlaceRow) → slice_get rows l.slot ≡ Some (name, row) → value_at place_cmp name rows ≡ Some row →
+      row ≡ place_row (reverse h) f.key.school e.facts.student e.facts.year e.facts.term
+  row_read are name row here own =
+      ap place_or (sym own) ∙ ap (λ (n : StudentPlace). place_or (value_at place_cmp n rows)) (name_read name row here) ∙ are f.key.school e.facts.student e.facts.year e.facts.term
 
   pub pell_read : (row : PlaceRow) → row ≡ place_row (reverse h) f.key.school e.facts.student e.facts.year e.facts.term →
       slice_index row.account.paid 3 - slice_index row.account.taken 3 ≡ pell_term (reverse h) f.key.school e.facts.student e.facts.year e.facts.term
@@ -247,16 +247,6 @@ module _ (past : List Filing) (rows : List (StudentPlace × PlaceRow)) (f : Fili
       ap (over_in past award student year f.key.school) e.filed
       ∙ ap (λ (b : Bool). if_own (b && e.facts.year == year) (term_over_in past award student f.key.school year e.facts.term)) own_student
       ∙ ap (λ (s : ℕ). if_own (e.facts.year == year) (term_over_in past award s f.key.school year e.facts.term)) (sym (eqb-true e.facts.student student own_student))
-
-  pub own_facts : (w : EnrolFacts) → f.what ≡ Enrol w → e.facts ≡ w
-  own_facts w is = let both : Enrol e.facts ≡ Enrol w = sym e.filed ∙ is in cc
-
-  pub of_year : (w : EnrolFacts) → f.what ≡ Enrol w → (year : ℕ) → false ≡ not (w.year == year) → (e.facts.year == year) ≡ true
-  of_year w is year h = ap (λ (x : EnrolFacts). x.year == year) (own_facts w is) ∙ yes (w.year == year) h
-    where
-      yes : (b : Bool) → false ≡ not b → b ≡ true
-      yes true h = refl
-      yes false h = absurd cc
 
   over_here : (award year kept bound : ℕ) → (e.facts.year == year) ≡ true → kept ≡ pell_term past f.key.school e.facts.student e.facts.year e.facts.term →
       bound ≡ payment_at past award f.key.school e.facts.student e.facts.year e.facts.term →

@@ -14,13 +14,13 @@ use Rattle.office_history.specs.Past.{terms_on_file}
 use Rattle.office_history.specs.Rows.{is_enrolment}
 use Rattle.office_history.specs.declared.rows.PlaceRow.{PlaceRow}
 use Rattle.office_links.specs.Enrolments.{IsEnrolment, earlier_over, first_over, is_beside, least_school, over_of, refusal_of}
-use Rattle.office_links.specs.Links.{AreLinked, first_enrolments, is_enrolled, is_first_of, newest_place, places_of}
+use Rattle.office_links.specs.Links.{AreLinked, first_enrolments, is_enrolled, is_first_of, places_of}
 use Rattle.office_links.specs.declared.enrolments.Over.{Over}
 use Rattle.office_links.specs.declared.links.Link.{Link}
 use Rattle.office_history.specs.declared.names.StudentPlace.{StudentPlace}
 use Rattle.office_links.proofs.EnrolmentsFirst.{enrols}
 use Rattle.office_links.proofs.EnrolmentsTerms.{code_beside, over_told}
-use Rattle.office_links.proofs.LinksChain.{IsAlong, IsStep, along_end, along_start, along_step, enrolments_tell, passing_end, passing_step}
+use Rattle.office_links.proofs.LinksChain.{IsAlong, IsStep, along_end, along_step, enrolments_tell, passing_end, passing_step}
 use Rattle.office_links.proofs.LinksMore.{enrolled_on_file}
 
 -- the filing and the link at the position of a walk
@@ -79,16 +79,6 @@ pub record IsBesideWalk (past : List Filing) (school student : ℕ) (this : Term
   pub few : steps + 4 * places_of older student ≤ begun + 4 * places_of past student
   pub counted : begun + 2 * places_of past student ≤ steps + 2 * places_of older student
 
-pub beside_start : (past : List Filing) (school student : ℕ) (this : Term) (newest steps : ℕ) → newest ≡ newest_place past student →
-    IsBesideWalk past school student this newest 0 steps steps
-beside_start past school student this newest steps e = record {
-  older = past;
-  along = along_start (is_first_of student) past newest e;
-  value = refl;
-  few = omega arith;
-  counted = omega arith;
-}
-
 pub beside_step : (h : List Filing) (befores : List ℕ) (links : List Link) (rows : List (StudentPlace × PlaceRow)) (school student : ℕ) (this : Term) (n least steps begun : ℕ) →
     IsLegal (reverse h) → AreLinked (reverse h) rows befores links → IsBesideWalk (reverse h) school student this n least steps begun → 0 < n →
     (f : Filing) → f ≡ get_or h (n - 1) f → (k : ℕ) (next later : ℕ) →
@@ -129,16 +119,6 @@ pub record IsOverWalk (past : List Filing) (award student year position : ℕ) (
   pub value : first_over (over_of past award student year) (first_enrolments past student) None ≡ first_over (over_of past award student year) (first_enrolments older student) first
   pub few : steps + 4 * places_of older student ≤ begun + 4 * places_of past student
   pub counted : begun + 2 * places_of past student ≤ steps + 2 * places_of older student
-
-pub over_start : (past : List Filing) (award student year newest steps : ℕ) → newest ≡ newest_place past student →
-    IsOverWalk past award student year newest None steps steps
-over_start past award student year newest steps e = record {
-  older = past;
-  along = along_start (is_first_of student) past newest e;
-  value = refl;
-  few = omega arith;
-  counted = omega arith;
-}
 
 pub over_step : (h : List Filing) (befores : List ℕ) (links : List Link) (rows : List (StudentPlace × PlaceRow)) (award student year n : ℕ) (first : Option Over) (steps begun : ℕ) →
     IsLegal (reverse h) → AreLinked (reverse h) rows befores links → IsOverWalk (reverse h) award student year n first steps begun → 0 < n →

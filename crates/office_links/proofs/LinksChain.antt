@@ -1,8 +1,8 @@
--- Chains: the link of a filing that passes a test leads to the one before it that passes.
-use Rattle.std.proofs.Common.{◌≡◌, ℕ, ◌+◌, ◌-◌, ◌<◌, ◌≤◌, refl, sym, ap, subst, ◌∙◌, arith, cond, Bool, true, false, List, [], ◌∷◌, ◌++◌, length, map, reverse, get_or, append_assoc, length-append, eqb-true}
+-- Chains: what is kept of a filing that passes a test is the position of the one before it that passes.
+use Rattle.std.proofs.Common.{◌≡◌, ℕ, ◌+◌, ◌-◌, ◌<◌, ◌≤◌, refl, sym, ap, subst, ◌∙◌, arith, cond, Bool, true, false, List, [], ◌∷◌, ◌++◌, length, reverse, get_or, append_assoc, length-append, eqb-true}
 use Rattle.std.specs.Prelude.{◌==◌}
 use Rattle.std.proofs.Math.Seq.{get_or-append_seam}
-use Rattle.std.proofs.lemmas.List.{get_or-map, get_or_append_left, length-map, length-reverse, reverse-reverse}
+use Rattle.std.proofs.lemmas.List.{get_or_append_left, length-reverse, reverse-reverse}
 use Rattle.std.proofs.lemmas.Bool.{and_parts}
 use Rattle.aid_types.specs.declared.number.Key.{Key}
 use Rattle.aid_filings.specs.declared.filing.Filing.{Filing}
@@ -61,7 +61,7 @@ module _ (p : List Filing → Filing → Bool) where
       go true ih = omega arith
       go false ih = omega arith
 
--- the link of a filing that passes tells where the one before it stands
+-- the one before a filing that passes is the newest before it that passes
 abbrev pub Tells : (List Filing → Filing → Bool) → Type 0
 Tells p = (older : List Filing) (f : Filing) → p older f ≡ true → before_in older f.key.school f.what ≡ last_at p older
 
@@ -111,7 +111,7 @@ enrolments_tell student older f h = go f.key f.what h
     go key (Repay b) h = absurd cc
     go key (Adjust b) h = absurd cc
 
--- what the links tell of the filing at an index
+-- where the one before the filing at an index stands
 pub befores_length : (past : List Filing) → length (befores_of past) ≡ length past
 befores_length [] = refl
 befores_length (f ∷ past) =

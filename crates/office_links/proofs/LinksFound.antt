@@ -1,5 +1,5 @@
 -- A term of a school that is found: no older one has its year and number, so a walk may end there.
-use Rattle.std.proofs.Common.{◌≡◌, ℕ, ◌+◌, ◌-◌, ◌*◌, ◌<◌, ◌≤◌, refl, sym, ap, subst, ◌∙◌, arith, cond, Bool, true, false, ◌&&◌, List, ◌∷◌, ◌++◌, map, reverse, get_or, Option, Some, None, append_assoc, eqb-true}
+use Rattle.std.proofs.Common.{◌≡◌, ℕ, ◌+◌, ◌-◌, ◌*◌, ◌<◌, ◌≤◌, refl, sym, ap, subst, ◌∙◌, arith, cond, Bool, true, false, ◌&&◌, List, ◌∷◌, ◌++◌, reverse, get_or, Option, Some, None, append_assoc, eqb-true}
 use Rattle.std.specs.Prelude.{◌==◌, is_some}
 use Rattle.std.proofs.lemmas.Bool.{and_parts}
 use Rattle.aid_types.specs.declared.number.Key.{Key}

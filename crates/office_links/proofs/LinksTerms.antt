@@ -1,5 +1,5 @@
 -- A walk along the terms of a school: the older filings that are left may still tell what goes before what was found so far.
-use Rattle.std.proofs.Common.{◌≡◌, ℕ, zero, suc, ◌+◌, ◌-◌, ◌*◌, ◌<◌, ◌≤◌, refl, sym, ap, ◌∙◌, arith, cond, Bool, true, false, ◌&&◌, not, List, [], ◌∷◌, length, map, reverse, get_or, Option, Some, None}
+use Rattle.std.proofs.Common.{◌≡◌, ℕ, zero, suc, ◌+◌, ◌-◌, ◌*◌, ◌<◌, ◌≤◌, refl, sym, ap, ◌∙◌, arith, cond, Bool, true, false, ◌&&◌, not, List, [], ◌∷◌, length, reverse, get_or, Option, Some, None}
 use Rattle.std.specs.Prelude.{◌==◌, count_by, is_some}
 use Rattle.std.specs.List.{cons_option, filter}
 use Rattle.std.proofs.lemmas.List.Sums.{count_by-le-length, sum_by-cons}

@@ -1,4 +1,5 @@
--- Of each term of a school, and of each first enrolment of a student in a term, where the one before it stands; and links.
+-- Of each term of a school, and of each first enrolment of a student in a term, where the one before it stands; and the links of
+-- enrolments.
 use Rattle.std.specs.Prelude.{◌≡◌, ℕ, ◌+◌, ◌==◌, ◌&&◌, Bool, true, false, List, [], ◌∷◌, ◌++◌, length, reverse, Some, is_some, not, if◌then◌else◌}
 use Rattle.std.specs.List.{list_any, slice_get}
 use Rattle.aid_filings.specs.declared.filing.EnrolFacts.{EnrolFacts}
@@ -84,7 +85,7 @@ pub record IsPlaced (past : List Filing) (rows : List (StudentPlace × PlaceRow)
   pub school : l.school_at ≡ school_at past f.key.school
   pub term : l.term_at ≡ term_at past f.key.school e.year e.term
 
--- where the ones before a history's filings stand, and the links of these, the oldest first
+-- of a history's filings, the oldest first: where the one before each stands, and the link of each
 pub record AreLinked (past : List Filing) (rows : List (StudentPlace × PlaceRow)) (befores : List ℕ) (links : List Link) : Type 0 where
   pub befores_are : befores ≡ befores_of past
   pub count : length links ≡ length past

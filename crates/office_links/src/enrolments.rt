@@ -1,7 +1,8 @@
 //! Walks along a student's first enrolments, from the newest to the oldest, so that each term at a school in which the student
-//! is enrolled is visited once. A step is a look at where the one before stands, at an enrolment and its link, at the row of a
-//! place, or at the filing of a school or a term.
+//! is enrolled is visited once. A step is a look at the link of an enrolment, at where the one before it stands, at the row of
+//! its place, or at the filing of its school or its term.
 ghost use Rattle.std.specs.Prelude.{◌≡◌, ◌+◌, ◌-◌, ◌*◌, ◌≤◌, ◌<◌, ℕ, true, Some, length, reverse, slice_index};
+ghost use Rattle.aid_filings.specs.declared.filing.Filing.{Filing as Filed};
 ghost use Rattle.aid_types.specs.declared.term.Term.{Term as TermData};
 ghost use Rattle.enrolment.specs.Terms.{intensity_of, payment_of};
 ghost use Rattle.office_history.specs.Answer.{IsLegal};
@@ -60,18 +61,9 @@ pub fn paid_beside<L: Ledger>(
     let mut at = newest;
     while 0 < at {
         let index = at as usize - 1;
-        steps.tick(); // the filing, with its link
+        steps.tick(); // the link
+        least = with_beside(filings, places, &links[index], school, term, least, steps);
         steps.tick(); // where the one before it stands
-        least = with_beside(
-            filings,
-            places,
-            &filings[index],
-            &links[index],
-            school,
-            term,
-            least,
-            steps,
-        );
         at = befores[index];
     }
     least
@@ -81,7 +73,6 @@ pub fn paid_beside<L: Ledger>(
 fn with_beside<L: Ledger>(
     filings: &[Filing],
     places: &Slots<StudentPlace, PlaceRow>,
-    filing: &Filing,
     link: &Link,
     school: School,
     this: &Term,
@@ -89,14 +80,15 @@ fn with_beside<L: Ledger>(
     steps: &mut Steps<L>,
 ) -> u32
     requires rows { ArePlaces (reverse filings.now) places.now.rows }
-    requires enrolment { IsEnrolment (reverse filings.now) places.now.rows filing.now link.now }
-    ensures value { (student : ℕ) → is_enrolled student filing.now ≡ true
-        → result ≡ lesser_code (is_beside (reverse filings.now) school student this.now filing.now) filing.now.key.school least }
+    requires enrolment { (f : Filed) × IsEnrolment (reverse filings.now) places.now.rows f link.now }
+    ensures value { (f : Filed) (student : ℕ) → IsEnrolment (reverse filings.now) places.now.rows f link.now → is_enrolled student f ≡ true
+        → result ≡ lesser_code (is_beside (reverse filings.now) school student this.now f) f.key.school least }
     ensures cost { steps.new ≤ steps.old + 2 }
     ensures later { steps.old ≤ steps.new }
 {
-    if is_paid_beside(filings, places, filing, link, school, this, steps) {
-        lesser(filing.key.school.0, least)
+    if is_paid_beside(filings, places, link, school, this, steps) {
+        // The row was looked at.
+        lesser(places.row(link.slot).0.school, least)
     } else {
         least
     }
@@ -113,24 +105,24 @@ fn lesser(code: u32, least: u32) -> u32
 fn is_paid_beside<L: Ledger>(
     filings: &[Filing],
     places: &Slots<StudentPlace, PlaceRow>,
-    filing: &Filing,
     link: &Link,
     school: School,
     this: &Term,
     steps: &mut Steps<L>,
 ) -> bool
     requires rows { ArePlaces (reverse filings.now) places.now.rows }
-    requires enrolment { IsEnrolment (reverse filings.now) places.now.rows filing.now link.now }
-    ensures value { (student : ℕ) → is_enrolled student filing.now ≡ true → result ≡ is_beside (reverse filings.now) school student this.now filing.now }
+    requires enrolment { (f : Filed) × IsEnrolment (reverse filings.now) places.now.rows f link.now }
+    ensures value { (f : Filed) (student : ℕ) → IsEnrolment (reverse filings.now) places.now.rows f link.now → is_enrolled student f ≡ true
+        → result ≡ is_beside (reverse filings.now) school student this.now f }
     ensures cost { steps.new ≤ steps.old + 2 }
     ensures later { steps.old ≤ steps.new }
 {
-    // Most places hold none, so the filing is looked at last.
-    let row = &places.look(link.slot, steps).1;
-    if net_pell(&row.account) == 0 {
+    // Most places hold none.
+    let place = places.look(link.slot, steps);
+    if net_pell(&place.1.account) == 0 {
         return false;
     }
-    if filing.key.school == school {
+    if place.0.school == school.0 {
         return false;
     }
     steps.tick();
@@ -185,18 +177,10 @@ pub fn term_over<L: Ledger>(
     let mut at = newest;
     while 0 < at {
         let index = at as usize - 1;
-        steps.tick(); // the filing, with its link
-        steps.tick(); // where the one before it stands
-        let over = over_in(
-            filings,
-            places,
-            &filings[index],
-            &links[index],
-            award,
-            year,
-            steps,
-        );
+        steps.tick(); // the link
+        let over = over_in(filings, places, &links[index], award, year, steps);
         first = earlier(over, first);
+        steps.tick(); // where the one before it stands
         at = befores[index];
     }
     refusal(first)
@@ -206,7 +190,6 @@ pub fn term_over<L: Ledger>(
 fn over_in<L: Ledger>(
     filings: &[Filing],
     places: &Slots<StudentPlace, PlaceRow>,
-    filing: &Filing,
     link: &Link,
     award: u32,
     year: Year,
@@ -214,31 +197,28 @@ fn over_in<L: Ledger>(
 ) -> Option<Over>
     requires legal { IsLegal (reverse filings.now) }
     requires rows { ArePlaces (reverse filings.now) places.now.rows }
-    requires enrolment { IsEnrolment (reverse filings.now) places.now.rows filing.now link.now }
+    requires enrolment { (f : Filed) × IsEnrolment (reverse filings.now) places.now.rows f link.now }
     requires award { award ≤ 100000 }
-    ensures value { (student : ℕ) → is_enrolled student filing.now ≡ true → result ≡ over_of (reverse filings.now) award student year filing.now }
+    ensures value { (f : Filed) (student : ℕ) → IsEnrolment (reverse filings.now) places.now.rows f link.now → is_enrolled student f ≡ true
+        → result ≡ over_of (reverse filings.now) award student year f }
     ensures cost { steps.new ≤ steps.old + 2 }
     ensures later { steps.old ≤ steps.new }
 {
-    let school = filing.key.school;
-    let What::Enrol(enrolment) = &filing.what else {
-        return None;
-    };
-    if enrolment.year != year {
+    let place = places.look(link.slot, steps);
+    if place.0.year != year.0 {
         return None;
     }
-    let row = &places.look(link.slot, steps).1;
-    let kept = net_pell(&row.account);
+    let kept = net_pell(&place.1.account);
     steps.tick();
     let bound = payment(
         &filings[link.school_at as usize - 1].what,
-        row.credits,
+        place.1.credits,
         award,
     );
     if bound < kept {
         Some(Over {
-            school: school.0,
-            term: enrolment.term,
+            school: place.0.school,
+            term: place.0.term,
             kept,
             bound,
         })

@@ -25,7 +25,7 @@ const NOTHING: Link = Link {
 };
 
 /// The link of a filing that comes after others. An enrolment's tells the slot of the row of its place, and the positions of
-/// its school and of its term. Beside the links it is told of each filing where the one before it stands.
+/// its school and of its term. Where the one before each filing stands is kept in `befores`, a list beside the links.
 pub fn link_of(filing: &Filing, slot: u32, school_at: u32, term_at: u32) -> Link
     ensures { (past : List Filed) (old new : List (StudentPlace × PlaceRow)) (befores : List ℕ) (newest : ℕ) (links : List Linked)
         → IsLinkable past old new filing.now newest slot school_at term_at

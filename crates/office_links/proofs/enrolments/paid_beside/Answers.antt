@@ -14,11 +14,6 @@ returns-in_default-clause-value g c =
     sym (ap (λ (o : Option Term). least_code (is_paid_beside past c.args.school c.args.student o) (terms_on_file past)) c.in_default.is
     ∙ none_beside past c.args.school c.args.student (terms_on_file past))
 
-pub bounds-filings-index : goal.bounds-filings-index
-bounds-filings-index g c =
-    (step c.args.filings.now c.args.befores.now c.args.links.now c.args.places.now.rows c.args.student c.loop-at.invariant.older c.loop-at.at c.requires.legal c.requires.linked
-    c.loop-at.invariant.along c.loop-at-test.true).inside
-
 pub bounds-links-index : goal.bounds-links-index
 bounds-links-index g c =
     inside_links c.args.filings.now c.args.befores.now c.args.links.now c.args.places.now.rows c.args.student c.loop-at.invariant.older c.loop-at.at c.requires.legal c.requires.linked
@@ -31,8 +26,13 @@ bounds-befores-index g c =
 
 pub with_beside-least-requires-clause-enrolment : goal.with_beside-least-requires-clause-enrolment
 with_beside-least-requires-clause-enrolment g c =
-    enrolment_here c.args.filings.now c.args.befores.now c.args.links.now c.args.places.now.rows c.args.student c.loop-at.invariant.older c.loop-at.at c.requires.legal c.requires.linked
-    c.loop-at.invariant.along c.loop-at-test.true c.index-filings-index.result c.index-filings-index.is _
+    let s =
+    step c.args.filings.now c.args.befores.now c.args.links.now c.args.places.now.rows c.args.student c.loop-at.invariant.older c.loop-at.at c.requires.legal c.requires.linked
+    c.loop-at.invariant.along c.loop-at-test.true in (
+      s.filing,
+      enrolment_here c.args.filings.now c.args.befores.now c.args.links.now c.args.places.now.rows c.args.student c.loop-at.invariant.older c.loop-at.at c.requires.legal c.requires.linked
+          c.loop-at.invariant.along c.loop-at-test.true s.filing (sym (s.read s.filing)) _,
+    )
 
 pub loop-at-smaller : goal.loop-at-smaller
 loop-at-smaller g c =
@@ -42,12 +42,18 @@ loop-at-smaller g c =
 pub loop-at-preserved : goal.loop-at-preserved
 loop-at-preserved g c =
     let h = c.args.filings.now in
+    let s =
+    step c.args.filings.now c.args.befores.now c.args.links.now c.args.places.now.rows c.args.student c.loop-at.invariant.older c.loop-at.at c.requires.legal c.requires.linked
+    c.loop-at.invariant.along c.loop-at-test.true in
     let own =
-    enrolled_here h c.args.befores.now c.args.links.now c.args.places.now.rows c.args.student c.loop-at.invariant.older c.loop-at.at c.requires.legal c.requires.linked
-    c.loop-at.invariant.along c.loop-at-test.true c.index-filings-index.result c.index-filings-index.is in
+    enrolled_here c.args.filings.now c.args.befores.now c.args.links.now c.args.places.now.rows c.args.student c.loop-at.invariant.older c.loop-at.at c.requires.legal c.requires.linked
+    c.loop-at.invariant.along c.loop-at-test.true s.filing (sym (s.read s.filing)) in
+    let enrolment =
+    enrolment_here c.args.filings.now c.args.befores.now c.args.links.now c.args.places.now.rows c.args.student c.loop-at.invariant.older c.loop-at.at c.requires.legal c.requires.linked
+    c.loop-at.invariant.along c.loop-at-test.true s.filing (sym (s.read s.filing)) _ in
     beside_step h c.args.befores.now c.args.links.now c.args.places.now.rows c.args.school c.args.student c.in-Some.term c.loop-at.at c.loop-at.least c.loop-at.steps _
-    c.requires.legal c.requires.linked c.loop-at.invariant c.loop-at-test.true c.index-filings-index.result c.index-filings-index.is _
-    c.with_beside-least.result c.with_beside-least.new.steps (c.with_beside-least.ensures.value c.args.student own)
+    c.requires.legal c.requires.linked c.loop-at.invariant c.loop-at-test.true s.filing (sym (s.read s.filing)) _
+    c.with_beside-least.result _ (c.with_beside-least.ensures.value s.filing c.args.student enrolment own)
     (omega (arith, c.tick.ensures, c.tick-in-loop-at.ensures, c.with_beside-least.ensures.cost)) (omega (arith, c.tick.ensures, c.tick-in-loop-at.ensures, c.with_beside-least.ensures.later))
 
 pub returns-clause-value : goal.returns-clause-value

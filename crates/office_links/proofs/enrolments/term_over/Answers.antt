@@ -1,14 +1,9 @@
-use Rattle.std.proofs.Common.{◌∙◌, ap, arith, reverse, Option}
+use Rattle.std.proofs.Common.{◌∙◌, sym, ap, arith, reverse, Option}
 use Rattle.office_links.specs.Enrolments.{earlier_over}
 use Rattle.office_links.specs.declared.enrolments.Over.{Over}
 use Rattle.office_links.proofs.EnrolmentsFirst.{few_places}
 use Rattle.office_links.proofs.EnrolmentsWalk.{enrolled_here, enrolment_here, inside_links, over_end, over_looks, over_step, step}
 use Rattle.office_links.proofs.enrolments.term_over.Goals as goal
-
-pub bounds-filings-index : goal.bounds-filings-index
-bounds-filings-index g c =
-    (step c.args.filings.now c.args.befores.now c.args.links.now c.args.places.now.rows c.args.student c.loop-at.invariant.older c.loop-at.at c.requires.legal c.requires.linked
-    c.loop-at.invariant.along c.loop-at-test.true).inside
 
 pub bounds-links-index : goal.bounds-links-index
 bounds-links-index g c =
@@ -22,8 +17,13 @@ bounds-befores-index g c =
 
 pub over_in-over-requires-clause-enrolment : goal.over_in-over-requires-clause-enrolment
 over_in-over-requires-clause-enrolment g c =
-    enrolment_here c.args.filings.now c.args.befores.now c.args.links.now c.args.places.now.rows c.args.student c.loop-at.invariant.older c.loop-at.at c.requires.legal c.requires.linked
-    c.loop-at.invariant.along c.loop-at-test.true c.index-filings-index.result c.index-filings-index.is _
+    let s =
+    step c.args.filings.now c.args.befores.now c.args.links.now c.args.places.now.rows c.args.student c.loop-at.invariant.older c.loop-at.at c.requires.legal c.requires.linked
+    c.loop-at.invariant.along c.loop-at-test.true in (
+      s.filing,
+      enrolment_here c.args.filings.now c.args.befores.now c.args.links.now c.args.places.now.rows c.args.student c.loop-at.invariant.older c.loop-at.at c.requires.legal c.requires.linked
+          c.loop-at.invariant.along c.loop-at-test.true s.filing (sym (s.read s.filing)) _,
+    )
 
 pub loop-at-smaller : goal.loop-at-smaller
 loop-at-smaller g c =
@@ -33,13 +33,19 @@ loop-at-smaller g c =
 pub loop-at-preserved : goal.loop-at-preserved
 loop-at-preserved g c =
     let h = c.args.filings.now in
+    let s =
+    step c.args.filings.now c.args.befores.now c.args.links.now c.args.places.now.rows c.args.student c.loop-at.invariant.older c.loop-at.at c.requires.legal c.requires.linked
+    c.loop-at.invariant.along c.loop-at-test.true in
     let own =
-    enrolled_here h c.args.befores.now c.args.links.now c.args.places.now.rows c.args.student c.loop-at.invariant.older c.loop-at.at c.requires.legal c.requires.linked
-    c.loop-at.invariant.along c.loop-at-test.true c.index-filings-index.result c.index-filings-index.is in
+    enrolled_here c.args.filings.now c.args.befores.now c.args.links.now c.args.places.now.rows c.args.student c.loop-at.invariant.older c.loop-at.at c.requires.legal c.requires.linked
+    c.loop-at.invariant.along c.loop-at-test.true s.filing (sym (s.read s.filing)) in
+    let enrolment =
+    enrolment_here c.args.filings.now c.args.befores.now c.args.links.now c.args.places.now.rows c.args.student c.loop-at.invariant.older c.loop-at.at c.requires.legal c.requires.linked
+    c.loop-at.invariant.along c.loop-at-test.true s.filing (sym (s.read s.filing)) _ in
     over_step h c.args.befores.now c.args.links.now c.args.places.now.rows c.args.award c.args.student c.args.year c.loop-at.at c.loop-at.first c.loop-at.steps _
-    c.requires.legal c.requires.linked c.loop-at.invariant c.loop-at-test.true c.index-filings-index.result c.index-filings-index.is _
-    c.earlier-first.result c.over_in-over.new.steps
-    (c.earlier-first.ensures ∙ ap (λ (o : Option Over). earlier_over o c.loop-at.first) (c.over_in-over.ensures.value c.args.student own))
+    c.requires.legal c.requires.linked c.loop-at.invariant c.loop-at-test.true s.filing (sym (s.read s.filing)) _
+    c.earlier-first.result _
+    (c.earlier-first.ensures ∙ ap (λ (o : Option Over). earlier_over o c.loop-at.first) (c.over_in-over.ensures.value s.filing c.args.student enrolment own))
     (omega (arith, c.tick.ensures, c.tick-in-loop-at.ensures, c.over_in-over.ensures.cost)) (omega (arith, c.tick.ensures, c.tick-in-loop-at.ensures, c.over_in-over.ensures.later))
 
 pub returns-clause-value : goal.returns-clause-value
