@@ -218,8 +218,7 @@ fn use_before_this_office<L: Ledger>(
     let past = Plain::new(&filings);
     assert_eq!(rt; past.student(STUDENT, steps).used, 550_000);
     assert_eq!(rt; past.student(STRANGER, steps).used, 0);
-    let nets = past.year(STUDENT, YEAR, steps).nets;
-    assert_eq!(rt; nets.at(Program::Pell), 0);
+    assert_eq!(rt; past.year(STUDENT, YEAR, steps).nets.at(Program::Pell), 0);
     assert_eq!(rt;
         past.place(SCHOOL, STUDENT, YEAR, 1, steps).account,
         Account::EMPTY

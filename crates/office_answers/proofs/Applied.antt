@@ -1,5 +1,5 @@
 -- What an application brings under the book of its year, with its award.
-use Rattle.std.proofs.Common.{◌≡◌, ◌≤◌, ◌<◌, refl, sym, ap, subst, ◌∙◌, Bool, true, ◌&&◌, List, Option, Some, None, zero-le, eq-eqb, lt-ltb}
+use Rattle.std.proofs.Common.{◌≡◌, ◌≤◌, refl, sym, ap, subst, ◌∙◌, Bool, true, ◌&&◌, List, Option, Some, None, zero-le, eq-eqb}
 use Rattle.std.specs.Prelude.{◌==◌}
 use Rattle.aid_books.specs.declared.book.Book.{Book}
 use Rattle.aid_filings.specs.declared.filing.Filing.{Filing}
@@ -12,7 +12,7 @@ use Rattle.sai_index.specs.Formulas.{formula}
 use Rattle.sai_index.specs.Indices.{index_of}
 use Rattle.office_history.specs.Answer.{breaks, indexed, outcome_in}
 use Rattle.office_history.specs.Award.{award_under, scheduled_of, unfit_under}
-use Rattle.office_history.specs.Positions.{if_fit, transaction_of}
+use Rattle.office_history.specs.Positions.{if_fit}
 use Rattle.office_history.specs.Past.{application, given, higher, the_book}
 use Rattle.office_history.proofs.Awards.{correction, higher_wins}
 use Rattle.office_history.proofs.Greatest.{award_at_most}

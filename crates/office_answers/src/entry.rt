@@ -1,43 +1,45 @@
 //! What one filing moves in the student's term that it is about.
 ghost use Rattle.std.specs.Prelude.{◌≡◌, ◌∷◌, List, Some, is_some};
 ghost use Rattle.aid_filings.specs.declared.filing.Filing.{Filing as Filed};
-ghost use Rattle.aid_filings.specs.declared.filing.What.TheVariants.{Pay, Repay, Adjust};
+ghost use Rattle.aid_filings.specs.declared.filing.What.TheVariants.{Pay, Repay, Adjust, Withdraw};
+ghost use Rattle.aid_filings.specs.declared.filing.WithdrawFacts.{WithdrawFacts as Withdrawal};
 ghost use Rattle.aid_types.specs.declared.number.Key.{Key as Keyed};
 ghost use Rattle.office_history.specs.Answer.{IsLegal};
-ghost use Rattle.office_history.specs.Past.{the_withdrawal};
-ghost use Rattle.office_history.specs.Own.{IsOwnEntry, of_lines, own_place};
-ghost use Rattle.office_history.specs.Rows.{place_row};
+ghost use Rattle.office_history.specs.Past.{the_term, the_withdrawal};
+ghost use Rattle.office_history.specs.Positions.{withdrawn_at as withdrawal_at};
+ghost use Rattle.office_history.specs.Own.{IsOwnAccount, IsOwnEntry, of_lines, own_place};
 ghost use Rattle.office_history.specs.declared.place.Place.{Place};
 
 use crate::sheets::sheet_on_file;
 use aid_filings::{Amount, Filing, What};
-use aid_types::ByProgram;
-use office_history::{Account, OnFile, PlaceRow};
-use std::sync::ledger::Ledger;
-use steps::Steps;
+use aid_types::{ByProgram, Term};
+use office_history::{Account, OnFile};
 use withdrawal_returns::Lines;
 
-/// What a filing moves in the student's term that it is about, after what is on file; nothing where it moves no money. `row`
-/// is the row of that term before the filing.
-pub fn entry_of<P: OnFile, L: Ledger>(
+/// What a filing moves in the student's term that it is about, after what is on file; nothing where it moves no money. Of that
+/// term before the filing are told the position of the student's withdrawal from it, and what moved in it; and of a withdrawal the
+/// term on file.
+pub fn entry_of<P: OnFile>(
     past: &P,
     filing: &Filing,
-    row: &PlaceRow,
-    steps: &mut Steps<L>,
+    withdrawn_at: u32,
+    so_far: &Account,
+    term: &Option<Term>,
 ) -> Account
     requires legal { IsLegal (filing.now ∷ P.history past.now) }
-    requires row { (place : Place) → own_place filing.now.key filing.now.what ≡ Some place
-        → row.now ≡ place_row (P.history past.now) place.school place.student place.year place.term }
+    requires withdrawn { (p : Place) → own_place filing.now.key filing.now.what ≡ Some p
+        → withdrawn_at ≡ withdrawal_at (P.history past.now) p.school p.student p.year p.term }
+    requires account { IsOwnAccount (P.history past.now) (own_place filing.now.key filing.now.what) so_far.now }
+    requires term { (w : Withdrawal) → filing.now.what ≡ Withdraw w → term.now ≡ the_term (P.history past.now) filing.now.key.school w.year w.term }
     ensures { IsOwnEntry (P.history past.now) filing.now.key filing.now.what result }
 {
     match &filing.what {
         // A payment comes after the withdrawal from its term where there was one.
-        What::Pay(amount) => paid(amount, 0 < row.withdrawn_at),
+        What::Pay(amount) => paid(amount, 0 < withdrawn_at),
         What::Repay(amount) => repaid(amount),
         What::Adjust(amount) => adjusted(amount),
         What::Withdraw(facts) => {
-            let (_, row_of_term) = past.term(filing.key.school, facts.year, facts.term, steps);
-            returned(&sheet_on_file(past, &filing.key, facts, &row_of_term.term, &row.account))
+            returned(&sheet_on_file(past, &filing.key, facts, term, so_far))
         }
         _ => Account::EMPTY,
     }

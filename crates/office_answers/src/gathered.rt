@@ -1,6 +1,7 @@
 //! What is read of the filings so far to judge an application, a payment or a withdrawal: the facts that its rules are tried
-//! on, and what its outcome is worked out from. Each row is asked for once.
-ghost use Rattle.std.specs.Prelude.{◌≡◌, ◌+◌, ◌-◌, ◌*◌, ◌≤◌, Some, None, slice_index};
+//! on, and what its outcome is worked out from. Each row is asked for once, but for the book of an application, which is asked
+//! for with its position.
+ghost use Rattle.std.specs.Prelude.{◌≡◌, ◌+◌, ◌*◌, ◌≤◌, Some, None};
 ghost use Rattle.aid_types.specs.Programs.{rank as rank_of};
 ghost use Rattle.aid_filings.specs.declared.filing.What.TheVariants.{Apply, Withdraw};
 ghost use Rattle.office_history.specs.Answer.{indexed};
@@ -12,26 +13,26 @@ ghost use Rattle.office_history.specs.Rows.{place_row, student_row, term_row, te
 ghost use Rattle.office_answers.specs.Walked.{walked};
 
 use crate::applications::{award_in, brought_under, unfit};
-use crate::noted::desk_facts;
+use crate::noted::{desk_facts, net_of};
 use aid_filings::WithdrawFacts;
 use aid_replies::Outcome;
 use aid_types::{Application, Key, Program, School, Student, Year};
 use filing_rules::Facts;
 use lifetime_ledger::use_of;
-use office_history::{Account, OnFile, PlaceRow, StudentRow, TermRow, YearRow};
+use office_history::{OnFile, PlaceRow, StudentRow, TermRow, YearRow};
 use std::sync::ledger::Ledger;
 use steps::Steps;
 
 /// What an application reads, and what it brings under the book of its year, where it isn't out of range for it.
 #[derive(Clone, Copy)]
-pub(crate) struct ForApplication {
+pub(crate) struct ApplicationFacts {
     pub facts: Facts,
     pub brought: Outcome,
 }
 
 /// What a payment reads, and the year and the student before it.
 #[derive(Clone, Copy)]
-pub(crate) struct ForPayment {
+pub(crate) struct PaymentFacts {
     pub facts: Facts,
     pub year: YearRow,
     pub student: StudentRow,
@@ -39,7 +40,7 @@ pub(crate) struct ForPayment {
 
 /// What a payment and a withdrawal read alike, with the rows of the term, of the student's term and of the student's year.
 #[derive(Clone, Copy)]
-pub(crate) struct ForAid {
+pub(crate) struct AidFacts {
     pub facts: Facts,
     pub term: TermRow,
     pub place: PlaceRow,
@@ -48,12 +49,12 @@ pub(crate) struct ForAid {
 
 /// What an application reads, with what it brings.
 #[tactic(auto, using(crate::proofs::Applied::award_brought, crate::proofs::Applied::brought_at_most))]
-pub(crate) fn for_application<P: OnFile, L: Ledger>(
+pub(crate) fn application_facts<P: OnFile, L: Ledger>(
     past: &P,
     key: &Key,
     filed: &Application,
     steps: &mut Steps<L>,
-) -> ForApplication
+) -> ApplicationFacts
     ensures facts { result.facts ≡ facts_of (P.history past.now) key.now (Apply filed.now) }
     ensures brought { unfit_under (the_book (P.history past.now) filed.now.year) filed.now ≡ None
         → result.brought ≡ indexed (the_book (P.history past.now) filed.now.year) (Some filed.now) }
@@ -65,7 +66,7 @@ pub(crate) fn for_application<P: OnFile, L: Ledger>(
     let brought = brought_under(book, filed, &unfit);
     let next_scheduled = award_in(&brought);
     let (student, term_over) = past.over(next_scheduled, filed.student, filed.year, steps);
-    ForApplication {
+    ApplicationFacts {
         facts: Facts {
             book_at: past.book_at(filed.year, steps),
             transaction: year.transaction,
@@ -79,16 +80,6 @@ pub(crate) fn for_application<P: OnFile, L: Ledger>(
         },
         brought,
     }
-}
-
-/// The net of a program.
-pub(crate) fn net_of(account: &Account, program: Program) -> u64
-    ensures { result ≡ slice_index account.now.paid (rank_of program) - slice_index account.now.taken (rank_of program) }
-{
-    account
-        .paid
-        .at(program)
-        .saturating_sub(account.taken.at(program))
 }
 
 /// The lifetime units that a student has used but for those of one year.
@@ -112,14 +103,14 @@ pub(crate) fn used_else<P: OnFile>(
 }
 
 // What a payment and a withdrawal read alike, but for the use of other years.
-fn for_aid<P: OnFile, L: Ledger>(
+fn aid_facts<P: OnFile, L: Ledger>(
     past: &P,
     school: School,
     student: Student,
     award_year: Year,
     number: u8,
     steps: &mut Steps<L>,
-) -> ForAid
+) -> AidFacts
     ensures facts { result.facts ≡ record (aid_facts_of (P.history past.now) school student award_year number) { used_else = 0 } }
     ensures term { result.term ≡ term_row (P.history past.now) school award_year number }
     ensures place { result.place ≡ place_row (P.history past.now) school student award_year number }
@@ -130,7 +121,7 @@ fn for_aid<P: OnFile, L: Ledger>(
     let place = past.place(school, student, award_year, number, steps);
     let year = past.year(student, award_year, steps);
     let cost = past.school_year(school, student, award_year, steps);
-    ForAid {
+    AidFacts {
         facts: Facts {
             term_at: term.at,
             term: term.term,
@@ -153,7 +144,7 @@ fn for_aid<P: OnFile, L: Ledger>(
 }
 
 /// What a payment of a program reads, with the year and the student.
-pub(crate) fn for_payment<P: OnFile, L: Ledger>(
+pub(crate) fn payment_facts<P: OnFile, L: Ledger>(
     past: &P,
     school: School,
     student: Student,
@@ -161,16 +152,16 @@ pub(crate) fn for_payment<P: OnFile, L: Ledger>(
     number: u8,
     program: Program,
     steps: &mut Steps<L>,
-) -> ForPayment
+) -> PaymentFacts
     ensures facts { result.facts ≡ payment_facts_of (P.history past.now) school student year number (rank_of program) }
     ensures year { result.year ≡ year_row (P.history past.now) student year }
     ensures student { result.student ≡ student_row (P.history past.now) student }
     ensures cost { steps.new ≤ steps.old + 5 * P.looks past.now + 4 * walked (P.history past.now) school (Some student) }
 {
-    let aid = for_aid(past, school, student, year, number, steps);
+    let aid = aid_facts(past, school, student, year, number, steps);
     let (of_student, other_school) = past.beside(student, school, &aid.term.term, steps);
     let account = &aid.place.account;
-    ForPayment {
+    PaymentFacts {
         facts: Facts {
             used_else: used_else(past, student, year, &of_student, &aid.year),
             other_school,
@@ -186,19 +177,20 @@ pub(crate) fn for_payment<P: OnFile, L: Ledger>(
 }
 
 /// What a withdrawal reads, with its term and what moved in it.
-pub(crate) fn for_withdrawal<P: OnFile, L: Ledger>(
+pub(crate) fn withdrawal_facts<P: OnFile, L: Ledger>(
     past: &P,
     key: &Key,
-    w: &WithdrawFacts,
+    withdrawal: &WithdrawFacts,
     steps: &mut Steps<L>,
-) -> ForAid
-    ensures facts { result.facts ≡ facts_of (P.history past.now) key.now (Withdraw w.now) }
-    ensures term { result.term ≡ term_row (P.history past.now) key.now.school w.now.year w.now.term }
-    ensures place { result.place ≡ place_row (P.history past.now) key.now.school w.now.student w.now.year w.now.term }
-    ensures cost { steps.new ≤ steps.old + 5 * P.looks past.now + 4 * walked (P.history past.now) key.now.school (Some w.now.student) }
+) -> AidFacts
+    ensures facts { result.facts ≡ facts_of (P.history past.now) key.now (Withdraw withdrawal.now) }
+    ensures term { result.term ≡ term_row (P.history past.now) key.now.school withdrawal.now.year withdrawal.now.term }
+    ensures place { result.place ≡ place_row (P.history past.now) key.now.school withdrawal.now.student withdrawal.now.year withdrawal.now.term }
+    ensures cost { steps.new ≤ steps.old + 5 * P.looks past.now + 4 * walked (P.history past.now) key.now.school (Some withdrawal.now.student) }
 {
-    let mut aid = for_aid(past, key.school, w.student, w.year, w.term, steps);
-    let student = past.student(w.student, steps);
-    aid.facts.used_else = used_else(past, w.student, w.year, &student, &aid.year);
+    let (student, year) = (withdrawal.student, withdrawal.year);
+    let mut aid = aid_facts(past, key.school, student, year, withdrawal.term, steps);
+    let of_student = past.student(student, steps);
+    aid.facts.used_else = used_else(past, student, year, &of_student, &aid.year);
     aid
 }

@@ -1,5 +1,5 @@
-//! What is answered on what is on file, whatever keeps it: the facts of a filing, its verdict and its outcome, quotes, and
-//! where a student stands.
+//! What is answered on what is on file, whatever keeps it: the verdict on a filing and its outcome, quotes, and where a student
+//! stands; and what a filing moves.
 #![tactic(auto)]
 
 mod applications;

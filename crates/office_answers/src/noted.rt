@@ -1,17 +1,17 @@
 //! What the rules of a filing that is only noted read of the filings so far. Each row is asked for once.
-ghost use Rattle.std.specs.Prelude.{◌≡◌, ◌+◌, ◌*◌, ◌≤◌, None};
+ghost use Rattle.std.specs.Prelude.{◌≡◌, ◌+◌, ◌-◌, ◌*◌, ◌≤◌, None, slice_index};
 ghost use Rattle.aid_filings.specs.Students.{student_of};
 ghost use Rattle.aid_filings.specs.declared.filing.What.TheVariants.{Calendar, Enrol, Repay, Adjust};
+ghost use Rattle.aid_types.specs.Programs.{rank as rank_of};
 ghost use Rattle.office_history.specs.FactsOf.{facts_of, no_facts};
 ghost use Rattle.office_history.specs.Rows.{terms_at};
 ghost use Rattle.office_answers.specs.Noted.{IsNoted};
 ghost use Rattle.office_answers.specs.Walked.{walked};
 
-use crate::gathered::net_of;
 use aid_filings::{Amount, CalendarFacts, EnrolFacts, Filing, What};
 use aid_types::{Key, Program};
 use filing_rules::Facts;
-use office_history::{OnFile, SchoolRow};
+use office_history::{Account, OnFile, SchoolRow};
 use std::sync::ledger::Ledger;
 use steps::Steps;
 
@@ -70,6 +70,16 @@ pub(crate) fn desk_facts(filings: u32, school: &SchoolRow) -> Facts
         full: school.full,
         ..Facts::EMPTY
     }
+}
+
+/// The net of a program.
+pub(crate) fn net_of(account: &Account, program: Program) -> u64
+    ensures { result ≡ slice_index account.now.paid (rank_of program) - slice_index account.now.taken (rank_of program) }
+{
+    account
+        .paid
+        .at(program)
+        .saturating_sub(account.taken.at(program))
 }
 
 // What a term that is filed reads.

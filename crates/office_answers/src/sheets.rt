@@ -5,7 +5,7 @@ ghost use Rattle.aid_types.specs.Ranges.{EachIsCents};
 ghost use Rattle.enrolment.specs.Terms.{IsLawful, days_upto};
 ghost use Rattle.office_history.specs.Net.{sheet as sheet_after};
 ghost use Rattle.office_history.specs.Past.{the_term};
-ghost use Rattle.office_history.specs.Rows.{account_row};
+ghost use Rattle.office_history.specs.Accounts.{IsAccount};
 ghost use Rattle.office_history.specs.Sheets.{CanBeWorkedOut};
 ghost use Rattle.withdrawal_returns.specs.Worksheet.{worksheet_of};
 
@@ -44,7 +44,7 @@ pub(crate) fn sheet_on_file<P: OnFile>(
 ) -> Lines
     requires worked_out { CanBeWorkedOut (P.history past.now) key.now withdrawal.now }
     requires term { term.now ≡ the_term (P.history past.now) key.now.school withdrawal.now.year withdrawal.now.term }
-    requires so_far { so_far.now ≡ account_row (P.history past.now) key.now.school withdrawal.now.student withdrawal.now.year withdrawal.now.term }
+    requires account { IsAccount (P.history past.now) key.now.school withdrawal.now.student withdrawal.now.year withdrawal.now.term so_far.now }
     ensures value { result ≡ sheet_after (P.history past.now) key.now withdrawal.now }
     ensures owed { EachIsCents result.owed }
 {

@@ -7,7 +7,7 @@ ghost use Rattle.office_history.specs.Rows.{filing_in, told_application};
 ghost use Rattle.office_history.specs.Rules.{payment_rules};
 ghost use Rattle.office_answers.specs.Walked.{walked};
 
-use crate::gathered::for_payment;
+use crate::gathered::payment_facts;
 use aid_books::Book;
 use aid_filings::What;
 use aid_replies::StandingRow;
@@ -37,7 +37,7 @@ pub fn quote<P: OnFile, L: Ledger>(
 {
     // The front tells that what is on file is legal.
     let _filings = past.front();
-    let read = for_payment(past, school, student, year, term, Program::Pell, steps);
+    let read = payment_facts(past, school, student, year, term, Program::Pell, steps);
     pell_quote::quote(&read.facts, school, student, year, term)
 }
 

@@ -10,7 +10,7 @@ ghost use Rattle.office_answers.specs.Noted.{IsNoted};
 ghost use Rattle.office_history.specs.Rows.{student_row, year_row};
 ghost use Rattle.office_answers.specs.Walked.{walked};
 
-use crate::gathered::{for_application, for_payment, for_withdrawal, used_else};
+use crate::gathered::{application_facts, payment_facts, used_else, withdrawal_facts};
 use crate::noted::noted_facts;
 use crate::sheets::sheet_on_file;
 use aid_filings::{Amount, Filing, What, WithdrawFacts};
@@ -47,7 +47,7 @@ pub fn answer<P: OnFile, L: Ledger>(past: &P, filing: &Filing, steps: &mut Steps
     }
 }
 
-// The verdict on a filing with a new key: the first rule that it breaks, or that it is admitted.
+// The verdict on a filing whose key isn't used: the first rule that it breaks, or that it is admitted.
 fn judge<P: OnFile, L: Ledger>(past: &P, filing: &Filing, steps: &mut Steps<L>) -> Verdict
     requires legal { IsLegal (P.history past.now) }
     ensures value { result ≡ judged (P.history past.now) filing.now (breaks (P.history past.now) filing.now) }
@@ -77,7 +77,7 @@ fn judge_noted<P: OnFile, L: Ledger>(past: &P, filing: &Filing, steps: &mut Step
 }
 
 // The verdict on an application, which is admitted with the award that it brings.
-#[tactic(auto, using(office_history::proofs::LinesOf::broken_is, office_history::proofs::FactsInRange::facts_in_range, crate::proofs::Applied::fits, crate::proofs::Applied::outcome))]
+#[tactic(auto, using(office_history::proofs::LinesOf::broken_is, crate::proofs::Applied::fits, crate::proofs::Applied::outcome))]
 fn judge_application<P: OnFile, L: Ledger>(
     past: &P,
     filing: &Filing,
@@ -89,7 +89,7 @@ fn judge_application<P: OnFile, L: Ledger>(
     ensures value { result ≡ judged (P.history past.now) filing.now (breaks (P.history past.now) filing.now) }
     ensures cost { steps.new ≤ steps.old + 5 * P.looks past.now + 4 * walked (P.history past.now) filing.now.key.school (student_of filing.now.what) }
 {
-    let read = for_application(past, &filing.key, application, steps);
+    let read = application_facts(past, &filing.key, application, steps);
     match broken(&read.facts, &filing.key, &filing.what) {
         Some(refusal) => Verdict::Refused(refusal),
         None => Verdict::Admit(read.brought),
@@ -97,7 +97,7 @@ fn judge_application<P: OnFile, L: Ledger>(
 }
 
 // The verdict on a payment, which is admitted with the year's net of its program and the lifetime use, both with it.
-#[tactic(auto, using(office_history::proofs::LinesOf::broken_is, office_history::proofs::FactsInRange::facts_in_range, crate::proofs::Brought::pay_is_within, crate::proofs::Brought::outcome_of_pay))]
+#[tactic(auto, using(office_history::proofs::LinesOf::broken_is, crate::proofs::Brought::pay_is_within, crate::proofs::Brought::outcome_of_pay))]
 fn judge_payment<P: OnFile, L: Ledger>(
     past: &P,
     filing: &Filing,
@@ -116,7 +116,7 @@ fn judge_payment<P: OnFile, L: Ledger>(
         program,
         ..
     } = *payment;
-    let read = for_payment(past, filing.key.school, student, year, term, program, steps);
+    let read = payment_facts(past, filing.key.school, student, year, term, program, steps);
     match broken(&read.facts, &filing.key, &filing.what) {
         Some(refusal) => Verdict::Refused(refusal),
         None => Verdict::Admit(paid(past, payment, &read.year, &read.student)),
@@ -124,7 +124,7 @@ fn judge_payment<P: OnFile, L: Ledger>(
 }
 
 // The verdict on a withdrawal, which is admitted with its worksheet.
-#[tactic(auto, using(office_history::proofs::LinesOf::broken_is, office_history::proofs::FactsInRange::facts_in_range))]
+#[tactic(auto, using(office_history::proofs::LinesOf::broken_is))]
 fn judge_withdrawal<P: OnFile, L: Ledger>(
     past: &P,
     filing: &Filing,
@@ -136,7 +136,7 @@ fn judge_withdrawal<P: OnFile, L: Ledger>(
     ensures value { result ≡ judged (P.history past.now) filing.now (breaks (P.history past.now) filing.now) }
     ensures cost { steps.new ≤ steps.old + 5 * P.looks past.now + 4 * walked (P.history past.now) filing.now.key.school (student_of filing.now.what) }
 {
-    let read = for_withdrawal(past, &filing.key, withdrawal, steps);
+    let read = withdrawal_facts(past, &filing.key, withdrawal, steps);
     match broken(&read.facts, &filing.key, &filing.what) {
         Some(refusal) => Verdict::Refused(refusal),
         None => Verdict::Admit(returned_outcome(&sheet_on_file(

@@ -32,7 +32,7 @@ module _ (past : List Filing) (f : Filing) (row : PlaceRow) (e : EnrolFacts) (is
   later : (row.credits ≡ 0 → ⊥) → is_first past f.key.school e ≡ false
   later some = sym told ∙ ne_eqb row.credits 0 some
 
-  -- what its link tells of the one before
+  -- where the one before it stands
   before_is : before_in past f.key.school f.what ≡ cond (is_first past f.key.school e) (newest_place past e.student) 0
   before_is = ap (before_in past f.key.school) is
 

@@ -66,7 +66,7 @@ index_grown past h f outcomes out o old new history kept legal brought before ro
     subst (λ (l : List Filing). IsIndexed l out new) (sym history)
     (subst (λ (l : List Outcome). IsIndexed (f ∷ past) l new) (sym kept) (grown past f outcomes o old new legal brought before rows more))
 
--- what is told of a filing's link is true of it
+-- what is told of a filing, and of where the one before it stands, is true of it
 pub linkable : (past : List Filing) (f : Filing) (w : Written) (old new : List (StudentPlace × PlaceRow)) (newest slot school term : ℕ) → IsLegal (f ∷ past) →
     IsWrittenBy past f w → AreStaying old new →
     ((name : StudentPlace) (row : PlaceRow) → w.place ≡ Some (name, row) → (there : PlaceRow) × (slice_get new slot ≡ Some (name, there))) →

@@ -1,5 +1,5 @@
 -- The rows that a filing may change, as the index finds them.
-use Rattle.std.proofs.Common.{◌≡◌, ℕ, ap, ◌∙◌, List, Option, Some, None}
+use Rattle.std.proofs.Common.{◌≡◌, ℕ, refl, sym, ap, subst, ◌∙◌, List, Option, Some, None}
 use Rattle.std.specs.Ordering.{nat_cmp}
 use Rattle.std.proofs.lemmas.Option.{none-some}
 use Rattle.sorted_rows.specs.Places.{value_at}
@@ -8,7 +8,8 @@ use Rattle.aid_filings.specs.declared.filing.Filing.{Filing}
 use Rattle.aid_filings.specs.declared.filing.What.{What}
 use Rattle.aid_filings.specs.declared.filing.What.TheVariants.{Book as BookFiled, School, Calendar, Prior, Apply, Enrol, Originate, Pay, Withdraw, Repay, Adjust}
 use Rattle.office_history.specs.Names.{place_cmp, school_year_cmp, year_cmp}
-use Rattle.office_history.specs.Own.{own_place}
+use Rattle.office_history.specs.Own.{IsOwnAccount, own_place}
+use Rattle.office_history.specs.Accounts.{IsAccount}
 use Rattle.office_history.specs.Rows.{place_row}
 use Rattle.office_history.specs.declared.names.StudentPlace.{StudentPlace}
 use Rattle.office_history.specs.declared.names.StudentSchoolYear.{StudentSchoolYear}
@@ -69,3 +70,12 @@ own_is_changed key (Originate s) p e = absurd (none-some p e)
 pub own_before : (past : List Filing) (f : Filing) (row : PlaceRow) → IsPlaceBefore past f row → (p : Place) → own_place f.key f.what ≡ Some p →
     row ≡ place_row past p.school p.student p.year p.term
 own_before past f row before p is = before _ (own_is_changed f.key f.what p is)
+
+pub own_account : (past : List Filing) (f : Filing) (row : PlaceRow) → IsPlaceBefore past f row → IsOwnAccount past (own_place f.key f.what) row.account
+own_account past f row before = go (own_place f.key f.what) (own_before past f row before)
+  where
+    go : (o : Option Place) → ((p : Place) → o ≡ Some p → row ≡ place_row past p.school p.student p.year p.term) → IsOwnAccount past o row.account
+    go None is = tt
+    go (Some p) is =
+        subst (λ (r : PlaceRow). IsAccount past p.school p.student p.year p.term r.account) (sym (is p refl))
+        (record { paid = refl; taken = refl; owed = refl; repaid = refl; after = refl; after_all = refl; post = refl })

@@ -1,34 +1,17 @@
 //! What a filing moves in the student's term that it is about, asked where no looks are counted.
-ghost use Rattle.std.specs.Prelude.{◌≡◌, ◌<◌, ◌∷◌, Some};
+ghost use Rattle.std.specs.Prelude.{◌≡◌, ◌∷◌};
+ghost use Rattle.aid_filings.specs.declared.filing.What.TheVariants.{Withdraw};
+ghost use Rattle.aid_filings.specs.declared.filing.WithdrawFacts.{WithdrawFacts as Withdrawal};
 ghost use Rattle.office_history.specs.Answer.{IsLegal};
-ghost use Rattle.office_history.specs.Own.{IsOwnEntry, own_place};
-ghost use Rattle.office_history.specs.Rows.{place_row};
-ghost use Rattle.office_history.specs.declared.place.Place.{Place};
+ghost use Rattle.office_history.specs.Own.{IsOwnEntry};
+ghost use Rattle.office_history.specs.Past.{the_term};
 ghost use Rattle.office_rows.specs.Changed.{IsPlaceBefore};
 
-use aid_filings::Filing;
+use aid_filings::{Filing, What};
+use aid_types::Term;
 use office_answers::entry_of;
 use office_history::{Account, OnFile, PlaceRow};
-use std::marker::Brand;
-use std::sync::ledger::{Blank, Ledger};
-use steps::Steps;
-
-fn entry_on<P: OnFile, L: Ledger>(
-    past: &P,
-    filing: &Filing,
-    row: &PlaceRow,
-    blank: Blank,
-) -> Account
-    requires legal { IsLegal (filing.now ∷ P.history past.now) }
-    requires row { (place : Place) → own_place filing.now.key filing.now.what ≡ Some place
-        → row.now ≡ place_row (P.history past.now) place.school place.student place.year place.term }
-    requires name { blank.name ≡ L.name }
-    requires parts { blank.parts ≡ L.parts }
-    requires some { 0 < blank.parts }
-    ensures { IsOwnEntry (P.history past.now) filing.now.key filing.now.what result }
-{
-    entry_of(past, filing, row, &mut Steps::<L>::new(blank))
-}
+use office_rows::term_of;
 
 /// What a filing that comes next moves in the student's term that it is about; nothing where it moves no money. `row` is the
 /// row of that term before the filing.
@@ -37,5 +20,20 @@ pub(crate) fn own_entry<P: OnFile>(past: &P, filing: &Filing, row: &PlaceRow) ->
     requires row { IsPlaceBefore (P.history past.now) filing.now row.now }
     ensures { IsOwnEntry (P.history past.now) filing.now.key filing.now.what result }
 {
-    entry_on::<P, Brand>(past, filing, row, Blank::new(1))
+    let term = withdrawn_from(past, filing);
+    entry_of(past, filing, row.withdrawn_at, &row.account, &term)
+}
+
+// The term on file of a withdrawal; `None` of other filings.
+fn withdrawn_from<P: OnFile>(past: &P, filing: &Filing) -> Option<Term>
+    ensures { (w : Withdrawal) → filing.now.what ≡ Withdraw w → result ≡ the_term (P.history past.now) filing.now.key.school w.year w.term }
+{
+    match &filing.what {
+        What::Withdraw(facts) => {
+            term_of(past, filing.key.school, facts.year, facts.term)
+                .1
+                .term
+        }
+        _ => None,
+    }
 }

@@ -1,20 +1,20 @@
-use Rattle.std.proofs.Common.{◌∙◌, ap, sym, subst}
+use Rattle.std.proofs.Common.{◌∙◌, ap, sym, subst, Option}
 use Rattle.aid_filings.specs.declared.filing.What.{What}
 use Rattle.aid_filings.specs.declared.filing.What.TheVariants.{Withdraw}
 use Rattle.office_history.proofs.Lawful.{can_be_worked_out}
-use Rattle.office_history.specs.Own.{IsOwnEntry, of_lines, own_place}
-use Rattle.office_history.specs.declared.rows.PlaceRow.{PlaceRow}
+use Rattle.office_history.specs.Own.{IsOwnAccount, IsOwnEntry, of_lines, own_place}
+use Rattle.office_history.specs.declared.place.Place.{Place}
 use Rattle.office_answers.proofs.Entries.{own-entry}
-use Rattle.office_answers.proofs.Ranges.{row-withdrawn}
+use Rattle.office_answers.proofs.Ranges.{withdrawn-told}
 use Rattle.office_answers.proofs.entry.entry_of.Goals as goal
 
 pub sheet_on_file-requires-clause-worked_out : goal.sheet_on_file-requires-clause-worked_out
 sheet_on_file-requires-clause-worked_out g c =
     can_be_worked_out (g.P.OnFile.history c.args.past.now) c.args.filing.now c.in-Withdraw.facts c.requires.legal.0 c.in-Withdraw.is c.requires.legal.2
 
-pub sheet_on_file-requires-clause-so_far : goal.sheet_on_file-requires-clause-so_far
-sheet_on_file-requires-clause-so_far g c =
-    ap (λ (row : PlaceRow). row.account) (c.requires.row _ (ap (own_place c.args.filing.now.key) c.in-Withdraw.is))
+pub sheet_on_file-requires-clause-account : goal.sheet_on_file-requires-clause-account
+sheet_on_file-requires-clause-account g c =
+    subst (λ (o : Option Place). IsOwnAccount (g.P.OnFile.history c.args.past.now) o c.args.so_far.now) (ap (own_place c.args.filing.now.key) c.in-Withdraw.is) c.requires.account
 
 pub returns-in-Withdraw : goal.returns-in-Withdraw
 returns-in-Withdraw g c =
@@ -31,7 +31,7 @@ returns-in-Pay g c =
     let a = c.in-Pay.amount in
     subst (λ (what : What). IsOwnEntry past key what c.paid.result) (sym c.in-Pay.is)
     (c.paid.ensures past key
-    (row-withdrawn past key.school a.student a.year a.term c.args.row.now (c.requires.row _ (ap (own_place key) c.in-Pay.is))))
+    (withdrawn-told past key.school a.student a.year a.term c.args.withdrawn_at (c.requires.withdrawn _ (ap (own_place key) c.in-Pay.is))))
 
 pub returns-in-Repay : goal.returns-in-Repay
 returns-in-Repay g c =

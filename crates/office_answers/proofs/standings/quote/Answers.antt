@@ -10,5 +10,5 @@ returns-clause-value g c =
     let past = g.P.OnFile.history c.args.past.now in
     let a = c.args in
     c.quote.ensures.value
-    ∙ ap (λ (f : Facts). greatest_payment (payment_lines f a.school a.student a.year a.term 3)) c.for_payment-read.ensures.facts
+    ∙ ap (λ (f : Facts). greatest_payment (payment_lines f a.school a.student a.year a.term 3)) c.payment_facts-read.ensures.facts
     ∙ ap greatest_payment (payment_lines_are past a.school a.student a.year a.term 3)

@@ -4,4 +4,4 @@ use Rattle.office_answers.proofs.verdicts.judge_application.Goals as goal
 
 pub broken-requires : goal.broken-requires
 broken-requires g c =
-    read_in_range (g.P.OnFile.history c.args.past.now) c.args.filing.now.key (Apply c.args.application.now) c.for_application-read.result.facts c.requires.legal c.for_application-read.ensures.facts
+    read_in_range (g.P.OnFile.history c.args.past.now) c.args.filing.now.key (Apply c.args.application.now) c.application_facts-read.result.facts c.requires.legal c.application_facts-read.ensures.facts

@@ -6,11 +6,11 @@ use Rattle.office_answers.proofs.verdicts.judge_payment.Goals as goal
 
 pub broken-requires : goal.broken-requires
 broken-requires g c =
-    read_in_range (g.P.OnFile.history c.args.past.now) c.args.filing.now.key (Pay c.args.payment.now) c.for_payment-read.result.facts c.requires.legal c.for_payment-read.ensures.facts
+    read_in_range (g.P.OnFile.history c.args.past.now) c.args.filing.now.key (Pay c.args.payment.now) c.payment_facts-read.result.facts c.requires.legal c.payment_facts-read.ensures.facts
 
 pub paid-requires-clause-within : goal.paid-requires-clause-within
 paid-requires-clause-within g c =
     let past = g.P.OnFile.history c.args.past.now in
     let payment = c.args.payment.now in
     pay_is_within past c.args.filing.now payment c.requires.what
-    (unbroken past c.args.filing.now (Pay payment) c.for_payment-read.result.facts c.requires.what c.for_payment-read.ensures.facts (sym c.broken.ensures ∙ c.in-None.is))
+    (unbroken past c.args.filing.now (Pay payment) c.payment_facts-read.result.facts c.requires.what c.payment_facts-read.ensures.facts (sym c.broken.ensures ∙ c.in-None.is))

@@ -1,5 +1,11 @@
-use Rattle.office_core.proofs.RowsFound.{own_before}
+use Rattle.std.proofs.Common.{ap}
+use Rattle.office_core.proofs.RowsFound.{own_account, own_before}
+use Rattle.office_history.specs.declared.rows.PlaceRow.{PlaceRow}
 use Rattle.office_core.proofs.own_entry.own_entry.Goals as goal
 
-pub entry_on-requires-clause-row : goal.entry_on-requires-clause-row
-entry_on-requires-clause-row g c = own_before (g.P.OnFile.history c.args.past.now) c.args.filing.now c.args.row.now c.requires.row
+pub entry_of-requires-clause-withdrawn : goal.entry_of-requires-clause-withdrawn
+entry_of-requires-clause-withdrawn g c = λ p is.
+    ap (λ (row : PlaceRow). row.withdrawn_at) (own_before (g.P.OnFile.history c.args.past.now) c.args.filing.now c.args.row.now c.requires.row p is)
+
+pub entry_of-requires-clause-account : goal.entry_of-requires-clause-account
+entry_of-requires-clause-account g c = own_account (g.P.OnFile.history c.args.past.now) c.args.filing.now c.args.row.now c.requires.row

@@ -4,13 +4,13 @@ use Rattle.office_history.specs.Net.{cell_at, is_cell, paid_after}
 use Rattle.office_history.specs.Positions.{is_paid_beside, least_code}
 use Rattle.office_history.specs.Past.{terms_on_file, the_term}
 use Rattle.office_history.proofs.Sixes.{six-rank}
-use Rattle.office_answers.proofs.gathered.for_payment.Goals as goal
+use Rattle.office_answers.proofs.gathered.payment_facts.Goals as goal
 
 pub returns-clause-facts : goal.returns-clause-facts
 returns-clause-facts g c =
     let past = g.P.OnFile.history c.args.past.now in
     let program = rank c.args.program in
-    let aid = c.for_aid-aid.ensures in
+    let aid = c.aid_facts-aid.ensures in
     let code : c.beside-other_school.result.1 ≡ least_code (is_paid_beside past c.args.school c.args.student (the_term past c.args.school c.args.year c.args.number)) (terms_on_file past) =
     c.beside-other_school.ensures.code
     ∙ (λ i. least_code (is_paid_beside past c.args.school c.args.student (aid.term i).term) (terms_on_file past)) in
