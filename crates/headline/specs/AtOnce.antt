@@ -1,0 +1,52 @@
+-- What the rows of many desks come to that file at once.
+use Rattle.std.specs.Prelude.{◌≡◌, ◌≢◌, ◌⊎◌, ℕ, ◌+◌, List, [], ◌∷◌, ◌++◌, codes, decimal, get_or, length, reverse}
+use Rattle.aid_filings.specs.declared.filing.Filing.{Filing}
+use Rattle.disk_model.specs.Telling.{EachImage, EachMoment, Telling}
+use Rattle.headline.specs.Filed.{FaultLine, IsFault, Row}
+use Rattle.headline.specs.Office.{Answered, Recovers}
+use Rattle.kept_desks.specs.declared.names.RowName.{RowName}
+use Rattle.office_lock.specs.Passes.{IsOlder}
+use Rattle.plain_filings.specs.Written.{Files}
+
+-- Rows of a desk, the first of them with this number: each was answered on a history that goes on from the one that the desk had
+-- seen, and that history with what the row adds is the older part of the closed one.
+pub data Replies (desk : ℕ) (closed : List Filing) : ℕ → List Row → List Filing → List ℕ → Type 0 where
+  none : (number : ℕ) (seen : List Filing) → Replies desk closed number [] seen []
+  more : (number : ℕ) (row : Row) (rows : List Row) (seen past after : List Filing) (line text : List ℕ) → IsOlder seen past → Answered past number row line after → IsOlder after closed
+      → Replies desk closed (number + 1) rows after text → Replies desk closed number (row ∷ rows) seen ((codes "desk " ++ decimal desk ++ codes " " ++ line) ++ text)
+
+-- the lines of a desk: for each row, or for those in front of one at which it stopped by a fault; then the status isn't 0
+pub record DeskText (desk : ℕ) (rows : List Row) (past closed : List Filing) (status : ℕ) (text : List ℕ) : Type 0 where
+  pub answered : List Row
+  pub left : List Row
+  pub whole : rows ≡ answered ++ left
+  pub lines : List ℕ
+  pub stop : List ℕ
+  pub written : text ≡ lines ++ stop
+  pub replies : Replies desk closed 1 answered past lines
+  pub stops : ((left ≡ []) × (stop ≡ [])) ⊎ ((status ≢ 0) × (line : List ℕ) × FaultLine line × (stop ≡ codes "desk " ++ decimal desk ++ codes " " ++ decimal (length answered + 1) ++ codes " " ++ line))
+
+-- the lines of all desks, in desk order, the first of them with this number
+pub data DeskTexts (past closed : List Filing) (status : ℕ) : ℕ → List (List Row) → List ℕ → Type 0 where
+  none : (desk : ℕ) → DeskTexts past closed status desk [] []
+  more : (desk : ℕ) (rows : List Row) (inputs : List (List Row)) (text texts : List ℕ) → DeskText desk rows past closed status text → DeskTexts past closed status (desk + 1) inputs texts
+      → DeskTexts past closed status desk (rows ∷ inputs) (text ++ texts)
+
+-- the row that a name is of: desks and rows are numbered from 1
+abbrev pub row_at : List (List Row) → RowName → Row
+row_at inputs by = get_or ([] ∷ get_or ([] ∷ inputs) by.desk []) by.row []
+
+-- a line `admitted POSITION D ROW` for each filing that was added, the oldest first: the row files it
+pub data Admitted (inputs : List (List Row)) : ℕ → List Filing → List ℕ → Type 0 where
+  none : (position : ℕ) → Admitted inputs position [] []
+  more : (position : ℕ) (f : Filing) (fs : List Filing) (by : RowName) (text : List ℕ) → Files (row_at inputs by) f → Admitted inputs (position + 1) fs text
+      → Admitted inputs position (f ∷ fs) ((codes "admitted " ++ decimal position ++ codes " " ++ decimal by.desk ++ codes " " ++ decimal by.row ++ codes "\n") ++ text)
+
+-- A run of many desks on a file that recovers a history: nothing was filed, or what the desks' rows added joins the history. Then each
+-- image recovers it, or it and the filing of one row more. The text is cut short only where the status is 4.
+pub data RanAtOnce (inputs : List (List Row)) (past : List Filing) (old new : Telling) : List ℕ → ℕ → Type 0 where
+  idle : (text : List ℕ) (status : ℕ) → IsFault text → (status ≢ 0) × (status ≢ 6) × (status ≢ 7) → EachMoment old new (λ file. Recovers file past) → RanAtOnce inputs past old new text status
+  filed : (added : List Filing) (lines admitted text cut : List ℕ) (status : ℕ) → DeskTexts past (added ++ past) status 1 inputs lines → Admitted inputs (length past + 1) (reverse added) admitted
+      → text ++ cut ≡ lines ++ admitted → (status ≢ 4 → cut ≡ []) → (status ≢ 6) × (status ≢ 7)
+      → EachImage new (λ file. Recovers file (added ++ past) ⊎ ((f : Filing) × (by : RowName) × Files (row_at inputs by) f × Recovers file (f ∷ added ++ past)))
+      → RanAtOnce inputs past old new text status

@@ -1,0 +1,59 @@
+-- What a desk's rows come to that are filed one after the other, and what a crash leaves at every moment of it.
+use Rattle.std.specs.Prelude.{◌≡◌, ◌≢◌, ◌⊎◌, ℕ, ◌+◌, ◌==◌, not, IsTrue, List, [], ◌∷◌, ◌++◌, codes, decimal, flat_map, length}
+use Rattle.std.specs.List.{list_all}
+use Rattle.csv.specs.Reading.{default_config, records, strip_bom}
+use Rattle.aid_filings.specs.declared.filing.Filing.{Filing}
+use Rattle.disk_model.specs.Telling.{EachImage, EachMoment, Telling}
+use Rattle.disk_model.specs.declared.disk.Disk.{Ghosts}
+use Rattle.headline.specs.Office.{Answered, Recovers}
+
+-- a row of a text: its fields
+abbrev pub Row : Type 0
+Row = List (List ℕ)
+
+-- the rows of a text: the records of comma-separated values, of any length, without a header, behind a byte order mark if one stands first
+abbrev pub rows_in : List ℕ → List Row
+rows_in text = records default_config (strip_bom text)
+
+-- from one state of the disk to another each image at each moment recovers one of the two histories
+abbrev pub Between : List Filing → List Filing → Telling → Telling → Type 0
+Between past after old new = EachMoment old new (λ file. Recovers file past ⊎ Recovers file after)
+
+-- Rows are answered one after the other, the first of them with this number: their lines, the history after them, and the disk.
+-- After a row's turn each image recovers the history with what the row adds, and so it does at every moment after that.
+pub data Answers {D : Type 0} (disk : Ghosts D) : ℕ → List Row → List Filing → List Filing → List ℕ → D → D → Type 0 where
+  none : (number : ℕ) (past : List Filing) (at : D) → Answers disk number [] past past [] at at
+  more : (number : ℕ) (row : Row) (rows : List Row) (past mid last : List Filing) (line text : List ℕ) (old at new : D)
+      → Answered past number row line mid → Between past mid (disk.tells old) (disk.tells at) → EachImage (disk.tells at) (λ file. Recovers file mid)
+      → Answers disk (number + 1) rows mid last text at new → Answers disk number (row ∷ rows) past last (line ++ text) old new
+
+-- a line that says what failed, in words and by a number where they need one; and a front of such a line
+abbrev pub FaultLine : List ℕ → Type 0
+FaultLine line = (words numbers : List ℕ) × IsTrue (list_all (λ c. not (c == 10)) words) × (line ≡ codes "fault " ++ words ++ flat_map decimal numbers ++ codes "\n")
+
+abbrev pub IsFault : List ℕ → Type 0
+IsFault text = (cut : List ℕ) × FaultLine (text ++ cut)
+
+-- What comes behind the rows that were answered: nothing more, or the turn of one row more, whose line isn't written, or not all of it.
+pub data Stops (past : List Filing) (number : ℕ) (old new : Telling) : List Row → List ℕ → Type 0 where
+  between : (rows : List Row) (text : List ℕ) → IsFault text → EachMoment old new (λ file. Recovers file past) → Stops past number old new rows text
+  within : (row : Row) (rows : List Row) (line text : List ℕ) (after : List Filing) → Answered past number row line after → Between past after old new
+      → IsFault text ⊎ ((cut : List ℕ) × (text ++ cut ≡ line) × (cut ≢ [])) → Stops past number old new (row ∷ rows) text
+
+-- A run over rows: the journal is opened, some rows in front are answered, all of them where the status is 0, and the run stops.
+-- A file that recovers a history is never refused by the statuses 6 and 7.
+pub record HasFiled {D : Type 0} (disk : Ghosts D) (rows : List Row) (past : List Filing) (text : List ℕ) (status : ℕ) (old new : D) : Type 0 where
+  pub answered : List Row
+  pub left : List Row
+  pub whole : rows ≡ answered ++ left
+  pub last : List Filing
+  pub lines : List ℕ
+  pub stop : List ℕ
+  pub written : text ≡ lines ++ stop
+  pub opened : D
+  pub filed : D
+  pub opens : EachMoment (disk.tells old) (disk.tells opened) (λ file. Recovers file past)
+  pub answers : Answers disk 1 answered past last lines opened filed
+  pub stops : Stops last (length answered + 1) (disk.tells filed) (disk.tells new) left stop
+  pub done : status ≡ 0 → (left ≡ []) × (stop ≡ [])
+  pub allowed : (status ≢ 6) × (status ≢ 7)
