@@ -46,7 +46,7 @@ module _ {E : Type 0} where
       ap (λ (g : Filed E). g.by ∷ take (length added) log) one ∙ ap (λ l. f.by ∷ l) (noted history log added rest more (λ k d lt. by (suc k) d (omega (arith, lt))))
 
   -- each entry that was added is among those that are numbered
-  numbered_has : (n : ℕ) (added : List (Filed E)) (k : ℕ) (d : Filed E) → k < length added → (p : ℕ) × Contains (numbered n added) (p, get_or added k d)
+  pub numbered_has : (n : ℕ) (added : List (Filed E)) (k : ℕ) (d : Filed E) → k < length added → (p : ℕ) × Contains (numbered n added) (p, get_or added k d)
   numbered_has n [] k d lt = absurd (omega (arith, lt))
   numbered_has n (f ∷ added) zero d lt = (n + length added + 1, (0, omega arith, refl))
   numbered_has n (f ∷ added) (suc k) d lt =

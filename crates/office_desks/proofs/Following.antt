@@ -141,7 +141,7 @@ module _ {E : Type 0} where
   length-entries [] = refl
   length-entries (f ∷ list) = ap suc (length-entries list)
 
-  entries_append : (one other : List (Filed E)) → entries_of (one ++ other) ≡ entries_of one ++ entries_of other
+  pub entries_append : (one other : List (Filed E)) → entries_of (one ++ other) ≡ entries_of one ++ entries_of other
   entries_append [] other = refl
   entries_append (f ∷ one) other = ap (λ l. f.entry ∷ l) (entries_append one other)
 

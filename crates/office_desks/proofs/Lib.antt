@@ -1,3 +1,5 @@
+pub mod Admitting
+pub mod AtOnce
 pub mod Closing
 pub mod Crew
 pub mod DesksDone
@@ -6,3 +8,4 @@ pub mod Following
 pub mod Named
 pub mod Putting
 pub mod Reading
+pub mod Replies

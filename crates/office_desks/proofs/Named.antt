@@ -46,7 +46,7 @@ undecided_at own by (Stopped NoMemory) taken rest known entry ends has = absurd 
 
 module _ (opening closed : Stand (Filed Filing)) (before after : List View) (filed : HasFiled opening closed before after) where
   -- what one desk's pass has is that of its rows
-  of_desk : (k : ℕ) (x : View) (entry : ℕ × Filed Filing) → k < length filed.desks → x ≡ get_or filed.desks k x → Contains (mine_in x.pass) entry ⊎ Contains (left_in x.pass) entry
+  pub of_desk : (k : ℕ) (x : View) (entry : ℕ × Filed Filing) → k < length filed.desks → x ≡ get_or filed.desks k x → Contains (mine_in x.pass) entry ⊎ Contains (left_in x.pass) entry
       → (j : ℕ) × (d : View) × (lt : j < length before) × HasNamed (filed.each j d lt) entry
   of_desk k x entry lt is has = (k, x, inside, go has)
     where
@@ -86,7 +86,7 @@ module _ (opening closed : Stand (Filed Filing)) (before after : List View) (fil
       follows_older office_judging (entries_of opening.list) (entries_of own.known.seen) own.files.answers
       (subst (λ (o : Stand (Filed Filing)). Follows office_judging (entries_of o.list) own.files.answers (entries_of own.known.seen)) own.opening_is own.files.follows)
 
-  seen_in_closed : (k : ℕ) (d : View) (lt : k < length before) → IsOlder (filed.each k d lt).known.seen closed.list
+  pub seen_in_closed : (k : ℕ) (d : View) (lt : k < length before) → IsOlder (filed.each k d lt).known.seen closed.list
   seen_in_closed k d lt =
       let own = filed.each k d lt in
       subst (λ l. IsOlder l closed.list) (ap seen_in own.has) (filed.ran.seen k d (omega (arith, lt, filed.count)))

@@ -1,6 +1,9 @@
 // A run of many desks: each has an input of its own, and files its rows while the others file theirs.
-ghost use Rattle.std.specs.Prelude.{◌≡◌, ◌⊎◌, ◌≤◌, ◌<◌, ◌+◌, ◌-◌, ◌++◌, [], ℕ, false, true, None, Err, IfOk, IfErr, OnOk, slice_index_or, length, reverse, take};
-ghost use Rattle.disk_model.specs.Telling.{IsHonest};
+ghost use Rattle.std.specs.Prelude.{◌≡◌, ◌⊎◌, ◌≤◌, ◌<◌, ◌+◌, ◌-◌, ◌++◌, [], ℕ, false, true, None, Err, IfOk, IfErr, OnOk, IsTrue, List, slice_index_or, length, map, reverse, take};
+ghost use Rattle.disk_model.specs.Telling.{EachImage, IsHonest};
+ghost use Rattle.headline.specs.AtOnce.{RanAtOnce};
+ghost use Rattle.headline.specs.Filed.{rows_in};
+ghost use Rattle.headline.specs.Office.{Recovers};
 ghost use Rattle.kept_list.specs.Kept.{IsSound};
 ghost use Rattle.kept_office.specs.Scheme.{office_scheme};
 ghost use Rattle.std.specs.List.{All};
@@ -202,6 +205,12 @@ pub fn run_desks<D: Disk + Send, S: Source, G: Gate + Sync, K: Sink, H: Threads 
     gate: &G,
     out: &mut K,
 ) -> (u8, D)
+    // The headline, in few words. Over an honest disk each image of which recovers a history, each row of a desk with a line was
+    // answered on a history that goes on from what the desk had seen; what the desks' rows added joins the history, none is lost
+    // and none is made up; and each image then recovers it, with the filing of one row more or without.
+    ensures headline { (past : List Filing) → IsHonest (D.tells disk) → All (λ i. IsTrue (S.honest i.input)) desks.old → IsTrue (K.honest out.old) → EachImage (D.tells disk) (λ file. Recovers file past)
+        → (text : List ℕ) × (K.text out.new ≡ K.text out.old ++ text) × RanAtOnce (map (λ i. rows_in (S.left i.input)) desks.old) past (D.tells disk) (D.tells result.1) text result.0 }
+
     // All that a run of desks does, by how it ended: the text, the disk, the counts, and the status.
     ensures ran { RanDesks D.Disk S.Source K.Sink disk result.1 desks.old desks.new out.old out.new result.0 }
 

@@ -1,5 +1,6 @@
 pub mod Awarding
 pub mod Checking
 pub mod Complete
+pub mod Headline
 pub mod Images
 pub mod Shown

@@ -1,17 +1,15 @@
 // A run of the program: its words, its input, its journal, what it writes, and its status.
-ghost use Rattle.std.specs.Prelude.{◌≡◌, ◌⊎◌, ◌≤◌, ℕ, false, List, length, map, string_bytes, [], ◌∷◌, codes};
+ghost use Rattle.std.specs.Prelude.{◌≡◌, ◌⊎◌, ◌≤◌, ◌++◌, ℕ, false, IsTrue, List, length, map, string_bytes, [], ◌∷◌, codes};
 ghost use Rattle.aid_filings.specs.declared.filing.Filing.{Filing};
 ghost use Rattle.aid_edges.specs.Faults.{Rose};
 ghost use Rattle.disk_model.specs.Telling.{EachImage, EachMoment, IsHonest};
-ghost use Rattle.kept_office.specs.Recovers.{Recovers};
+ghost use Rattle.headline.specs.Filed.{HasFiled, rows_in};
+ghost use Rattle.headline.specs.Office.{Recovers};
+ghost use Rattle.kept_office.specs.Recovers.{Recovers as KeptRecovers};
 ghost use Rattle.office_history.specs.Within.{IsWithinEveryLimit};
 ghost use Rattle.office_words.specs.Words.{IsRow};
 ghost use Rattle.office_words.specs.declared.command.Command.{Command as CommandData};
-ghost use Rattle.kept_office.specs.Scheme.{office_scheme};
-ghost use Rattle.kept_office.specs.Turns.{office_judging};
-ghost use Rattle.kept_session.specs.Links.{RecoversOf};
-ghost use Rattle.office_forms.specs.Asks.{desk_rows, desk_texts};
-ghost use Rattle.office_runs.specs.Moments.{AllStand, MayRecover, Stands, StoodBefore};
+ghost use Rattle.office_runs.specs.Moments.{MayRecover, Stands, StoodBefore};
 ghost use Rattle.office_runs.specs.Ran.{CanBeDone, Does, FileRan, Ran, Shows, reads_input};
 ghost use Rattle.run_ends.specs.Ends.{Moved};
 ghost use Rattle.office_runs.specs.Rounds.{IsPolicyAmong, gives_at};
@@ -131,6 +129,16 @@ pub fn run<D: Disk, S: Source, K: Sink>(
     out: &mut K,
     policies: &Policies,
 ) -> (u8, D)
+    // The headline, in few words. Over an honest disk each image of which recovers a history, the rows of the input are answered one
+    // after the other, each by a line that the law gives, and none that was answered is lost at any moment from then on. What a file
+    // recovers is one history at most, in which no student stands above a limit.
+    ensures founded { map string_bytes words.now.items ≡ codes "found" ∷ [] → result.0 ≡ 0 → IsHonest (D.tells disk) → EachImage (D.tells result.1) (λ file. Recovers file []) }
+    ensures headline { (past : List Filing) → map string_bytes words.now.items ≡ codes "file" ∷ [] → IsHonest (D.tells disk) → IsTrue (S.honest input.old) → IsTrue (K.honest out.old)
+        → EachImage (D.tells disk) (λ file. Recovers file past)
+        → (text : List ℕ) × (K.text out.new ≡ K.text out.old ++ text) × HasFiled D.Disk (rows_in (S.left input.old)) past text result.0 disk result.1 }
+    ensures within { (file : List ℕ) (history : List Filing) → Recovers file history → IsWithinEveryLimit history }
+    ensures one { (file : List ℕ) (history other : List Filing) → Recovers file history → Recovers file other → history ≡ other }
+
     // All that a run does, by its words and by how it ended: the text, the disk at every moment, the counts, and the status.
     ensures ran { Ran (map (λ p. p.name) policies.now.list.items) (gives_at policies.now.list.items (λ p. ⟦<Rule as Fn(u32, i32, u8) -> u32>⟧.post p.rule)) D.Disk K.Sink
         (record { source = (S.faults input.old, S.faults input.new); sink = (K.faults out.old, K.faults out.new); disk = (D.faults disk, D.faults result.1) })
@@ -140,26 +148,17 @@ pub fn run<D: Disk, S: Source, K: Sink>(
     ensures unread { ((command : CommandData) → IsRow (map (λ p. p.name) policies.now.list.items) (map string_bytes words.now.items) command → reads_input command ≡ false) → input.new ≡ input.old }
 
     // Whatever a run comes to, each image at each moment of it recovers the list before it, with what some rows in front of
-    // the input's add; where it was done, with what all of them add. In each such list no student stands above a limit.
+    // the input's add; where it was done, with what all of them add.
     ensures moments { (command : CommandData) (past : List Filing) → IsRow (map (λ p. p.name) policies.now.list.items) (map string_bytes words.now.items) command
-        → IsHonest (D.tells disk) → EachImage (D.tells disk) (λ file. Recovers file past)
+        → IsHonest (D.tells disk) → EachImage (D.tells disk) (λ file. KeptRecovers file past)
         → EachMoment (D.tells disk) (D.tells result.1)
         (MayRecover (gives_at policies.now.list.items (λ p. ⟦<Rule as Fn(u32, i32, u8) -> u32>⟧.post p.rule)) command (record { honest = S.honest input.old; before = S.left input.old; after = S.left input.new }) past) }
     ensures stands { (command : CommandData) (past : List Filing) → IsRow (map (λ p. p.name) policies.now.list.items) (map string_bytes words.now.items) command → result.0 ≡ 0
         → IsHonest (D.tells disk) → StoodBefore command (D.tells disk).reads past
         → Stands (gives_at policies.now.list.items (λ p. ⟦<Rule as Fn(u32, i32, u8) -> u32>⟧.post p.rule)) command (record { honest = S.honest input.old; before = S.left input.old; after = S.left input.new }) past (D.tells result.1) }
-    // The same of `file` alone, in the words of its rows.
-    ensures file_moments { (past : List Filing) → map string_bytes words.now.items ≡ codes "file" ∷ []
-        → IsHonest (D.tells disk) → EachImage (D.tells disk) (λ file. Recovers file past)
-        → EachMoment (D.tells disk) (D.tells result.1)
-        (RecoversOf office_scheme office_judging desk_texts desk_rows (record { honest = S.honest input.old; before = S.left input.old; after = S.left input.new }) past) }
-    ensures file_stands { (past : List Filing) → map string_bytes words.now.items ≡ codes "file" ∷ [] → result.0 ≡ 0
-        → IsHonest (D.tells disk) → Recovers (D.tells disk).reads past
-        → AllStand desk_texts desk_rows (record { honest = S.honest input.old; before = S.left input.old; after = S.left input.new }) past (D.tells result.1) }
-    // What it acknowledges, at every end: the rows that were filed, a line for each, and how it ended.
+    // What `file` acknowledges, at every end: the rows that were filed, a line for each, and how it ended.
     ensures file_ran { map string_bytes words.now.items ≡ codes "file" ∷ [] → FileRan D.Disk K.Sink disk result.1
         (record { honest = S.honest input.old; before = S.left input.old; after = S.left input.new }) out.old out.new result.0 }
-    ensures within { (file : List ℕ) (history : List Filing) → Recovers file history → IsWithinEveryLimit history }
 
     // 3, 4 and 5 come only where the count of the source, the sink or the disk rose, and no fault is passed over.
     ensures shows { Shows

@@ -1,11 +1,13 @@
-use Rattle.std.proofs.Common.{◌≡◌, ◌∙◌, ap, arith, Global, length, map, refl, string_bytes, subst, sym, Err}
+use Rattle.std.proofs.Common.{◌≡◌, ◌∙◌, [], ap, arith, Global, length, map, refl, string_bytes, subst, sym, Err}
+use Rattle.headline.proofs.Office.{from_kept, one_history, to_kept}
 use Rattle.office_history.proofs.LegalWithin.{legal_within}
 use Rattle.office_words.specs.declared.command.Command.{Command}
-use Rattle.office_words.specs.declared.command.Command.TheVariants.{File}
+use Rattle.office_words.specs.declared.command.Command.TheVariants.{File, Found}
 use Rattle.office_runs.specs.Ran.{CanBeDone, no_row, did}
 use Rattle.run_ends.specs.declared.stop.RunStop.TheVariants as stops
 use Rattle.office_runs.proofs.Complete.{complete}
 use Rattle.run_ends.proofs.EndLaws.{done_at, ends_honest, ends_later, sink_moved, stood}
+use Rattle.office_runs.proofs.Headline.{has_filed}
 use Rattle.office_runs.proofs.Images.{moments_by, stands_by}
 use Rattle.office_runs.proofs.Shown.{file_ran, run_shows}
 use Rattle.office_runs.proofs.commands.run.Goals as goal
@@ -44,12 +46,6 @@ returns-in-Some-clause-stands g c command past words well honest stood =
     c.in-Some.command command done.result.0 past same done.ensures.does
     (done_at g.K.Sink done.new.out c.end.new.out done.result.0 c.end.result c.end.ensures well) honest stood
 
-pub returns-in-Some-clause-file_moments : goal.returns-in-Some-clause-file_moments
-returns-in-Some-clause-file_moments g c past words honest each = returns-in-Some-clause-moments g c File past (words, tt) honest each
-
-pub returns-in-Some-clause-file_stands : goal.returns-in-Some-clause-file_stands
-returns-in-Some-clause-file_stands g c past words well honest stood = returns-in-Some-clause-stands g c File past (words, tt) well honest stood
-
 pub returns-in-Some-clause-file_ran : goal.returns-in-Some-clause-file_ran
 returns-in-Some-clause-file_ran g c words =
     let done = c.do_command-ended in
@@ -59,8 +55,22 @@ returns-in-Some-clause-file_ran g c words =
     (record { honest = g.S.Source.honest c.args.input.now; before = g.S.Source.left c.args.input.now; after = g.S.Source.left done.new.input })
     c.args.out.now done.new.out c.end.new.out c.in-Some.command done.result.0 c.end.result same done.ensures.does done.ensures.sink_honest c.end.ensures
 
+pub returns-in-Some-clause-founded : goal.returns-in-Some-clause-founded
+returns-in-Some-clause-founded g c words well honest =
+    λ file image. from_kept file [] (returns-in-Some-clause-stands g c Found [] (words, tt) well honest tt file image)
+
+pub returns-in-Some-clause-headline : goal.returns-in-Some-clause-headline
+returns-in-Some-clause-headline g c past words honest sincere sound each =
+    let done = c.do_command-ended in
+    has_filed g.D.Disk g.K.Sink g.met.D.Disk.only_now g.met.D.Disk.reads_as_image c.args.disk done.result.1
+    (record { honest = g.S.Source.honest c.args.input.now; before = g.S.Source.left c.args.input.now; after = g.S.Source.left done.new.input })
+    c.args.out.now c.end.new.out c.end.result past honest sincere sound each (returns-in-Some-clause-file_ran g c words)
+
 pub returns-in-Some-clause-within : goal.returns-in-Some-clause-within
-returns-in-Some-clause-within g c file history is = legal_within history is.legal
+returns-in-Some-clause-within g c file history is = legal_within history (to_kept file history is).legal
+
+pub returns-in-Some-clause-one : goal.returns-in-Some-clause-one
+returns-in-Some-clause-one g c file history other first second = one_history file history other first second
 
 pub returns-in-Some-clause-complete : goal.returns-in-Some-clause-complete
 returns-in-Some-clause-complete g c command words can no_source no_sink no_disk =
@@ -100,9 +110,6 @@ pub returns-in-None-clause-moments : goal.returns-in-None-clause-moments
 returns-in-None-clause-moments g c command past words honest each =
     absurd (c.in-None.ensures.none refl command (ap (map (string_bytes {Z = Global})) c.deref.ensures.value ∙ words.0, words.1))
 
-pub returns-in-None-clause-file_moments : goal.returns-in-None-clause-file_moments
-returns-in-None-clause-file_moments g c past words honest each = returns-in-None-clause-moments g c File past (words, tt) honest each
-
 pub returns-in-None-clause-file_ran : goal.returns-in-None-clause-file_ran
 returns-in-None-clause-file_ran g c words =
     absurd (c.in-None.ensures.none refl File (ap (map (string_bytes {Z = Global})) c.deref.ensures.value ∙ words, tt))
@@ -111,8 +118,19 @@ pub returns-in-None-clause-complete : goal.returns-in-None-clause-complete
 returns-in-None-clause-complete g c command words can no_source no_sink no_disk =
     absurd (c.in-None.ensures.none refl command (ap (map (string_bytes {Z = Global})) c.deref.ensures.value ∙ words.0, words.1))
 
+pub returns-in-None-clause-founded : goal.returns-in-None-clause-founded
+returns-in-None-clause-founded g c words well honest =
+    absurd (c.in-None.ensures.none refl Found (ap (map (string_bytes {Z = Global})) c.deref.ensures.value ∙ words, tt))
+
+pub returns-in-None-clause-headline : goal.returns-in-None-clause-headline
+returns-in-None-clause-headline g c past words honest sincere sound each =
+    absurd (c.in-None.ensures.none refl File (ap (map (string_bytes {Z = Global})) c.deref.ensures.value ∙ words, tt))
+
 pub returns-in-None-clause-within : goal.returns-in-None-clause-within
-returns-in-None-clause-within g c file history is = legal_within history is.legal
+returns-in-None-clause-within g c file history is = legal_within history (to_kept file history is).legal
+
+pub returns-in-None-clause-one : goal.returns-in-None-clause-one
+returns-in-None-clause-one g c file history other first second = one_history file history other first second
 
 pub returns-in-Some-clause-shows : goal.returns-in-Some-clause-shows
 returns-in-Some-clause-shows g c =
