@@ -2,7 +2,7 @@
 use Rattle.std.specs.Prelude.{◌≡◌, ◌≢◌, ◌⊎◌, ℕ, ◌+◌, List, [], ◌∷◌, ◌++◌, codes, decimal, get_or, length, reverse}
 use Rattle.aid_filings.specs.declared.filing.Filing.{Filing}
 use Rattle.disk_model.specs.Telling.{EachImage, EachMoment, Telling}
-use Rattle.headline.specs.Filed.{FaultLine, IsFault, Row}
+use Rattle.headline.specs.Filed.{IsFault, Row}
 use Rattle.headline.specs.Office.{Answered, Recovers}
 use Rattle.kept_desks.specs.declared.names.RowName.{RowName}
 use Rattle.office_lock.specs.Passes.{IsOlder}
@@ -24,7 +24,7 @@ pub record DeskText (desk : ℕ) (rows : List Row) (past closed : List Filing) (
   pub stop : List ℕ
   pub written : text ≡ lines ++ stop
   pub replies : Replies desk closed 1 answered past lines
-  pub stops : ((left ≡ []) × (stop ≡ [])) ⊎ ((status ≢ 0) × (line : List ℕ) × FaultLine line × (stop ≡ codes "desk " ++ decimal desk ++ codes " " ++ decimal (length answered + 1) ++ codes " " ++ line))
+  pub stops : ((left ≡ []) × (stop ≡ [])) ⊎ ((status ≢ 0) × (line : List ℕ) × IsFault line [] × (stop ≡ codes "desk " ++ decimal desk ++ codes " " ++ decimal (length answered + 1) ++ codes " " ++ line))
 
 -- the lines of all desks, in desk order, the first of them with this number
 pub data DeskTexts (past closed : List Filing) (status : ℕ) : ℕ → List (List Row) → List ℕ → Type 0 where
@@ -36,17 +36,20 @@ pub data DeskTexts (past closed : List Filing) (status : ℕ) : ℕ → List (Li
 abbrev pub row_at : List (List Row) → RowName → Row
 row_at inputs by = get_or ([] ∷ get_or ([] ∷ inputs) by.desk []) by.row []
 
--- a line `admitted POSITION D ROW` for each filing that was added, the oldest first: the row files it
-pub data Admitted (inputs : List (List Row)) : ℕ → List Filing → List ℕ → Type 0 where
-  none : (position : ℕ) → Admitted inputs position [] []
-  more : (position : ℕ) (f : Filing) (fs : List Filing) (by : RowName) (text : List ℕ) → Files (row_at inputs by) f → Admitted inputs (position + 1) fs text
-      → Admitted inputs position (f ∷ fs) ((codes "admitted " ++ decimal position ++ codes " " ++ decimal by.desk ++ codes " " ++ decimal by.row ++ codes "\n") ++ text)
+-- A line `admitted POSITION D ROW` for each filing that was added behind so many, the oldest first: the row files it, and its own
+-- line, among those of all desks, says that it was accepted there, or that its desk stopped at it with this position in doubt.
+pub data Admitted (inputs : List (List Row)) (lines : List ℕ) : ℕ → List Filing → List ℕ → Type 0 where
+  none : (count : ℕ) → Admitted inputs lines count [] []
+  more : (count : ℕ) (f : Filing) (fs : List Filing) (by : RowName) (text front words behind : List ℕ) → Files (row_at inputs by) f
+      → lines ≡ front ++ (codes "desk " ++ decimal by.desk ++ codes " " ++ decimal by.row ++ codes " " ++ words) ++ behind
+      → (words ≡ decimal count ++ codes " accepted " ++ decimal (count + 1) ++ codes " ") ⊎ (words ≡ codes "fault disk " ++ decimal (count + 1) ++ codes "\n") → Admitted inputs lines (count + 1) fs text
+      → Admitted inputs lines count (f ∷ fs) ((codes "admitted " ++ decimal (count + 1) ++ codes " " ++ decimal by.desk ++ codes " " ++ decimal by.row ++ codes "\n") ++ text)
 
 -- A run of many desks on a file that recovers a history: nothing was filed, or what the desks' rows added joins the history. Then each
--- image recovers it, or it and the filing of one row more. The text is cut short only where the status is 4.
+-- image recovers it, or, where the status isn't 0, it and the filing of one row more. The text is cut short only where the status is 4.
 pub data RanAtOnce (inputs : List (List Row)) (past : List Filing) (old new : Telling) : List ℕ → ℕ → Type 0 where
-  idle : (text : List ℕ) (status : ℕ) → IsFault text → (status ≢ 0) × (status ≢ 6) × (status ≢ 7) → EachMoment old new (λ file. Recovers file past) → RanAtOnce inputs past old new text status
-  filed : (added : List Filing) (lines admitted text cut : List ℕ) (status : ℕ) → DeskTexts past (added ++ past) status 1 inputs lines → Admitted inputs (length past + 1) (reverse added) admitted
+  idle : (text cut : List ℕ) (status : ℕ) → IsFault text cut → (status ≢ 0) × (status ≢ 6) × (status ≢ 7) → EachMoment old new (λ file. Recovers file past) → RanAtOnce inputs past old new text status
+  filed : (added : List Filing) (lines admitted text cut : List ℕ) (status : ℕ) → DeskTexts past (added ++ past) status 1 inputs lines → Admitted inputs lines (length past) (reverse added) admitted
       → text ++ cut ≡ lines ++ admitted → (status ≢ 4 → cut ≡ []) → (status ≢ 6) × (status ≢ 7)
-      → EachImage new (λ file. Recovers file (added ++ past) ⊎ ((f : Filing) × (by : RowName) × Files (row_at inputs by) f × Recovers file (f ∷ added ++ past)))
+      → EachImage new (λ file. Recovers file (added ++ past) ⊎ ((status ≢ 0) × (f : Filing) × (by : RowName) × Files (row_at inputs by) f × Recovers file (f ∷ added ++ past)))
       → RanAtOnce inputs past old new text status

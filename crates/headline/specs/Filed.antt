@@ -27,18 +27,15 @@ pub data Answers {D : Type 0} (disk : Ghosts D) : ℕ → List Row → List Fili
       → Answered past number row line mid → Between past mid (disk.tells old) (disk.tells at) → EachImage (disk.tells at) (λ file. Recovers file mid)
       → Answers disk (number + 1) rows mid last text at new → Answers disk number (row ∷ rows) past last (line ++ text) old new
 
--- a line that says what failed, in words and by a number where they need one; and a front of such a line
-abbrev pub FaultLine : List ℕ → Type 0
-FaultLine line = (words numbers : List ℕ) × IsTrue (list_all (λ c. not (c == 10)) words) × (line ≡ codes "fault " ++ words ++ flat_map decimal numbers ++ codes "\n")
-
-abbrev pub IsFault : List ℕ → Type 0
-IsFault text = (cut : List ℕ) × FaultLine (text ++ cut)
+-- a text that, with what is cut from it, is a line that says what failed, in words and by a number where they need one
+abbrev pub IsFault : List ℕ → List ℕ → Type 0
+IsFault text cut = (words numbers : List ℕ) × IsTrue (list_all (λ c. not (c == 10)) words) × (text ++ cut ≡ codes "fault " ++ words ++ flat_map decimal numbers ++ codes "\n")
 
 -- What comes behind the rows that were answered: nothing more, or the turn of one row more, whose line isn't written, or not all of it.
 pub data Stops (past : List Filing) (number : ℕ) (old new : Telling) : List Row → List ℕ → Type 0 where
-  between : (rows : List Row) (text : List ℕ) → IsFault text → EachMoment old new (λ file. Recovers file past) → Stops past number old new rows text
-  within : (row : Row) (rows : List Row) (line text : List ℕ) (after : List Filing) → Answered past number row line after → Between past after old new
-      → IsFault text ⊎ ((cut : List ℕ) × (text ++ cut ≡ line) × (cut ≢ [])) → Stops past number old new (row ∷ rows) text
+  between : (rows : List Row) (text cut : List ℕ) → IsFault text cut → EachMoment old new (λ file. Recovers file past) → Stops past number old new rows text
+  within : (row : Row) (rows : List Row) (line text cut : List ℕ) (after : List Filing) → Answered past number row line after → Between past after old new
+      → IsFault text cut ⊎ ((text ++ cut ≡ line) × (cut ≢ [])) → Stops past number old new (row ∷ rows) text
 
 -- A run over rows: the journal is opened, some rows in front are answered, all of them where the status is 0, and the run stops.
 -- A file that recovers a history is never refused by the statuses 6 and 7.

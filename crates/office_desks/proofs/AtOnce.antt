@@ -1,6 +1,6 @@
 -- What a run of many desks comes to, in few words.
-use Rattle.std.proofs.Common.{◌≡◌, ◌≢◌, ◌⊎◌, inl, inr, ⊎_elim, ℕ, ◌+◌, ◌<◌, IsTrue, List, [], ◌∷◌, ◌++◌, Option, Some, None, length, map, reverse, take, drop, get_or, append-nil, refl, sym, ap, ◌∙◌, subst, arith}
-use Rattle.std.specs.Prelude.{codes}
+use Rattle.std.proofs.Common.{◌≡◌, ◌≢◌, ◌⊎◌, inl, inr, ⊎_elim, ℕ, ◌+◌, ◌-◌, ◌<◌, IsTrue, List, [], ◌∷◌, ◌++◌, Option, Some, None, length, map, reverse, take, drop, get_or, append-nil, refl, sym, ap, ◌∙◌, subst, arith}
+use Rattle.std.specs.Prelude.{codes, Contains}
 use Rattle.std.proofs.lemmas.List.{get_or-map, length-map, take-append-drop}
 use Rattle.aid_edges.specs.declared.source.Source.{Ghosts as SourceGhosts}
 use Rattle.aid_edges.specs.declared.sink.Sink.{Ghosts as SinkGhosts}
@@ -13,7 +13,7 @@ use Rattle.disk_model.proofs.Moments.{started, weaken}
 use Rattle.filing_journal.specs.declared.opening.OpenError.{OpenError}
 use Rattle.filing_journal.specs.declared.opening.OpenError.TheVariants as opening
 use Rattle.headline.specs.AtOnce.{Admitted, DeskTexts, RanAtOnce, filed, idle, row_at}
-use Rattle.headline.specs.Filed.{FaultLine, Row, rows_in}
+use Rattle.headline.specs.Filed.{IsFault, Row, rows_in}
 use Rattle.headline.specs.Office.{Recovers}
 use Rattle.kept_desks.specs.Desks.{left_in}
 use Rattle.kept_desks.specs.Names.{entries_of, filed_list, filed_pending, no_row, rows_of}
@@ -22,18 +22,20 @@ use Rattle.kept_desks.specs.declared.names.Filed.{Filed}
 use Rattle.kept_desks.specs.declared.names.RowName.{RowName}
 use Rattle.kept_desks.specs.declared.stop.DeskEnd.TheVariants.{Stopped}
 use Rattle.kept_desks.specs.declared.stop.DeskStop.{DeskStop}
+use Rattle.kept_desks.specs.declared.stop.DeskStop.TheVariants.{DiskFault}
 use Rattle.kept_desks.proofs.Going.{entries_filed}
 use Rattle.kept_list.specs.Kept.{IsSound}
 use Rattle.kept_list.proofs.Histories.{recovers_once}
 use Rattle.kept_office.specs.OfficeLaws.{alone}
 use Rattle.kept_office.specs.Recovers as kept
 use Rattle.kept_office.specs.Scheme.{office_scheme}
+use Rattle.kept_office.specs.Turns.{asked as filing_asked}
 use Rattle.kept_session.specs.Links.{IsOpened}
 use Rattle.kept_session.specs.declared.stop.ReadStop.{ReadStop}
 use Rattle.kept_session.specs.declared.stop.ReadStop.TheVariants as reading
 use Rattle.office_forms.specs.Asks.{asked}
 use Rattle.office_history.specs.Answer.{IsLegal}
-use Rattle.office_lock.specs.Passes.{IsOlder}
+use Rattle.office_lock.specs.Passes.{IsOlder, numbered}
 use Rattle.office_lock.specs.declared.turned.Stand.{Stand}
 use Rattle.plain_filings.specs.Written.{Files}
 use Rattle.headline.proofs.Office.{from_kept, to_kept}
@@ -43,10 +45,10 @@ use Rattle.office_desks.specs.DeskTexts.{admitted_text, desks_status, desks_text
 use Rattle.office_desks.specs.DesksDone.{HasNamed}
 use Rattle.office_desks.specs.RanDesks.{AreRead, FilesAll, unopened, starved, worked, HasFiled, IsDeskOf, RanDesks, unasked, unread, read, View, input_at}
 use Rattle.office_desks.specs.declared.desks.DeskInput.{DeskInput}
-use Rattle.office_desks.proofs.Admitting.{admitted_lines, row_files}
-use Rattle.office_desks.proofs.Filers.{in_one, numbered_has}
-use Rattle.office_desks.proofs.Following.{entries_append, entries_older}
-use Rattle.office_desks.proofs.Named.{added_named, of_desk, seen_in_closed}
+use Rattle.office_desks.proofs.Admitting.{IsOwn, admitted_lines, numbered_at, row_files, row_shown}
+use Rattle.office_desks.proofs.Filers.{in_one}
+use Rattle.office_desks.proofs.Following.{entries_append, entries_older, length-entries}
+use Rattle.office_desks.proofs.Named.{added_named, of_desk, seen_in_closed, undecided_at}
 use Rattle.office_desks.proofs.Reading.{some_of}
 use Rattle.office_desks.proofs.Replies.{IsOf, all_desks, few_statuses, status_shown, stopped_status, text_shown}
 
@@ -67,7 +69,7 @@ wrote sink text shown status out out' honest (untold short) =
 
 -- a fault's line, whose status is that of no refusal of the office
 record IsFaultLine (line : List ℕ) (shown : ℕ) : Type 0 where
-  pub says : FaultLine line
+  pub says : IsFault line []
   pub some : 0 < shown
   pub not_six : shown ≢ 6
   pub not_seven : shown ≢ 7
@@ -124,7 +126,7 @@ module _ {D S K : Type 0} (disk : Ghosts D) (source : SourceGhosts S) (sink : Si
   idle_by line shown fault moments ends = (
     end.front,
     end.written,
-    idle end.front status (end.cut, subst FaultLine (sym end.whole) fault.says) (
+    idle end.front end.cut status (fault.says.0, fault.says.1, fault.says.2, end.whole ∙ (sym (append-nil line) ∙ fault.says.3)) (
       other shown status 0 end.shows (λ e. omega (arith, e, fault.some)) (λ e. omega (arith, e)),
       other shown status 6 end.shows fault.not_six (λ e. omega (arith, e)),
       other shown status 7 end.shows fault.not_seven (λ e. omega (arith, e)),
@@ -182,7 +184,11 @@ module _ {D S K : Type 0} (disk : Ghosts D) (source : SourceGhosts S) (sink : Si
         desk : IsDeskOf (k + 1) (input_at source inputs inputs' k i) (get_or before k d)
         desk = has_read.each k i d inside
 
-    texts : ((k : ℕ) (d : View) (stop : DeskStop) → k < length before → (get_or ran.desks k d).ended ≡ Stopped stop → status ≢ 0) → DeskTexts list (added ++ list) status 1 rows (desks_text after)
+    -- where a desk stopped, the status isn't 0
+    abbrev ShowStops : Type 0
+    ShowStops = (k : ℕ) (d : View) (stop : DeskStop) → k < length before → (get_or ran.desks k d).ended ≡ Stopped stop → status ≢ 0
+
+    texts : ShowStops → DeskTexts list (added ++ list) status 1 rows (desks_text after)
     texts stopped =
         subst (λ l. DeskTexts list l status 1 rows (desks_text after)) closed (subst (DeskTexts list history status 1 rows) (sym (text_shown after ran.desks ran.shown))
         (all_desks start list history status (entries_filed list []) legal 1 rows before ran.desks (has_read.count ∙ sym (length-map inputs (λ (x : DeskInput S). rows_in (source.left x.input)))) ran.count
@@ -194,35 +200,47 @@ module _ {D S K : Type 0} (disk : Ghosts D) (source : SourceGhosts S) (sink : Si
     named_files : (entry : ℕ × Filed Filing) → ((k : ℕ) × (d : View) × (lt : k < length before) × HasNamed (ran.each k d lt) entry) → Files (row_at rows entry.1.by) entry.1.entry
     named_files entry (k, d, lt, named) = row_files rows k (get_or before k d) (get_or ran.desks k d) (ran.each k d lt) entry (of k d lt) named
 
-    lines : Admitted rows (length list + 1) (reverse added) (admitted_text (length list + 1) (reverse (rows_of ran.ran.added)))
-    lines = admitted_lines rows (length list + 1) ran.ran.added (λ k d lt.
-        let (p, has) = numbered_has (length start.list) ran.ran.added k d lt in
-        named_files (p, get_or ran.ran.added k d) (added_named start end before after ran (p, get_or ran.ran.added k d) has))
+    -- and its line shows it
+    named_shown : (count : ℕ) (entry : ℕ × Filed Filing) → entry.0 ≡ count + 1 → ((k : ℕ) × (d : View) × (lt : k < length before) × HasNamed (ran.each k d lt) entry) → IsOwn rows (desks_text ran.desks) entry.1 count
+    named_shown count entry at (k, d, lt, named) = row_shown rows ran.desks k count (get_or before k d) d (ran.each k d lt) entry (omega (arith, lt, ran.count)) (of k d lt) named at
 
-    undecided_files : (f : Filing) → pending ≡ Some f → (by : RowName) × Files (row_at rows by) f
-    undecided_files f is = go waiting refl
+    lines : Admitted rows (desks_text after) (length list) (reverse added) (admitted_text (length list + 1) (reverse (rows_of ran.ran.added)))
+    lines = subst (λ t. Admitted rows t (length list) (reverse added) (admitted_text (length list + 1) (reverse (rows_of ran.ran.added)))) (sym (text_shown after ran.desks ran.shown))
+        (admitted_lines rows (desks_text ran.desks) (length list) ran.ran.added (λ k d lt.
+        let n = length list + (length ran.ran.added - 1 - k) in
+        let many : length start.list ≡ length list = sym (length-entries start.list) ∙ ap length (entries_filed list []) in
+        let has = subst (λ (c : ℕ). Contains (numbered (length start.list) ran.ran.added) (c + (length ran.ran.added - 1 - k) + 1, get_or ran.ran.added k d)) many (numbered_at (length start.list) ran.ran.added k d lt) in
+        named_shown n (n + 1, get_or ran.ran.added k d) refl (added_named start end before after ran (n + 1, get_or ran.ran.added k d) has)))
+
+    -- an undecided filing is a row's at which its desk stopped
+    undecided_files : ShowStops → (f : Filing) → pending ≡ Some f → (status ≢ 0) × (by : RowName) × Files (row_at rows by) f
+    undecided_files stopped f is = go waiting refl
       where
-        of_row : (by : RowName) → end.pending ≡ Some (record { entry = f; by = by }) → (by : RowName) × Files (row_at rows by) f
+        of_row : (by : RowName) → end.pending ≡ Some (record { entry = f; by = by }) → (status ≢ 0) × (by : RowName) × Files (row_at rows by) f
         of_row by named =
             let entry : ℕ × Filed Filing = (length end.list + 1, record { entry = f; by = by }) in
             let (k, x, lt, at, there) = in_one (λ (v : View). left_in v.pass) ran.desks entry (ran.ran.pending (record { entry = f; by = by }) named) in
-            (by, named_files entry (of_desk start end before after ran k x entry lt at (inr there)))
+            let inside : k < length before = omega (arith, lt, ran.count) in
+            let own = ran.each k x inside in
+            let left = subst (λ l. Contains l entry) (ap left_in (ap (λ (v : View). v.pass) at ∙ own.has)) there in
+            let ended = (undecided_at filing_asked _ (get_or ran.desks k x).ended own.files.taken own.files.rest own.known entry own.files.ends left).0 in
+            (stopped k x (DiskFault (Some entry.0)) inside ended, by, named_files entry (of_desk start end before after ran k x entry lt at (inr there)))
 
-        go : (w : Option RowName) → waiting ≡ w → (by : RowName) × Files (row_at rows by) f
+        go : (w : Option RowName) → waiting ≡ w → (status ≢ 0) × (by : RowName) × Files (row_at rows by) f
         go None none = of_row no_row (ap (λ p. filed_pending p waiting) is ∙ ap (λ w. filed_pending (Some f) w) none)
         go (Some by) some = of_row by (ap (λ p. filed_pending p waiting) is ∙ ap (λ w. filed_pending (Some f) w) some)
 
     abbrev Left : List Filing → List ℕ → Type 0
-    Left l file = Recovers file l ⊎ ((f : Filing) × (by : RowName) × Files (row_at rows by) f × Recovers file (f ∷ l))
+    Left l file = Recovers file l ⊎ ((status ≢ 0) × (f : Filing) × (by : RowName) × Files (row_at rows by) f × Recovers file (f ∷ l))
 
-    left : EachImage (disk.tells new) (Left (added ++ list))
-    left = subst (λ l. EachImage (disk.tells new) (Left l)) closed (go pending refl (sound still))
+    left : ShowStops → EachImage (disk.tells new) (Left (added ++ list))
+    left stopped = subst (λ l. EachImage (disk.tells new) (Left l)) closed (go pending refl (sound still))
       where
         go : (p : Option Filing) → pending ≡ p → IsSound office_scheme (disk.tells new) history p → EachImage (disk.tells new) (Left history)
         go None is settled = λ c image. inl (from_kept c history (settled c image))
         go (Some f) is undecided = λ c image.
-            let (by, files) = undecided_files f is in
-            ⊎_elim (λ without. inl (from_kept c history without)) (λ with. inr (f, by, files, from_kept c (f ∷ history) with)) (undecided.images c image)
+            let (failed, by, files) = undecided_files stopped f is in
+            ⊎_elim (λ without. inl (from_kept c history without)) (λ with. inr (failed, f, by, files, from_kept c (f ∷ history) with)) (undecided.images c image)
 
     abbrev whole_text : List ℕ
     whole_text = desks_text after ++ admitted_text (length list + 1) (reverse (rows_of ran.ran.added))
@@ -233,17 +251,19 @@ module _ {D S K : Type 0} (disk : Ghosts D) (source : SourceGhosts S) (sink : Si
       put.written,
       subst (λ (p : List Filing). RanAtOnce rows p (disk.tells old) (disk.tells new) put.front status) same
           (filed added (desks_text after) (admitted_text (length list + 1) (reverse (rows_of ran.ran.added))) put.front put.cut status
-          (texts (λ k d stop lt is. other (desks_status after) status 0 put.shows
-          (λ none. stopped_status ran.desks k d stop (omega (arith, lt, ran.count)) is (sym (status_shown after ran.desks ran.shown) ∙ none)) (λ e. omega (arith, e))))
-          lines put.whole put.all (
+          (texts stopped) lines put.whole put.all (
             other (desks_status after) status 6 put.shows (few_statuses after 6 (omega arith) (λ e. omega (arith, e)) (λ e. omega (arith, e))) (λ e. omega (arith, e)),
             other (desks_status after) status 7 put.shows (few_statuses after 7 (omega arith) (λ e. omega (arith, e)) (λ e. omega (arith, e))) (λ e. omega (arith, e)),
           )
-          left),
+          (left stopped)),
     )
       where
         put : Wrote sink whole_text (desks_status after) out out' status
         put = wrote sink whole_text (desks_status after) status out out' writes ends
+
+        stopped : ShowStops
+        stopped k d stop lt is = other (desks_status after) status 0 put.shows
+            (λ none. stopped_status ran.desks k d stop (omega (arith, lt, ran.count)) is (sym (status_shown after ran.desks ran.shown) ∙ none)) (λ e. omega (arith, e))
 
   -- a list that was opened is the one before
   moments_of_opened : (list : List Filing) → IsOpened disk office_scheme list old new → Stays

@@ -91,3 +91,17 @@ module _ {D S K : Type 0} (disk : Ghosts D) (source : SourceGhosts S) (sink : Si
       go (inr many) = let few = can.few in omega (arith, many, few)
   desks_done status (unread stop _ at same ends) = ended_early (read_line stop) (read_status stop) status (unread_by stop at) ends
   desks_done status (read before _ are files) = all_filed before status files
+
+-- ---- the disk
+files_honest : {D K : Type 0} (disk : Ghosts D) (sink : SinkGhosts K) (old new : D) (before : List View) (out out' : K) (status : ℕ) → FilesAll disk sink old new before out out' status
+    → (disk.tells new).honest ≡ (disk.tells old).honest
+files_honest disk sink old new before out out' status (unopened error _ u rose ends) = u.honest
+files_honest disk sink old new before out out' status (starved past _ opened ends) = opened.honest
+files_honest disk sink old new before out out' status (worked after past history pending log waiting at _ opened filed sound ends) = filed.ran.fixed ∙ opened.honest
+
+-- a run makes no disk honest, and none dishonest
+pub desks_honest : {D S K : Type 0} (disk : Ghosts D) (source : SourceGhosts S) (sink : SinkGhosts K) (old new : D) (inputs inputs' : List (DeskInput S)) (out out' : K) (status : ℕ)
+    → RanDesks disk source sink old new inputs inputs' out out' status → (disk.tells new).honest ≡ (disk.tells old).honest
+desks_honest disk source sink old new inputs inputs' out out' status (unasked _ wrong same unmoved ends) = ap (λ d. (disk.tells d).honest) same
+desks_honest disk source sink old new inputs inputs' out out' status (unread stop _ at same ends) = ap (λ d. (disk.tells d).honest) same
+desks_honest disk source sink old new inputs inputs' out out' status (read before _ are files) = files_honest disk sink old new before out out' status files

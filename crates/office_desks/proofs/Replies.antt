@@ -10,7 +10,7 @@ use Rattle.desk_forms.specs.Rows.{meanings_from, row_meaning}
 use Rattle.desk_forms.specs.declared.error.RowError.{RowError}
 use Rattle.headline.specs.AtOnce.{DeskText, DeskTexts, Replies}
 use Rattle.headline.specs.AtOnce as many
-use Rattle.headline.specs.Filed.{FaultLine, Row}
+use Rattle.headline.specs.Filed.{IsFault, Row}
 use Rattle.headline.proofs.Office.{answered as row_answered}
 use Rattle.kept_desks.specs.Answered.{Answer, Ends, Follows, answer_lines}
 use Rattle.kept_desks.specs.DeskTexts.{desk_text, stop_at, stop_text}
@@ -51,20 +51,18 @@ record Replied (desk : ℕ) (closed : List Filing) (number : ℕ) (rows : List R
   pub replies : Replies desk closed number front seen lines
 
 -- why a desk stopped, behind the row's number
-fault_of : DeskStop → List ℕ
+abbrev pub fault_of : DeskStop → List ℕ
 fault_of (DiskFault None) = codes "fault disk none\n"
 fault_of (DiskFault (Some position)) = codes "fault disk " ++ decimal position ++ codes "\n"
 fault_of NoMemory = codes "fault memory\n"
 
-fault_said : (stop : DeskStop) → FaultLine (fault_of stop)
-unfolding fault_of
+fault_said : (stop : DeskStop) → IsFault (fault_of stop) []
 fault_said (DiskFault None) = (codes "disk none", [], refl, refl)
-fault_said (DiskFault (Some position)) = (codes "disk ", position ∷ [], refl, ap (λ (digits : List ℕ). codes "fault disk " ++ digits ++ codes "\n") (sym (append-nil (decimal position))))
+fault_said (DiskFault (Some position)) = (codes "disk ", position ∷ [], refl, append-nil _ ∙ ap (λ (digits : List ℕ). codes "fault disk " ++ digits ++ codes "\n") (sym (append-nil (decimal position))))
 fault_said NoMemory = (codes "memory", [], refl, refl)
 
 -- the line of a stop
-stop_begins : (prefix : List ℕ) (row : ℕ) (stop : DeskStop) → prefix ++ stop_words row stop ≡ prefix ++ decimal row ++ codes " " ++ fault_of stop
-unfolding fault_of
+pub stop_begins : (prefix : List ℕ) (row : ℕ) (stop : DeskStop) → prefix ++ stop_words row stop ≡ prefix ++ decimal row ++ codes " " ++ fault_of stop
 stop_begins prefix row stop = ap (λ l. prefix ++ l) (words stop) ∙ (sym (append_assoc prefix (decimal row) (codes " " ++ fault_of stop)) ∙ sym (append_assoc (prefix ++ decimal row) (codes " ") (fault_of stop)))
   where
     words : (s : DeskStop) → stop_words row s ≡ decimal row ++ (codes " " ++ fault_of s)
@@ -147,7 +145,7 @@ module _ (opening : Stand (Filed Filing)) (past closed : List Filing) (status : 
 
       ends : (end : DeskEnd) → after.ended ≡ end → Ends filing_asked (record { desk = before.number; row = after.answered + 1 }) end own.files.taken own.files.rest own.known
           → ((replies.behind ≡ []) × (stop_text (stop_line after.prefix) (stop_at after.number after.answered end) ≡ []))
-          ⊎ ((status ≢ 0) × (line : List ℕ) × FaultLine line × (stop_text (stop_line after.prefix) (stop_at after.number after.answered end)
+          ⊎ ((status ≢ 0) × (line : List ℕ) × IsFault line [] × (stop_text (stop_line after.prefix) (stop_at after.number after.answered end)
           ≡ codes "desk " ++ decimal number ++ codes " " ++ decimal (length replies.front + 1) ++ codes " " ++ line))
       ends Open is clean = absurd (own.ended is)
       ends Done is done = inl (replies.last (ap₂ (λ t r. map said_by t ++ r) done.0 done.1), refl)

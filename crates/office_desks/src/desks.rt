@@ -207,7 +207,7 @@ pub fn run_desks<D: Disk + Send, S: Source, G: Gate + Sync, K: Sink, H: Threads 
 ) -> (u8, D)
     // The headline, in few words. Over an honest disk each image of which recovers a history, each row of a desk with a line was
     // answered on a history that goes on from what the desk had seen; what the desks' rows added joins the history, none is lost
-    // and none is made up; and each image then recovers it, with the filing of one row more or without.
+    // and none is made up; and each image then recovers it, or, where the status isn't 0, it and the filing of one row more.
     ensures headline { (past : List Filing) → IsHonest (D.tells disk) → All (λ i. IsTrue (S.honest i.input)) desks.old → IsTrue (K.honest out.old) → EachImage (D.tells disk) (λ file. Recovers file past)
         → (text : List ℕ) × (K.text out.new ≡ K.text out.old ++ text) × RanAtOnce (map (λ i. rows_in (S.left i.input)) desks.old) past (D.tells disk) (D.tells result.1) text result.0 }
 
@@ -217,6 +217,7 @@ pub fn run_desks<D: Disk + Send, S: Source, G: Gate + Sync, K: Sink, H: Threads 
     // Where no count rose, desks that can file are done, if there is memory.
     ensures complete { CanFile S.Source desks.old (D.tells disk) → NoneRose S.Source desks.old desks.new → ¬ (Rose (K.faults out.old) (K.faults out.new))
         → ¬ (RoseBy 1 (D.faults disk) (D.faults result.1)) → (result.0 ≡ 0) ⊎ (result.0 ≡ 9) }
+    ensures disk_honest { (D.tells result.1).honest ≡ (D.tells disk).honest }
 {
     if !can_file(desks.len()) {
         return (end_with(RunStop::Usage, out), disk);

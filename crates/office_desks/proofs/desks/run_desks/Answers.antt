@@ -4,7 +4,7 @@ use Rattle.run_ends.specs.Ends.{EndsWith}
 use Rattle.run_ends.specs.Statuses.{fault_line, status_of}
 use Rattle.run_ends.specs.declared.stop.RunStop.TheVariants.{File}
 use Rattle.office_desks.proofs.AtOnce.{ran_at_once}
-use Rattle.office_desks.proofs.DesksDone.{desks_done}
+use Rattle.office_desks.proofs.DesksDone.{desks_done, desks_honest}
 use Rattle.office_desks.proofs.Filers.{new_desks}
 use Rattle.office_desks.proofs.desks.run_desks.Goals as goal
 
@@ -53,3 +53,7 @@ returns-in-Err-clause-headline g c past honest sources sound each =
     let laws = (g.met.D.Disk g.world.𝓛 g.world.𝓜 g.world.𝓡 ((λ s x. x), (λ x. x), (λ x. x), λ x. x)) in
     ran_at_once g.D.Disk g.S.Source g.K.Sink laws.only_now laws.reads_as_image c.args.disk c.args.disk c.args.desks.now c.read_desks.new.inputs c.args.out.now c.end_with-in-Err.new.out
     c.end_with-in-Err.result past honest sources sound each (returns-in-Err-clause-ran g c)
+
+pub returns-in-Ok-clause-disk_honest : goal.returns-in-Ok-clause-disk_honest
+returns-in-Ok-clause-disk_honest g c =
+    desks_honest g.D.Disk g.S.Source g.K.Sink c.args.disk c.file_read.result.1 c.args.desks.now c.read_desks.new.inputs c.args.out.now c.file_read.new.out c.file_read.result.0 (returns-in-Ok-clause-ran g c)
