@@ -38,8 +38,12 @@ use Rattle.run_ends.specs.Statuses.{session_line, session_status}
 use Rattle.office_runs.specs.Ran.{FileRan, written}
 
 -- ---- the end of a run
+-- a text is a line that says what failed, or a front of it
+abbrev FaultFront : List ℕ → Type 0
+FaultFront text = (cut : List ℕ) × IsFault text cut
+
 -- nothing is a front of each line
-no_fault : IsFault []
+no_fault : FaultFront []
 no_fault = (codes "fault \n", ([], [], refl, refl))
 
 -- a line that ends with a number
@@ -47,7 +51,7 @@ numbered : (front : List ℕ) (n : ℕ) → front ++ decimal n ++ codes "\n" ≡
 numbered front n = ap (λ (digits : List ℕ). front ++ digits ++ codes "\n") (sym (append-nil (decimal n)))
 
 -- a front of a line that says what stopped a session; there is none after a write that failed
-fault_front : (stop : SessionStop) (text cut : List ℕ) → text ++ cut ≡ session_line stop → IsFault text
+fault_front : (stop : SessionStop) (text cut : List ℕ) → text ++ cut ≡ session_line stop → FaultFront text
 fault_front (ending.Reading reading.Read) text cut is = (cut, (codes "read", [], refl, is))
 fault_front (ending.Reading reading.TooLong) text cut is = (cut, (codes "too long", [], refl, is))
 fault_front (ending.Reading reading.NoMemory) text cut is = (cut, (codes "memory", [], refl, is))
@@ -192,17 +196,22 @@ module _ {D : Type 0} (disk : Ghosts D) (only : (d : D) (c : List ℕ) → IsHon
       (fronts (number + 1) texts rest others (after_row office_judging past row) mid new (subst IsTrue (sym link.honest) honest) (link.images honest)
       (subst (λ (n : ℕ). said_from n texts ≡ map said_by others ++ rest) (omega arith) (let behind : said_from (suc number) texts ≡ map said_by others ++ rest = cc in behind)) runs)
 
+  -- between two rows
+  stopped_between : {number : ℕ} {past : List Filing} {old new : D} (texts : List Row) (text : List ℕ) → FaultFront text → EachMoment (disk.tells old) (disk.tells new) (λ file. Recovers file past)
+      → Stops past number (disk.tells old) (disk.tells new) texts text
+  stopped_between texts text (cut, fault) moments = between texts text cut fault moments
+
   -- the turn of a row at which a session stopped
   stopped_within : (number place : ℕ) (texts : List Row) (row : Result Ask RowError) (rest : List Says) (past : List Filing) (old new : D) (text : List ℕ) → number ≡ place
       → said_from number texts ≡ said_by row ∷ rest → IsLegal past
       → EachMoment (disk.tells old) (disk.tells new) (kept.RecoversEither past (after_row office_judging past row))
-      → IsFault text ⊎ ((cut : List ℕ) × (text ++ cut ≡ row_line office_judging desk_texts past place row) × (cut ≢ []))
+      → (cut : List ℕ) × (IsFault text cut ⊎ ((text ++ cut ≡ row_line office_judging desk_texts past place row) × (cut ≢ [])))
       → Stops past place (disk.tells old) (disk.tells new) texts text
   stopped_within number place [] row rest past old new text same is legal moments part = absurd (let bad : ⊥ = cc in bad)
   stopped_within number place (fields ∷ texts) row rest past old new text same is legal moments part =
       let this : said_by row ≡ asked (row_meaning number fields) = cc in
-      within fields texts (row_line office_judging desk_texts past place row) text (after_row office_judging past row)
-      (answered past place fields row legal (subst (λ (n : ℕ). said_by row ≡ asked (row_meaning n fields)) same this)) (turn old new past (after_row office_judging past row) moments) part
+      within fields texts (row_line office_judging desk_texts past place row) text part.0 (after_row office_judging past row)
+      (answered past place fields row legal (subst (λ (n : ℕ). said_by row ≡ asked (row_meaning n fields)) same this)) (turn old new past (after_row office_judging past row) moments) part.1
 
   module _ {K : Type 0} (sink : SinkGhosts K) (old new : D) (input : Input) (out out' : K) (status : ℕ) (honest : IsHonest (disk.tells old)) (sincere : IsTrue input.honest) (sound : IsTrue (sink.honest out)) where
     -- what a run comes to
@@ -243,7 +252,7 @@ module _ {D : Type 0} (disk : Ghosts D) (only : (d : D) (c : List ℕ) → IsHon
         let f = fronts 1 (rows_in input.before) (said_from 1 (rows_in input.before)) [] past old old honest each refl (links.begun past old) in
         comes past old old [] (said_from 1 (rows_in input.before)) text f (rests old past honest each)
         (wrote ∙ ap (λ (l : List ℕ). l ++ text) (same ∙ sym (append-nil (sink.text out))))
-        (between f.behind text (fault_front stop text cut whole) moments)
+        (stopped_between f.behind text (fault_front stop text cut whole) moments)
         (λ zero. absurd (fine.0 zero)) fine.1
 
     -- in the turn of a row
@@ -251,12 +260,12 @@ module _ {D : Type 0} (disk : Ghosts D) (only : (d : D) (c : List ℕ) → IsHon
         → Front 1 (rows_in input.before) (said_by row ∷ rest) front past begun mid → Stays old begun past → IsLegal (after_rows office_judging past front)
         → EachMoment (disk.tells mid) (disk.tells new) (kept.RecoversEither (after_rows office_judging past front) (after_row office_judging (after_rows office_judging past front) row))
         → sink.text out' ≡ (sink.text out ++ lines_of office_judging desk_texts past 1 front) ++ stop
-        → IsFault stop ⊎ ((cut : List ℕ) × (stop ++ cut ≡ row_line office_judging desk_texts (after_rows office_judging past front) (length front + 1) row) × (cut ≢ []))
+        → (cut : List ℕ) × (IsFault stop cut ⊎ ((stop ++ cut ≡ row_line office_judging desk_texts (after_rows office_judging past front) (length front + 1) row) × (cut ≢ [])))
         → Allowed status → Comes past
     comes_within past begun mid front row rest stop f opens legal moments is part fine =
         comes past begun mid front (said_by row ∷ rest) stop f opens is
         (stopped_within (1 + length f.front) (length f.front + 1) f.behind row rest (after_rows office_judging past front) mid new stop (omega arith) f.later legal moments
-        (subst (λ (n : ℕ). IsFault stop ⊎ ((cut : List ℕ) × (stop ++ cut ≡ row_line office_judging desk_texts (after_rows office_judging past front) (n + 1) row) × (cut ≢ []))) (sym f.size) part))
+        (subst (λ (n : ℕ). (cut : List ℕ) × (IsFault stop cut ⊎ ((stop ++ cut ≡ row_line office_judging desk_texts (after_rows office_judging past front) (n + 1) row) × (cut ≢ [])))) (sym f.size) part))
         (λ zero. absurd (fine.0 zero)) fine.1
 
     -- a list that was opened, and the rows in front that were filed
@@ -286,7 +295,7 @@ module _ {D : Type 0} (disk : Ghosts D) (only : (d : D) (c : List ℕ) → IsHon
           let nothing : f.behind ≡ [] = none_left (1 + length f.front) f.behind (f.later ∙ whole refl) in
           let (last, well) = done refl in
           comes past begun new rows rest [] f opens (ap sink.text last ∙ wrote sound ∙ sym (append-nil (sink.text out ++ lines_of office_judging desk_texts past 1 rows)))
-          (between f.behind [] no_fault (rests new (after_rows office_judging past rows) (sure_behind rows new runs) (each_behind rows new runs)))
+          (stopped_between f.behind [] no_fault (rests new (after_rows office_judging past rows) (sure_behind rows new runs) (each_behind rows new runs)))
           (λ zero. (nothing, refl)) (λ six. omega (arith, six, well), λ seven. omega (arith, seven, well))
       comes_of_files ended rows rest is whole done early (unwritten front row runs short) =
           let (mid, before, behind, later) = runs_split disk office_scheme office_judging only front (row ∷ []) past begun new sure each runs in
@@ -297,18 +306,18 @@ module _ {D : Type 0} (disk : Ghosts D) (only : (d : D) (c : List ℕ) → IsHon
           comes_within past begun mid front row rest (take n line) f opens (legal_behind front mid before)
           ((one_link disk row (after_rows office_judging past front) mid new behind).moments (sure_behind front mid before))
           (wrote ∙ ap (λ (l : List ℕ). sink.text at ++ l) (no_front text cut none_whole) ∙ append-nil (sink.text at) ∙ said)
-          (inr (drop n line, take-append-drop n line, some_cut n line less)) fine
+          (drop n line, inr (take-append-drop n line, some_cut n line less)) fine
       comes_of_files ended rows rest is whole done early (faulted front row last undecided runs fault wrote) =
           let f = fronts 1 (rows_in input.before) (said_by row ∷ rest) front past begun last sure each (is ∙ one_more front row rest) runs in
           let (text, cut, more_wrote, line_whole, fine) = behind_lines (filing.DiskFault undecided) (early (filing.DiskFault undecided) refl) in
           comes_within past begun last front row rest text f opens (legal_behind front last runs)
           (subst (λ (h : List Filing). EachMoment (disk.tells last) (disk.tells new) (kept.RecoversEither (after_rows office_judging past front) h)) (sym fault.adds) (fault.moments (sure_behind front last runs)))
-          (more_wrote ∙ ap (λ (l : List ℕ). l ++ text) (wrote sound)) (inl (fault_front (ending.Filing (filing.DiskFault undecided)) text cut line_whole)) fine
+          (more_wrote ∙ ap (λ (l : List ℕ). l ++ text) (wrote sound)) (let (cut, fault) = fault_front (ending.Filing (filing.DiskFault undecided)) text cut line_whole in (cut, inl fault)) fine
       comes_of_files ended rows rest is whole done early (starved _ runs wrote) =
           let f = fronts 1 (rows_in input.before) rest rows past begun new sure each is runs in
           let (text, cut, more_wrote, line_whole, fine) = behind_lines filing.NoMemory (early filing.NoMemory refl) in
           comes past begun new rows rest text f opens (more_wrote ∙ ap (λ (l : List ℕ). l ++ text) (wrote sound))
-          (between f.behind text (fault_front (ending.Filing filing.NoMemory) text cut line_whole) (rests new (after_rows office_judging past rows) (sure_behind rows new runs) (each_behind rows new runs)))
+          (stopped_between f.behind text (fault_front (ending.Filing filing.NoMemory) text cut line_whole) (rests new (after_rows office_judging past rows) (sure_behind rows new runs) (each_behind rows new runs)))
           (λ zero. absurd (fine.0 zero)) fine.1
 
     module _ (at : K) (truth : sink.honest at ≡ sink.honest out) where

@@ -130,12 +130,14 @@ pub fn run<D: Disk, S: Source, K: Sink>(
     policies: &Policies,
 ) -> (u8, D)
     // The headline, in few words. Over an honest disk each image of which recovers a history, the rows of the input are answered one
-    // after the other, each by a line that the law gives, and none that was answered is lost at any moment from then on. What a file
-    // recovers is one history at most, in which no student stands above a limit.
+    // after the other, each by a line that the law gives, and none that was answered is lost at any moment from then on. No command loses
+    // what stood. What a file recovers is one history at most, in which no student stands above a limit.
     ensures founded { map string_bytes words.now.items ≡ codes "found" ∷ [] → result.0 ≡ 0 → IsHonest (D.tells disk) → EachImage (D.tells result.1) (λ file. Recovers file []) }
     ensures headline { (past : List Filing) → map string_bytes words.now.items ≡ codes "file" ∷ [] → IsHonest (D.tells disk) → IsTrue (S.honest input.old) → IsTrue (K.honest out.old)
         → EachImage (D.tells disk) (λ file. Recovers file past)
         → (text : List ℕ) × (K.text out.new ≡ K.text out.old ++ text) × HasFiled D.Disk (rows_in (S.left input.old)) past text result.0 disk result.1 }
+    ensures keeps { (past : List Filing) → IsHonest (D.tells disk) → EachImage (D.tells disk) (λ file. Recovers file past)
+        → EachMoment (D.tells disk) (D.tells result.1) (λ file. (added : List Filing) × Recovers file (added ++ past)) }
     ensures within { (file : List ℕ) (history : List Filing) → Recovers file history → IsWithinEveryLimit history }
     ensures one { (file : List ℕ) (history other : List Filing) → Recovers file history → Recovers file other → history ≡ other }
 

@@ -1,4 +1,7 @@
-use Rattle.std.proofs.Common.{◌≡◌, ◌∙◌, [], ap, arith, Global, length, map, refl, string_bytes, subst, sym, Err}
+use Rattle.std.proofs.Common.{◌≡◌, ◌∙◌, ◌++◌, List, [], ap, arith, Global, length, map, refl, string_bytes, subst, sym, Err}
+use Rattle.aid_filings.specs.declared.filing.Filing.{Filing}
+use Rattle.disk_model.proofs.Moments.{started, weaken}
+use Rattle.headline.specs.Office.{Recovers}
 use Rattle.headline.proofs.Office.{from_kept, one_history, to_kept}
 use Rattle.office_history.proofs.LegalWithin.{legal_within}
 use Rattle.office_words.specs.declared.command.Command.{Command}
@@ -8,6 +11,7 @@ use Rattle.run_ends.specs.declared.stop.RunStop.TheVariants as stops
 use Rattle.office_runs.proofs.Complete.{complete}
 use Rattle.run_ends.proofs.EndLaws.{done_at, ends_honest, ends_later, sink_moved, stood}
 use Rattle.office_runs.proofs.Headline.{has_filed}
+use Rattle.office_runs.proofs.Keeps.{keeps}
 use Rattle.office_runs.proofs.Images.{moments_by, stands_by}
 use Rattle.office_runs.proofs.Shown.{file_ran, run_shows}
 use Rattle.office_runs.proofs.commands.run.Goals as goal
@@ -65,6 +69,14 @@ returns-in-Some-clause-headline g c past words honest sincere sound each =
     has_filed g.D.Disk g.K.Sink g.met.D.Disk.only_now g.met.D.Disk.reads_as_image c.args.disk done.result.1
     (record { honest = g.S.Source.honest c.args.input.now; before = g.S.Source.left c.args.input.now; after = g.S.Source.left done.new.input })
     c.args.out.now c.end.new.out c.end.result past honest sincere sound each (returns-in-Some-clause-file_ran g c words)
+
+pub returns-in-Some-clause-keeps : goal.returns-in-Some-clause-keeps
+returns-in-Some-clause-keeps g c past honest each =
+    let done = c.do_command-ended in
+    weaken (g.D.Disk.tells c.args.disk) (g.D.Disk.tells done.result.1) _ (λ file. (added : List Filing) × Recovers file (added ++ past))
+    (λ file may. keeps _ c.in-Some.command (record { honest = g.S.Source.honest c.args.input.now; before = g.S.Source.left c.args.input.now; after = g.S.Source.left done.new.input }) past file may)
+    (returns-in-Some-clause-moments g c c.in-Some.command past
+    (sym (ap (map (string_bytes {Z = Global})) c.deref.ensures.value) ∙ c.in-Some.ensures.words.0, c.in-Some.ensures.words.1) honest (λ file image. to_kept file past (each file image)))
 
 pub returns-in-Some-clause-within : goal.returns-in-Some-clause-within
 returns-in-Some-clause-within g c file history is = legal_within history (to_kept file history is).legal
@@ -125,6 +137,10 @@ returns-in-None-clause-founded g c words well honest =
 pub returns-in-None-clause-headline : goal.returns-in-None-clause-headline
 returns-in-None-clause-headline g c past words honest sincere sound each =
     absurd (c.in-None.ensures.none refl File (ap (map (string_bytes {Z = Global})) c.deref.ensures.value ∙ words, tt))
+
+pub returns-in-None-clause-keeps : goal.returns-in-None-clause-keeps
+returns-in-None-clause-keeps g c past honest each =
+    started (g.D.Disk.tells c.args.disk) (λ file. (added : List Filing) × Recovers file (added ++ past)) (λ file since. ([], each file (g.met.D.Disk.only_now c.args.disk file honest since)))
 
 pub returns-in-None-clause-within : goal.returns-in-None-clause-within
 returns-in-None-clause-within g c file history is = legal_within history (to_kept file history is).legal
