@@ -1,5 +1,5 @@
 -- What a desk's rows come to that are filed one after the other, and what a crash leaves at every moment of it.
-use Rattle.std.specs.Prelude.{◌≡◌, ◌≢◌, ◌⊎◌, ℕ, ◌+◌, ◌==◌, not, IsTrue, List, [], ◌∷◌, ◌++◌, codes, decimal, flat_map, length}
+use Rattle.std.specs.Prelude.{◌≡◌, ◌≢◌, ◌⊎◌, ℕ, ◌+◌, ◌==◌, ◌||◌, nat_lt, IsTrue, List, [], ◌∷◌, ◌++◌, codes, decimal, flat_map, length}
 use Rattle.std.specs.List.{list_all}
 use Rattle.csv.specs.Reading.{default_config, records, strip_bom}
 use Rattle.aid_filings.specs.declared.filing.Filing.{Filing}
@@ -27,9 +27,9 @@ pub data Answers {D : Type 0} (disk : Ghosts D) : ℕ → List Row → List Fili
       → Answered past number row line mid → Between past mid (disk.tells old) (disk.tells at) → EachImage (disk.tells at) (λ file. Recovers file mid)
       → Answers disk (number + 1) rows mid last text at new → Answers disk number (row ∷ rows) past last (line ++ text) old new
 
--- a text that, with what is cut from it, is a line that says what failed, in words and by a number where they need one
+-- a text that, with what is cut from it, is a line that says what failed: words, spaces between them, and behind them a number where they need one
 abbrev pub IsFault : List ℕ → List ℕ → Type 0
-IsFault text cut = (words numbers : List ℕ) × IsTrue (list_all (λ c. not (c == 10)) words) × (text ++ cut ≡ codes "fault " ++ words ++ flat_map decimal numbers ++ codes "\n")
+IsFault text cut = (words numbers : List ℕ) × IsTrue (list_all (λ c. nat_lt 57 c || c == 32) words) × (text ++ cut ≡ codes "fault " ++ words ++ flat_map decimal numbers ++ codes "\n")
 
 -- What comes behind the rows that were answered: nothing more, or the turn of one row more, whose line isn't written, or not all of it.
 pub data Stops (past : List Filing) (number : ℕ) (old new : Telling) : List Row → List ℕ → Type 0 where
