@@ -6,7 +6,7 @@ ghost use Rattle.desk_forms.specs.declared.error.RowError.{RowError};
 ghost use Rattle.filing_numbers.specs.Numbers.{IsFiling, kind_of, numbers_of};
 ghost use Rattle.plain_filings.specs.Written.{Files};
 
-/// A row is read as a filing exactly where it files it: the name of its kind, and the one text of each number.
+/// A row is read as a filing exactly where it files it: the name of its kind, and a text for each number.
 pub fn row_files()
     ensures { (number : ℕ) (row : List (List ℕ)) (f : Filing) → (row_meaning number row ≡ Ok (kind_of f.what, numbers_of f)) ↔ Files row f }
 {}
