@@ -5,7 +5,7 @@ use Rattle.std.specs.Result.{is_ok}
 use Rattle.std.proofs.lemmas.Fmt.{decimal_digit}
 use Rattle.aid_num.specs.Cents.{cents_text}
 use Rattle.aid_num.proofs.WholeLemmas.{decimal-natural_text}
-use Rattle.reply_lines.specs.Lines.{percent_text}
+use Rattle.aid_num.specs.Percents.{percent_text}
 use Rattle.aid_reports.specs.Columns.{line, right}
 
 -- what stands at the end of a column narrows it for what stands before

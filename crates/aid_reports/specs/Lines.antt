@@ -1,10 +1,9 @@
 -- How the lines of reports are written. Own format.
 use Rattle.std.specs.Prelude.{ℕ, List, [], ◌∷◌, Option, Some, None, codes, decimal}
 use Rattle.aid_num.specs.Cents.{cents_text}
+use Rattle.aid_num.specs.Percents.{percent_text}
 use Rattle.aid_num.specs.Whole.{whole_text}
-use Rattle.aid_types.specs.declared.number.Program.{Program}
-use Rattle.aid_types.specs.declared.number.Program.TheVariants.{Unsub, Sub, Plus, Pell, Fseog, Teach}
-use Rattle.reply_lines.specs.Lines.{formula_text, percent_text, way_text}
+use Rattle.aid_types.specs.Words.{formula_text, program_text, way_text}
 use Rattle.aid_reports.specs.Columns.{left, line, right}
 use Rattle.aid_reports.specs.Days.{day_text}
 use Rattle.aid_reports.specs.declared.rows.LifetimeOf.{LifetimeOf}
@@ -17,15 +16,6 @@ abbrev pub standing_line : StandingOf → List ℕ
 standing_line s = line (
     right 12 (decimal s.student) ∷ formula_text s.row.formula ∷ right 7 (whole_text s.row.sai) ∷ left 10 (way_text s.row.way)
     ∷ right 6 (decimal s.row.scheduled) ∷ right 12 (cents_text s.row.paid) ∷ right 7 (decimal s.row.used) ∷ [])
-
--- how a program is written
-abbrev pub program_text : Program → List ℕ
-program_text Unsub = codes "unsub"
-program_text Sub = codes "sub"
-program_text Plus = codes "plus"
-program_text Pell = codes "pell"
-program_text Fseog = codes "fseog"
-program_text Teach = codes "teach"
 
 -- SCHOOL STUDENT TERM PROGRAM NET
 abbrev pub award_line : NetOf → List ℕ

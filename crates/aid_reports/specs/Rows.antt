@@ -67,10 +67,9 @@ abbrev pub award_rows : List Filing → ℕ → List NetOf
 award_rows past year = flat_map (nets_at past year) (paid_places past year)
 
 -- ---- returns: the withdrawals in the year, by position, each with its worksheet on the filings before it (34 CFR 668.22)
--- a return above 0 is due 45 days after the school determined the withdrawal (34 CFR 668.22(j)(1)), where there is such a day
-abbrev pub due_day : ℕ → ℕ → Option ℕ
-due_day returned determined =
-    if returned == 0 then None else given (nat_le (determined + 45) LAST_DAY) (determined + 45)
+-- a return is due 45 days after the school determined the withdrawal (34 CFR 668.22(j)(1)), where there is such a day
+abbrev pub due_day : ℕ → Option ℕ
+due_day determined = given (nat_le (determined + 45) LAST_DAY) (determined + 45)
 
 abbrev pub return_row : ℕ → WithdrawFacts → Lines → ReturnOf
 return_row school w s = record {
@@ -81,7 +80,7 @@ return_row school w s = record {
   returned = s.school;
   owed = sum s.owed;
   post = s.post;
-  due = due_day s.school w.determined;
+  due = due_day w.determined;
 }
 
 abbrev pub returns_in : List Filing → ℕ → Filing → What → List ReturnOf

@@ -2,7 +2,7 @@
 ghost use Rattle.std.specs.Prelude.{◌≡◌, ◌≤◌, ◌∷◌, ◌++◌, [], OnOk, decimal, replicate};
 ghost use Rattle.aid_num.specs.Cents.{cents_text};
 ghost use Rattle.aid_num.specs.Whole.{whole_text};
-ghost use Rattle.reply_lines.specs.Lines.{percent_text};
+ghost use Rattle.aid_num.specs.Percents.{percent_text};
 ghost use Rattle.aid_reports.specs.Columns.{left, right};
 
 use aid_types::{School, Student};

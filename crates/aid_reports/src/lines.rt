@@ -1,8 +1,7 @@
 //! The lines of reports.
 ghost use Rattle.std.specs.Prelude.{◌≡◌, ◌∷◌, ◌++◌, [], OnOk, codes};
-ghost use Rattle.reply_lines.specs.Lines.{formula_text, way_text};
 ghost use Rattle.aid_reports.specs.Columns.{left, line as columns, right};
-ghost use Rattle.aid_reports.specs.Lines.{award_line, due_text, lifetime_line, program_text, return_line, standing_line};
+ghost use Rattle.aid_reports.specs.Lines.{award_line, due_text, lifetime_line, return_line, standing_line};
 
 use crate::columns::{
     put_amount, put_left, put_number, put_percent, put_school, put_student, put_term, put_text,
@@ -10,7 +9,7 @@ use crate::columns::{
 };
 use crate::rows::{LifetimeOf, NetOf, ReturnOf, StandingOf};
 use crate::table::Line;
-use aid_types::{Day, Formula, Program, Way};
+use aid_types::{Day, formula_name, program_name, way_name};
 use enrolment::put_day;
 use std::alloc::AllocError;
 
@@ -81,42 +80,5 @@ fn put_due_text(due: Option<Day>, out: &mut Vec<u8>) -> Result<(), AllocError>
     match due {
         Some(day) => put_day(day, out),
         None => out.extend_from_slice(b"none"),
-    }
-}
-
-// The letter of a formula.
-fn formula_name(formula: Formula) -> &'static str
-    ensures { result.now ≡ formula_text formula }
-{
-    match formula {
-        Formula::A => "A",
-        Formula::B => "B",
-        Formula::C => "C",
-    }
-}
-
-// The word for a way to an award.
-fn way_name(way: Way) -> &'static str
-    ensures { result.now ≡ way_text way }
-{
-    match way {
-        Way::Maximum => "maximum",
-        Way::Calculated => "calculated",
-        Way::Minimum => "minimum",
-        Way::Nothing => "nothing",
-    }
-}
-
-// The word for a program.
-fn program_name(program: Program) -> &'static str
-    ensures { result.now ≡ program_text program }
-{
-    match program {
-        Program::Unsub => "unsub",
-        Program::Sub => "sub",
-        Program::Plus => "plus",
-        Program::Pell => "pell",
-        Program::Fseog => "fseog",
-        Program::Teach => "teach",
     }
 }

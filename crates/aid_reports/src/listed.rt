@@ -3,14 +3,14 @@ ghost use Rattle.std.specs.Prelude.{◌≡◌, ◌+◌, ◌<◌, ◌≤◌, ◌+
 ghost use Rattle.aid_filings.specs.declared.filing.Filing.{Filing as AnyFiling};
 ghost use Rattle.office_history.specs.Answer.{outcome_of};
 ghost use Rattle.office_history.specs.Net.{used};
-ghost use Rattle.aid_reports.specs.Rows.{award_rows as award_rows_on, due_day as due_day_of, lifetime_rows as lifetime_rows_on, net_of, net_row, nets_at, return_rows as return_rows_on, returns_in, standing_rows as standing_rows_on};
+ghost use Rattle.aid_reports.specs.Rows.{award_rows as award_rows_on, lifetime_rows as lifetime_rows_on, net_of, net_row, nets_at, return_rows as return_rows_on, returns_in, standing_rows as standing_rows_on};
 
 use crate::gathered::{applicants, lifetime_users, paid_places};
 use crate::priors::{prior_of, priors};
 use crate::rows::{LifetimeOf, NetOf, PaidPlace, ReturnOf, StandingOf};
 use aid_filings::{Filing, What};
 use aid_replies::Outcome;
-use aid_types::{Day, Program, Student, Year};
+use aid_types::{Program, Student, Year};
 use enrolment::due;
 use office_core::Office;
 use std::alloc::{AllocError, Global};
@@ -156,20 +156,10 @@ fn put_return(
             returned: school,
             owed,
             post,
-            due: due_day(school, withdrawal.determined),
+            due: due(withdrawal.determined),
         })?;
     }
     Ok(())
-}
-
-// The day on which a return is due, where there is something to return.
-fn due_day(returned: u64, determined: Day) -> Option<Day>
-    ensures { result ≡ due_day_of returned determined }
-{
-    if returned == 0 {
-        return None;
-    }
-    due(determined)
 }
 
 /// The lifetime units of each student with a prior use or a Pell payment, by number. An `Err` is want of memory.

@@ -8,6 +8,7 @@ mod day;
 mod name;
 mod number;
 mod term;
+mod words;
 
 pub use application::{Application, Region, Side};
 pub use award::{Formula, Refusal, Way};
@@ -16,3 +17,4 @@ pub use day::Day;
 pub use name::Name;
 pub use number::{Key, Program, School, Student, Year};
 pub use term::{Breaks, Term};
+pub use words::{formula_name, program_name, way_name};

@@ -8,11 +8,11 @@ use Rattle.std.proofs.lemmas.Bool.Decides.{Decides-int_eq}
 use Rattle.aid_types.specs.Ranges.{EachIsAmount, is_amount}
 use Rattle.book_numbers.proofs.Plain.{behind_plain, is_plain}
 use Rattle.book_numbers.specs.Sections.{AreAmounts, IsNext, are_amounts, poverty_slots, protection_slots}
-use Rattle.filing_kinds.specs.Layout.{AreNumbers}
-use Rattle.filing_kinds.specs.Limits.{fits}
-use Rattle.filing_kinds.specs.Parts.{Slot}
-use Rattle.filing_kinds.specs.declared.field.Limit.{Limit}
-use Rattle.filing_kinds.specs.declared.field.Limit.TheVariants.{Between, UpToLast, AboveRow, Continues, Begins}
+use Rattle.field_table.specs.Layout.{AreNumbers}
+use Rattle.field_table.specs.Limits.{fits}
+use Rattle.field_table.specs.Parts.{Slot}
+use Rattle.field_table.specs.declared.field.Limit.{Limit}
+use Rattle.field_table.specs.declared.field.Limit.TheVariants.{Between, UpToLast, AboveRow, Continues, Begins}
 
 pub length-amounts : (n : ℕ) (zs : List ℤ) → AreAmounts n zs → n ≤ length zs
 length-amounts zero zs h = omega arith

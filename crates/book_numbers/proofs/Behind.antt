@@ -11,13 +11,13 @@ use Rattle.book_numbers.specs.Book.{age_numbers, age_row, bracket_numbers, brack
 use Rattle.book_numbers.specs.Sections.{AreLast, AreLeft, IsNext, age_slots, bracket_slots, business_slots}
 use Rattle.aid_books.specs.declared.ages.AgeRow.{AgeRow}
 use Rattle.aid_books.specs.declared.marginal.Bracket.{Bracket}
-use Rattle.filing_kinds.specs.Kinds.{one}
-use Rattle.filing_kinds.specs.declared.field.Form.TheVariants.{Count}
-use Rattle.filing_kinds.specs.Layout.{AreNumbers, plain, rows, rows_again}
-use Rattle.filing_kinds.specs.Limits.{fits}
-use Rattle.filing_kinds.specs.declared.field.Limit.{Limit}
-use Rattle.filing_kinds.specs.declared.field.Limit.TheVariants.{Between}
-use Rattle.filing_kinds.specs.Parts.{Line, Slot}
+use Rattle.field_table.specs.Columns.{one}
+use Rattle.field_table.specs.declared.field.Form.TheVariants.{Count}
+use Rattle.field_table.specs.Layout.{AreNumbers, plain, rows, rows_again}
+use Rattle.field_table.specs.Limits.{fits}
+use Rattle.field_table.specs.declared.field.Limit.{Limit}
+use Rattle.field_table.specs.declared.field.Limit.TheVariants.{Between}
+use Rattle.field_table.specs.Parts.{Line, Slot}
 
 -- there are as many numbers as fields, at least
 pub length-AreNumbers : (slots : List Slot) (earlier zs : List ℤ) → AreNumbers slots earlier zs → length slots ≤ length zs

@@ -16,8 +16,8 @@ use Rattle.book_numbers.proofs.Amounts.{length-extra}
 use Rattle.book_numbers.proofs.Behind.{behind_plains, left_behind, left_behind_age, left_behind_business, next_of, onto}
 use Rattle.book_numbers.specs.Book.{AreBookNumbers, age_numbers, asset_numbers, bracket_numbers, employment_numbers, payroll_numbers, pell_numbers, percent_numbers, poverty_numbers, protection_numbers, schedule_numbers, size_numbers}
 use Rattle.book_numbers.specs.Sections.{AreLast, AreLeft, IsNext, age_slots, asset_slots, bracket_slots, business_slots, employment_slots, payroll_slots, pell_slots, percent_slots, poverty_slots, protection_slots, schedule_slots, start_slots}
-use Rattle.filing_kinds.specs.Layout.{AreNumbers}
-use Rattle.filing_kinds.specs.Parts.{Slot}
+use Rattle.field_table.specs.Layout.{AreNumbers}
+use Rattle.field_table.specs.Parts.{Slot}
 
 -- the fields behind each part
 unfoldable pub after_age : List Slot

@@ -32,10 +32,10 @@ use Rattle.book_numbers.proofs.RowsOf.{age_lines, bracket_lines}
 use Rattle.book_numbers.specs.Book.{age_numbers, age_row, asset_numbers, bracket_numbers, bracket_row, employment_numbers, numbers_of, payroll_numbers, pell_numbers, percent_numbers, poverty_numbers, protection_numbers, schedule_numbers, size_numbers}
 use Rattle.book_numbers.specs.Sections.{age_slots, asset_slots, bracket_slots, business_slots, employment_slots, payroll_slots, pell_slots, percent_slots, poverty_slots, protection_slots, schedule_slots, start_slots}
 use Rattle.filing_kinds.specs.Kinds.{book_slots}
-use Rattle.filing_kinds.specs.declared.field.Limit.{Limit}
-use Rattle.filing_kinds.specs.Layout.{AreNumbers, rows, rows_again}
-use Rattle.filing_kinds.specs.Limits.{before, fits, is_between}
-use Rattle.filing_kinds.specs.Parts.{Line, Slot}
+use Rattle.field_table.specs.declared.field.Limit.{Limit}
+use Rattle.field_table.specs.Layout.{AreNumbers, rows, rows_again}
+use Rattle.field_table.specs.Limits.{before, fits, is_between}
+use Rattle.field_table.specs.Parts.{Line, Slot}
 
 pub between : (low high z : ℤ) → IsWithin low high z → is_between low high z ≡ true
 between low high z h = and_from (int_le low z) (int_le z high) (int_le-true low z h.0) (int_le-true z high h.1)

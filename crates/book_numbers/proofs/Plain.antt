@@ -6,11 +6,11 @@ use Rattle.std.proofs.lemmas.Bool.{and_parts}
 use Rattle.std.proofs.lemmas.Int.{ints}
 use Rattle.aid_types.specs.Ranges.{IsWithin}
 use Rattle.book_numbers.specs.Sections.{IsNext}
-use Rattle.filing_kinds.specs.Layout.{AreNumbers, rows}
-use Rattle.filing_kinds.specs.Limits.{fits, is_between}
-use Rattle.filing_kinds.specs.Parts.{Line, Slot}
-use Rattle.filing_kinds.specs.declared.field.Limit.{Limit}
-use Rattle.filing_kinds.specs.declared.field.Limit.TheVariants.{Between, UpToLast, AboveRow, Continues, Begins}
+use Rattle.field_table.specs.Layout.{AreNumbers, rows}
+use Rattle.field_table.specs.Limits.{fits, is_between}
+use Rattle.field_table.specs.Parts.{Line, Slot}
+use Rattle.field_table.specs.declared.field.Limit.{Limit}
+use Rattle.field_table.specs.declared.field.Limit.TheVariants.{Between, UpToLast, AboveRow, Continues, Begins}
 
 pub is_within : (low high z : ℤ) → is_between low high z ≡ true → IsWithin low high z
 is_within low high z h =

@@ -16,10 +16,10 @@ use Rattle.book_numbers.proofs.Plain.{is_within}
 use Rattle.book_numbers.specs.Book.{age_numbers, age_row, bracket_numbers, bracket_row}
 use Rattle.book_numbers.specs.Sections.{age_slots, bracket_slots, business_slots}
 use Rattle.filing_kinds.specs.Kinds.{age_columns, amount_columns}
-use Rattle.filing_kinds.specs.Layout.{AreNumbers, rows, rows_again}
-use Rattle.filing_kinds.specs.Limits.{before, is_between}
-use Rattle.filing_kinds.specs.Parts.{Line, Slot}
-use Rattle.filing_kinds.specs.declared.field.Limit.TheVariants.{AboveRow, Continues}
+use Rattle.field_table.specs.Layout.{AreNumbers, rows, rows_again}
+use Rattle.field_table.specs.Limits.{before, is_between}
+use Rattle.field_table.specs.Parts.{Line, Slot}
+use Rattle.field_table.specs.declared.field.Limit.TheVariants.{AboveRow, Continues}
 
 all_none : {X : Type 0} (P : X → Type 0) → All P []
 all_none P k d h = absurd (omega (arith, h))

@@ -14,7 +14,7 @@ use Rattle.aid_books.specs.declared.book.Protection.{Protection}
 use Rattle.aid_books.specs.declared.book.Schedule.{Schedule}
 use Rattle.aid_books.specs.declared.marginal.Bracket.{Bracket}
 use Rattle.filing_kinds.specs.Kinds.{book_slots}
-use Rattle.filing_kinds.specs.Layout.{AreNumbers}
+use Rattle.field_table.specs.Layout.{AreNumbers}
 
 abbrev pub pell_numbers : PellFigures → List ℤ
 pell_numbers x = x.maximum ∷ x.minimum ∷ []

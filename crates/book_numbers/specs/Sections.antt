@@ -2,9 +2,9 @@
 use Rattle.std.specs.Prelude.{ℕ, zero, suc, ℤ, Bool, true, false, ◌&&◌, List, [], ◌∷◌, ◌++◌, drop, take, ◌≡◌, IsTrue}
 use Rattle.aid_types.specs.Ranges.{is_amount}
 use Rattle.filing_kinds.specs.Kinds.{book_slots}
-use Rattle.filing_kinds.specs.Layout.{AreNumbers}
-use Rattle.filing_kinds.specs.Limits.{before}
-use Rattle.filing_kinds.specs.Parts.{Slot}
+use Rattle.field_table.specs.Layout.{AreNumbers}
+use Rattle.field_table.specs.Limits.{before}
+use Rattle.field_table.specs.Parts.{Slot}
 
 -- the fields of each part of a book, the first of which are its form and its year
 abbrev pub start_slots : List Slot

@@ -2,15 +2,15 @@
 ghost use Rattle.std.specs.Prelude.{◌≡◌, ◌≤◌, ◌+◌, ◌∷◌, [], ◌++◌, ℤ, List, flat_map, length, pos};
 ghost use Rattle.arrayvec.specs.ArrayVec.{array_vec_len};
 ghost use Rattle.book_numbers.specs.Book.{age_numbers, age_row, asset_numbers, bracket_numbers, bracket_row, employment_numbers, numbers_of, payroll_numbers, pell_numbers, percent_numbers, poverty_numbers, protection_numbers, schedule_numbers, size_numbers};
-ghost use Rattle.filing_kinds.specs.Forms.{most_numbers};
+ghost use Rattle.field_table.specs.Forms.{most_numbers};
 ghost use Rattle.filing_kinds.specs.Kinds.{book_slots};
-ghost use Rattle.filing_kinds.specs.Layout.{AreNumbers};
+ghost use Rattle.field_table.specs.Layout.{AreNumbers};
 
 use aid_books::{
     AgeRow, AssetRates, Book, Bracket, BySize, Employment, Payroll, PellFigures, Percents, Poverty,
     Protection, Schedule,
 };
-use filing_kinds::{Numbers, add_numbers};
+use field_table::{Numbers, add_numbers};
 
 fn put_pell_figures(pell: &PellFigures, numbers: &mut Numbers)
     requires { array_vec_len numbers.old + 2 ≤ most_numbers }

@@ -3,8 +3,8 @@ use Rattle.std.proofs.Common.{◌≡◌, ℕ, ℤ, List, [], ◌∷◌, ◌++◌
 use Rattle.std.specs.Prelude.{option_and_then, option_map, if◌then◌else◌}
 use Rattle.serde_json.specs.Data.{Data}
 use Rattle.serde_json.specs.Find.{get, as_array}
-use Rattle.filing_kinds.specs.Draft.{Progress, accepts, onward}
-use Rattle.filing_kinds.specs.Parts.{Line, Slot}
+use Rattle.field_table.specs.Draft.{Progress, accepts, onward}
+use Rattle.field_table.specs.Parts.{Line, Slot}
 use Rattle.desk_bodies.specs.Drafts.{put_all, put_said}
 use Rattle.desk_bodies.specs.Values.{joined, member_said, number_said, numbers_said, one, row_said, rows_said, values_of}
 

@@ -6,12 +6,12 @@ use Rattle.std.specs.Prelude.{◌&&◌, if◌then◌else◌, is_some, map, optio
 use Rattle.std.specs.List.{list_all}
 use Rattle.serde_json.specs.Data.{Data}
 use Rattle.serde_json.specs.Find.{as_str, get}
-use Rattle.filing_kinds.specs.Draft.{Progress, accepts, onward}
+use Rattle.field_table.specs.Draft.{Progress, accepts, onward}
 use Rattle.filing_kinds.specs.Kinds.{kind_named, slots_of_kind, table_row_of}
-use Rattle.filing_kinds.specs.Layout.{AreNumbers, after}
-use Rattle.filing_kinds.specs.Limits.{fits}
-use Rattle.filing_kinds.specs.Parts.{Line, Slot, slot_of, slots_of}
-use Rattle.filing_kinds.specs.declared.field.Part.{Part}
+use Rattle.field_table.specs.Layout.{AreNumbers, after}
+use Rattle.field_table.specs.Limits.{fits}
+use Rattle.field_table.specs.Parts.{Line, Slot, slot_of, slots_of}
+use Rattle.field_table.specs.declared.field.Part.{Part}
 use Rattle.filing_kinds.specs.declared.kind.Kind.{Kind}
 use Rattle.desk_bodies.specs.Drafts.{put_all, put_said}
 use Rattle.desk_bodies.specs.Filings.{are_numbers, fields_of, filing_by_fields, filing_in, filing_of_kind, has_bodies, keys_of, kind_in, within}

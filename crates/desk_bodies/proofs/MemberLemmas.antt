@@ -6,11 +6,11 @@ use Rattle.serde_json.specs.Data.{Data}
 use Rattle.serde_json.specs.Find.{as_array, get}
 use Rattle.serde_json.specs.View.{items_view, view}
 use Rattle.serde_json.specs.declared.value.Value.{Value}
-use Rattle.filing_kinds.specs.Draft.{Progress}
-use Rattle.filing_kinds.specs.Parts.{Line, line_of, lines_of, slot_of, slots_of}
-use Rattle.filing_kinds.specs.declared.field.Field.{Field}
-use Rattle.filing_kinds.specs.declared.field.Form.{Form}
-use Rattle.filing_kinds.specs.declared.field.Part.{Part}
+use Rattle.field_table.specs.Draft.{Progress}
+use Rattle.field_table.specs.Parts.{Line, line_of, lines_of, slot_of, slots_of}
+use Rattle.field_table.specs.declared.field.Field.{Field}
+use Rattle.field_table.specs.declared.field.Form.{Form}
+use Rattle.field_table.specs.declared.field.Part.{Part}
 use Rattle.desk_bodies.specs.Drafts.{put_all, put_said}
 use Rattle.desk_bodies.specs.Values.{member_said, number_said, numbers_said, one, row_said, rows_said, table_said, values_of}
 use Rattle.desk_bodies.proofs.DraftLemmas.{put_field, put_rows, put_value}

@@ -1,6 +1,6 @@
 -- How the numbers of a filing are put one behind the other.
 use Rattle.std.specs.Prelude.{ℤ, List, [], ◌∷◌, Option, Some, None, option_and_then, if◌then◌else◌}
-use Rattle.filing_kinds.specs.Draft.{Progress, accepts, onward}
+use Rattle.field_table.specs.Draft.{Progress, accepts, onward}
 
 -- numbers put one behind the other, where each is within its limit
 abbrev pub put_all : List ℤ → Progress → Option Progress

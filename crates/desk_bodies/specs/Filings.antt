@@ -4,9 +4,9 @@ use Rattle.serde_json.specs.Data.{Data}
 use Rattle.serde_json.specs.Find.{get, as_str}
 use Rattle.aid_filings.specs.declared.filing.Filing.{Filing}
 use Rattle.filing_kinds.specs.Kinds.{kind_named, slots_of_kind}
-use Rattle.filing_kinds.specs.Layout.{after}
-use Rattle.filing_kinds.specs.Limits.{fits}
-use Rattle.filing_kinds.specs.Parts.{Slot}
+use Rattle.field_table.specs.Layout.{after}
+use Rattle.field_table.specs.Limits.{fits}
+use Rattle.field_table.specs.Parts.{Slot}
 use Rattle.filing_kinds.specs.declared.kind.Kind.{Kind}
 use Rattle.filing_kinds.specs.declared.kind.Kind.TheVariants.{Book}
 use Rattle.filing_numbers.specs.Numbers.{kind_of, numbers_of}

@@ -6,7 +6,8 @@ use Rattle.aid_replies.specs.declared.reply.Outcome.{Outcome}
 use Rattle.aid_replies.specs.declared.reply.Reply.{Reply}
 use Rattle.aid_replies.specs.declared.reply.Reply.TheVariants.{Accepted, Again, Refused, Quoted, Standing, DiskFault, NoMemory}
 use Rattle.aid_replies.specs.declared.reply.StandingRow.{StandingRow}
-use Rattle.reply_lines.specs.Lines.{formula_text, outcome_text, way_text}
+use Rattle.aid_types.specs.Words.{formula_text, way_text}
+use Rattle.reply_lines.specs.Lines.{outcome_text}
 
 -- of a filing that stands at a position
 abbrev pub filed_body : List ℕ → ℕ → ℕ → Outcome → List ℕ

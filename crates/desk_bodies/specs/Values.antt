@@ -9,9 +9,9 @@ use Rattle.serde_json.specs.Read.{read}
 use Rattle.aid_num.specs.declared.text.Malformed.{Malformed}
 use Rattle.enrolment.specs.DayText.{day_in}
 use Rattle.filing_kinds.specs.Kinds.{words_of_programs}
-use Rattle.filing_kinds.specs.Parts.{Line, Slot}
-use Rattle.filing_kinds.specs.declared.field.Form.{Form}
-use Rattle.filing_kinds.specs.declared.field.Form.TheVariants.{Day, Program}
+use Rattle.field_table.specs.Parts.{Line, Slot}
+use Rattle.field_table.specs.declared.field.Form.{Form}
+use Rattle.field_table.specs.declared.field.Form.TheVariants.{Day, Word}
 use Rattle.filing_numbers.specs.Numbers.{day_number}
 
 -- the value of a body, which one that isn't UTF-8 doesn't have
@@ -49,7 +49,7 @@ program_said text = option_map (λ place. pos place) (position (λ word. bytes_e
 -- the number that a value says in a form: a day and a program are strings, and all else, cents too, is a whole number
 abbrev pub number_said : Form → Data → Option ℤ
 number_said Day d = option_and_then (λ text. day_said (day_in text)) (as_str d)
-number_said Program d = option_and_then program_said (as_str d)
+number_said Word d = option_and_then program_said (as_str d)
 number_said _ d = option_and_then as_i64 (as_number d)
 
 -- ---- several numbers

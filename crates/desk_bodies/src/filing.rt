@@ -10,7 +10,8 @@ use crate::members::{put_members, put_number};
 use crate::value::{has_members, kind_of_value, value_of};
 use aid_filings::Filing;
 use aid_types::School;
-use filing_kinds::{Draft, Kind, key_parts, table_row};
+use field_table::Draft;
+use filing_kinds::{Kind, key_parts, new_draft, table_row};
 use serde_json::Value;
 use std::alloc::Global;
 
@@ -64,7 +65,7 @@ fn filing_of_kind(alloc: Global, school: School, value: &Value, kind: Kind) -> O
 fn draft_of(school: School, value: &Value, kind: Kind) -> Option<Draft>
     ensures { option_map (λ draft. (kind, reverse draft.earlier)) result ≡ filing_by_fields school (view value.now) kind }
 {
-    let mut draft = Draft::new(kind);
+    let mut draft = new_draft(kind);
     put_filing(school, value, kind, &mut draft)?;
     if draft.next().is_none() {
         Some(draft)

@@ -1,12 +1,12 @@
 //! The numbers of a value's members, in the order of a kind's fields.
 ghost use Rattle.std.specs.Prelude.{◌≡◌, [], ◌∷◌, map, option_map};
 ghost use Rattle.serde_json.specs.View.{view};
-ghost use Rattle.filing_kinds.specs.Parts.{lines_of, slot_of, slots_of};
+ghost use Rattle.field_table.specs.Parts.{lines_of, slot_of, slots_of};
 ghost use Rattle.desk_bodies.specs.Drafts.{put_all, put_said};
 ghost use Rattle.desk_bodies.specs.Values.{member_said, numbers_said, row_said, rows_said, table_said};
 
 use crate::number::number_in;
-use filing_kinds::{Draft, Field, Part};
+use field_table::{Draft, Field, Part};
 use serde_json::Value;
 
 /// Puts the numbers of these fields behind the others, each field by the member of its name, where there are such numbers

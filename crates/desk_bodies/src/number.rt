@@ -6,7 +6,8 @@ ghost use Rattle.enrolment.specs.DayText.{day_in as day_of_text};
 ghost use Rattle.desk_bodies.specs.Values.{day_said, number_said, program_said};
 
 use enrolment::read_day;
-use filing_kinds::{Form, program_words};
+use field_table::Form;
+use filing_kinds::program_words;
 use serde_json::Value;
 
 /// The number that a value says in a form, if it says one.
@@ -15,7 +16,7 @@ pub fn number_in(form: Form, value: &Value) -> Option<i64>
 {
     match form {
         Form::Day => day_in(value.as_str()?),
-        Form::Program => program_in(value.as_str()?),
+        Form::Word => program_in(value.as_str()?),
         _ => value.as_i64(),
     }
 }

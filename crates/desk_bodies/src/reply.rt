@@ -1,13 +1,13 @@
 //! The bodies of replies.
 ghost use Rattle.std.specs.Prelude.{◌≡◌, ◌++◌, IfOk, OnOk, codes, decimal};
 ghost use Rattle.aid_num.specs.Whole.{whole_text};
-ghost use Rattle.reply_lines.specs.Lines.{way_text};
+ghost use Rattle.aid_types.specs.Words.{way_text};
 ghost use Rattle.desk_bodies.specs.Replies.{fault_body as fault_text, filed_body as filed_text, quoted_body as quoted_text, refused_body as refused_text, reply_body, standing_body as standing_text, undecided_text};
 
 use aid_replies::{Outcome, Reply, StandingRow};
-use aid_types::Refusal;
+use aid_types::{Refusal, formula_name, way_name};
 use itoa::Buffer;
-use reply_lines::{formula_name, outcome_line, way_name};
+use reply_lines::outcome_line;
 use std::alloc::{AllocError, Global};
 
 /// The body of a reply. An `Err` is want of memory.

@@ -5,8 +5,8 @@ use Rattle.std.proofs.lemmas.Bool.{eq-eqb, eqb-false, eqb-true, le-leb, lt-leb, 
 use Rattle.std.proofs.lemmas.List.{drop-drop, length-drop}
 use Rattle.csv.specs.Records.{field_at}
 use Rattle.filing_kinds.specs.Kinds.{key_slots}
-use Rattle.filing_kinds.specs.Parts.{Slot, slots_of}
-use Rattle.filing_kinds.specs.declared.field.Part.{Part}
+use Rattle.field_table.specs.Parts.{Slot, slots_of}
+use Rattle.field_table.specs.declared.field.Part.{Part}
 use Rattle.desk_forms.specs.Fields.{are_as_many, fields_counted, go_on}
 
 abbrev Texts : Type 0

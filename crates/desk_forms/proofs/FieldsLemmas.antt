@@ -3,8 +3,8 @@ use Rattle.std.proofs.Common.{◌≡◌, ℕ, ◌+◌, List, [], ◌∷◌, Bool
 use Rattle.std.specs.Prelude.{◌*◌, ◌-◌, ◌^◌, min, not, option_map, cond, map, Some}
 use Rattle.std.specs.List.{position, position_or_len}
 use Rattle.std.proofs.lemmas.List.{length-map}
-use Rattle.filing_kinds.specs.Parts.{Line, line_of, lines_of}
-use Rattle.filing_kinds.specs.declared.field.Field.{Field}
+use Rattle.field_table.specs.Parts.{Line, line_of, lines_of}
+use Rattle.field_table.specs.declared.field.Field.{Field}
 use Rattle.desk_forms.specs.Fields.{count_within, fields_counted, number_in}
 
 position_or_len-map : {X Y : Type 0} (p : Y → Bool) (f : X → Y) (xs : List X) → position_or_len p (map f xs) ≡ position_or_len (λ x. p (f x)) xs

@@ -5,12 +5,12 @@ use Rattle.std.specs.Result.{result_map_both}
 use Rattle.std.proofs.lemmas.List.{length-reverse}
 use Rattle.aid_num.specs.declared.text.Malformed.{Malformed}
 use Rattle.csv.specs.Records.{field_at}
-use Rattle.filing_kinds.specs.Draft.{Progress, accepts, onward}
-use Rattle.filing_kinds.specs.Forms.{most_numbers}
-use Rattle.filing_kinds.specs.Parts.{Line}
-use Rattle.filing_kinds.specs.Walk.{Found}
-use Rattle.filing_kinds.specs.declared.field.Form.{Form}
-use Rattle.filing_kinds.proofs.WalkLaws.{IsNext, none_found, numbers_with, past_limit, put_next}
+use Rattle.field_table.specs.Draft.{Progress, accepts, onward}
+use Rattle.field_table.specs.Forms.{most_numbers}
+use Rattle.field_table.specs.Parts.{Line}
+use Rattle.field_table.specs.Walk.{Found}
+use Rattle.field_table.specs.declared.field.Form.{Form}
+use Rattle.field_table.proofs.WalkLaws.{IsNext, none_found, numbers_with, past_limit, put_next}
 use Rattle.desk_forms.specs.declared.error.Cause.TheVariants.{Range}
 use Rattle.desk_forms.specs.declared.error.RowError.{RowError}
 use Rattle.desk_forms.specs.Fields.{number_in}

@@ -4,10 +4,10 @@ use Rattle.std.specs.Prelude.{Some, Result, Ok, Err, IfOk, if◌then◌else◌, 
 use Rattle.std.specs.Result.{result_map_both}
 use Rattle.aid_filings.specs.declared.filing.Filing.{Filing}
 use Rattle.filing_kinds.specs.Kinds.{slots_of_kind}
-use Rattle.filing_kinds.specs.Layout.{AreNumbers}
-use Rattle.filing_kinds.specs.Walk.{numbers_of_kind}
+use Rattle.field_table.specs.Layout.{AreNumbers}
+use Rattle.filing_kinds.specs.Drafts.{numbers_of_kind}
 use Rattle.filing_kinds.specs.declared.kind.Kind.{Kind}
-use Rattle.filing_kinds.proofs.WalkLaws.{numbers_of_kind-are}
+use Rattle.field_table.proofs.WalkLaws.{numbers_of_slots-are}
 use Rattle.filing_numbers.specs.Numbers.{kind_of}
 use Rattle.filing_numbers.proofs.Same.{same_filing}
 use Rattle.desk_forms.specs.Fields.{are_as_many}
@@ -39,7 +39,7 @@ right_count row kind texts read many is =
 
 -- numbers that were read are those of a kind
 pub read-are : (row : ℕ) (kind : Kind) (texts : List (List ℕ)) (zs : List ℤ) → numbers_of_kind (row_source row) kind texts ≡ Ok zs → AreNumbers (slots_of_kind kind) [] zs
-read-are row kind texts zs r = subst (λ (x : Result (List ℤ) RowError). IfOk x (AreNumbers (slots_of_kind kind) [])) r (numbers_of_kind-are (row_source row) kind texts)
+read-are row kind texts zs r = subst (λ (x : Result (List ℤ) RowError). IfOk x (AreNumbers (slots_of_kind kind) [])) r (numbers_of_slots-are (row_source row) (slots_of_kind kind) texts)
 
 -- ---- what is said tells the row
 kind_said : Kind → Result (Kind × List ℤ) RowError → Kind

@@ -14,8 +14,8 @@ use Rattle.aid_num.specs.declared.text.Malformed.TheVariants.{Spelling}
 use Rattle.enrolment.proofs.DayTextLaws.{IsDayReading-day_in, one_text as one_day_text}
 use Rattle.enrolment.specs.DayText.{day_in}
 use Rattle.filing_kinds.specs.Kinds.{words_of_programs}
-use Rattle.filing_kinds.specs.declared.field.Form.{Form}
-use Rattle.filing_kinds.specs.declared.field.Form.TheVariants.{U8, U16, U32, U64, I64, Cents, Day, Flag, Program, Count}
+use Rattle.field_table.specs.declared.field.Form.{Form}
+use Rattle.field_table.specs.declared.field.Form.TheVariants.{U8, U16, U32, U64, I64, Cents, Day, Flag, Word, Count}
 use Rattle.filing_numbers.specs.Numbers.{day_number}
 use Rattle.desk_forms.specs.Fields.{number_in}
 
@@ -67,7 +67,7 @@ as_day text other z one two =
     let same : first.0 ≡ second.0 = omega (arith, ints, first.2 ∙ sym second.2) in
     day_once text other first.0 second.0 same first.1 second.1
 
-as_word : (text other : List ℕ) (z : ℤ) → number_in Program text ≡ Ok z → number_in Program other ≡ Ok z → text ≡ other
+as_word : (text other : List ℕ) (z : ℤ) → number_in Word text ≡ Ok z → number_in Word other ≡ Ok z → text ≡ other
 as_word text other z one two =
     let first = place_of (position (λ word. bytes_eq word text) words_of_programs) z one in
     let second = place_of (position (λ word. bytes_eq word other) words_of_programs) z two in
@@ -87,5 +87,5 @@ text_once I64 text other z one two = as_whole text other z one two
 text_once Cents text other z one two = as_cents text other z one two
 text_once Day text other z one two = as_day text other z one two
 text_once Flag text other z one two = as_whole text other z one two
-text_once Program text other z one two = as_word text other z one two
+text_once Word text other z one two = as_word text other z one two
 text_once Count text other z one two = as_whole text other z one two

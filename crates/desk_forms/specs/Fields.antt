@@ -8,10 +8,10 @@ use Rattle.aid_num.specs.declared.text.Malformed.{Malformed}
 use Rattle.aid_num.specs.declared.text.Malformed.TheVariants.{Spelling}
 use Rattle.enrolment.specs.DayText.{day_in}
 use Rattle.filing_kinds.specs.Kinds.{words_of_programs}
-use Rattle.filing_kinds.specs.Limits.{fits}
-use Rattle.filing_kinds.specs.Parts.{Line, Slot}
-use Rattle.filing_kinds.specs.declared.field.Form.{Form}
-use Rattle.filing_kinds.specs.declared.field.Form.TheVariants.{Cents, Day, Program}
+use Rattle.field_table.specs.Limits.{fits}
+use Rattle.field_table.specs.Parts.{Line, Slot}
+use Rattle.field_table.specs.declared.field.Form.{Form}
+use Rattle.field_table.specs.declared.field.Form.TheVariants.{Cents, Day, Word}
 use Rattle.filing_numbers.specs.Numbers.{day_number}
 
 -- The number that a text spells in a form, or why it spells none: dollars with two decimals, up to 999,999.99; a civil day, by
@@ -20,7 +20,7 @@ use Rattle.filing_numbers.specs.Numbers.{day_number}
 abbrev pub number_in : Form → List ℕ → Result ℤ Malformed
 number_in Cents text = result_map_both (λ n. pos n) (λ e. e) (cents_up_to 99999999 (cents_of text))
 number_in Day text = result_map_both day_number (λ e. e) (day_in text)
-number_in Program text = ok_or (option_map (λ place. pos place) (position (λ word. bytes_eq word text) words_of_programs)) Spelling
+number_in Word text = ok_or (option_map (λ place. pos place) (position (λ word. bytes_eq word text) words_of_programs)) Spelling
 number_in _ text = whole_between (neg_ℤ (pos (2 ^ 63))) (pos (2 ^ 63 - 1)) (whole_of text)
 
 -- ---- how many fields a row has

@@ -3,8 +3,8 @@ use Rattle.std.specs.Prelude.{ℕ, ◌+◌, ℤ, List, [], ◌∷◌, Option, So
 use Rattle.std.specs.Result.{result_map_both}
 use Rattle.aid_num.specs.declared.text.Malformed.{Malformed}
 use Rattle.aid_num.specs.declared.text.Malformed.TheVariants as malformed
-use Rattle.filing_kinds.specs.Walk.{Found, Source}
-use Rattle.filing_kinds.specs.declared.field.Form.{Form}
+use Rattle.field_table.specs.Walk.{Found, Source}
+use Rattle.field_table.specs.declared.field.Form.{Form}
 use Rattle.desk_forms.specs.Fields.{number_in}
 use Rattle.desk_forms.specs.declared.error.Cause.{Cause}
 use Rattle.desk_forms.specs.declared.error.Cause.TheVariants.{WrongCount, Spelling, Range}

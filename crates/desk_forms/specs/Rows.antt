@@ -5,7 +5,7 @@ use Rattle.csv.specs.Reading.{default_config, records, strip_bom}
 use Rattle.csv.specs.Records.{field_at}
 use Rattle.aid_filings.specs.declared.filing.Filing.{Filing}
 use Rattle.filing_kinds.specs.Kinds.{kind_named, slots_of_kind}
-use Rattle.filing_kinds.specs.Walk.{numbers_of_kind}
+use Rattle.filing_kinds.specs.Drafts.{numbers_of_kind}
 use Rattle.filing_kinds.specs.declared.kind.Kind.{Kind}
 use Rattle.filing_kinds.specs.declared.kind.Kind.TheVariants.{Book}
 use Rattle.filing_numbers.specs.Numbers.{kind_of, numbers_of}

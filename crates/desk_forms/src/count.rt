@@ -2,12 +2,13 @@
 ghost use Rattle.std.specs.Prelude.{◌≡◌, ◌+◌, ◌-◌, ◌≤◌, ◌^◌, ◌<◌, [], ◌++◌, drop, length, min, option_map};
 ghost use Rattle.csv.specs.Records.{fields_of as texts_of};
 ghost use Rattle.filing_kinds.specs.Kinds.{slots_of_kind};
-ghost use Rattle.filing_kinds.specs.Parts.{line_of, slot_of, slots_of};
+ghost use Rattle.field_table.specs.Parts.{line_of, slot_of, slots_of};
 ghost use Rattle.desk_forms.specs.Fields.{are_as_many as are_as_many_of, count_within, fields_counted as fields_counted_by, number_in as number_of_text};
 
 use crate::field::number_in;
 use csv::ByteRecord;
-use filing_kinds::{Field, Kind, Part, fits, key_parts, table_row};
+use field_table::{Field, Part, fits};
+use filing_kinds::{Kind, key_parts, table_row};
 
 /// Whether a row has as many texts behind its first as a filing of the kind has fields.
 pub fn has_fields(kind: Kind, texts: &ByteRecord) -> bool

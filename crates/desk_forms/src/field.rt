@@ -11,7 +11,8 @@ ghost use Rattle.desk_forms.specs.Fields.{number_in as number_of_text};
 
 use aid_num::{Malformed, read_cents, read_whole};
 use enrolment::read_day;
-use filing_kinds::{Form, program_words};
+use field_table::Form;
+use filing_kinds::program_words;
 
 /// The number that a text spells in a form, or why it spells none.
 pub fn number_in(form: Form, text: &[u8]) -> Result<i64, Malformed>
@@ -20,7 +21,7 @@ pub fn number_in(form: Form, text: &[u8]) -> Result<i64, Malformed>
     match form {
         Form::Cents => cents_in(text),
         Form::Day => day_in(text),
-        Form::Program => program_in(text),
+        Form::Word => program_in(text),
         _ => read_whole(text, i64::MIN, i64::MAX),
     }
 }

@@ -1,7 +1,7 @@
 // What follows from the definitions alone, said of no call. The functions do nothing.
 ghost use Rattle.std.specs.Prelude.{◌≡◌, ℕ, ℤ, List, Ok, Result, map};
 ghost use Rattle.aid_filings.specs.declared.filing.Filing.{Filing};
-ghost use Rattle.filing_kinds.specs.declared.field.Form.{Form};
+ghost use Rattle.field_table.specs.declared.field.Form.{Form};
 ghost use Rattle.desk_forms.specs.Fields.{number_in};
 ghost use Rattle.desk_forms.specs.Rows.{said};
 ghost use Rattle.desk_forms.specs.declared.error.RowError.{RowError};

@@ -1,9 +1,10 @@
 //! The filing of a row.
 ghost use Rattle.std.specs.Prelude.{◌≡◌, ◌+◌, ◌≤◌, [], true, drop, option_and_then};
 ghost use Rattle.csv.specs.Records.{field_at, fields_of as texts_of};
-ghost use Rattle.filing_kinds.specs.Forms.{most_numbers};
+ghost use Rattle.field_table.specs.Forms.{most_numbers};
 ghost use Rattle.filing_kinds.specs.Kinds.{kind_named as kind_of_name};
-ghost use Rattle.filing_kinds.specs.Walk.{numbers_drafted, numbers_of_kind};
+ghost use Rattle.field_table.specs.Walk.{numbers_drafted};
+ghost use Rattle.filing_kinds.specs.Drafts.{numbers_of_kind};
 ghost use Rattle.desk_forms.specs.Numbers.{cause_of as cause_of_text, number_spelled, refused as refusal, row_source};
 ghost use Rattle.desk_forms.specs.Rows.{has_rows, row_meaning, row_of_kind, said};
 
@@ -13,7 +14,8 @@ use crate::field::number_in;
 use aid_filings::Filing;
 use aid_num::Malformed;
 use csv::ByteRecord;
-use filing_kinds::{Draft, Form, Kind, kind_named};
+use field_table::{Draft, Form};
+use filing_kinds::{Kind, kind_named, new_draft};
 use filing_numbers::filing_of;
 use std::alloc::Global;
 
@@ -68,7 +70,7 @@ fn filing_of_kind(
 fn numbers_of(row: u32, texts: &ByteRecord, kind: Kind) -> Result<Draft, RowError>
     ensures { numbers_drafted result ≡ numbers_of_kind (row_source row) kind (drop 1 (texts_of texts.now)) }
 {
-    let mut draft = Draft::new(kind);
+    let mut draft = new_draft(kind);
     while let Some(field) = draft.next() {
         let before = draft.numbers().len();
         let number = number_at(row, texts, before, field.form)?;

@@ -1,24 +1,7 @@
--- Reading one number, and what it leads to.
-use Rattle.std.specs.Prelude.{◌≡◌, ℕ, ◌≤◌, ◌<◌, ◌⊎◌, ℤ, List, length, take, reverse, Result, Ok, Err, FitsSigned}
-use Rattle.std.specs.Int.{w64, from_le_bytes}
-use Rattle.filing_codec.specs.Taking.{value_in}
-use Rattle.filing_kinds.specs.Draft.{Progress}
-use Rattle.filing_kinds.specs.Parts.{width_of}
-use Rattle.filing_kinds.specs.declared.field.Form.{Form}
+-- What reading a kind and its numbers leads to.
+use Rattle.std.specs.Prelude.{◌≡◌, ℕ, ℤ, List, reverse, Result, Ok, Err}
+use Rattle.field_table.specs.Draft.{Progress}
 use Rattle.filing_kinds.specs.declared.kind.Kind.{Kind}
-
--- the number that a form's first bytes hold
-abbrev pub front_value : Form → List ℕ → ℤ
-front_value form bytes = value_in form (from_le_bytes w64 (take (width_of form) bytes))
-
--- a number stands at the front of the bytes
-pub record IsNumber (form : Form) (bytes : List ℕ) (z : ℤ) : Type 0 where
-  pub enough : width_of form ≤ length bytes
-  pub value : z ≡ front_value form bytes
-
--- the bytes are too few, or what they hold passes 64 bits
-abbrev pub IsNoNumber : Form → List ℕ → Type 0
-IsNoNumber form bytes = (length bytes < width_of form) ⊎ (FitsSigned w64 (front_value form bytes) → ⊥)
 
 -- a kind, and the numbers of its draft, are what was read
 abbrev pub ReadsKind : Result (Kind × Progress) ℕ → Result (Kind × List ℤ) ℕ → Type 0

@@ -1,17 +1,17 @@
 //! A filing from bytes.
-ghost use Rattle.std.specs.Prelude.{◌≡◌, ◌≢◌, ◌≤◌, ◌*◌, ◌-ℤ◌, [], length, nat_lt, pos, slice_get, Some, None, Ok, Err, IfOk, IfSome, if◌then◌else◌};
-ghost use Rattle.std.specs.Int.{w64, from_le_bytes};
+ghost use Rattle.std.specs.Prelude.{◌≡◌, ◌≢◌, [], slice_get, Some, Ok, Err, IfOk};
 ghost use Rattle.aid_filings.specs.declared.filing.Filing.{Filing};
-ghost use Rattle.filing_codec.specs.Reading.{IsNumber, IsNoNumber, ReadsKind};
+ghost use Rattle.filing_codec.specs.Reading.{ReadsKind};
 ghost use Rattle.filing_codec.specs.Spelling.{spelling};
-ghost use Rattle.filing_codec.specs.Taking.{Gives, byte_source, placed, taken, value_in};
+ghost use Rattle.filing_codec.specs.Taking.{Gives, taken};
 ghost use Rattle.filing_kinds.specs.Kinds.{code_of, slots_of_kind};
-ghost use Rattle.filing_kinds.specs.Layout.{AreNumbers};
-ghost use Rattle.filing_kinds.specs.Walk.{numbers_drafted, numbers_of_kind};
+ghost use Rattle.field_table.specs.Layout.{AreNumbers};
 ghost use Rattle.filing_numbers.specs.Numbers.{IsFiling};
 
 use aid_filings::Filing;
-use filing_kinds::{Draft, Form, Kind, kind_at};
+use field_bytes::numbers_at;
+use field_table::Draft;
+use filing_kinds::{Kind, key_parts, kind_at, table_row};
 use filing_numbers::filing_of;
 use std::alloc::Global;
 
@@ -68,77 +68,8 @@ fn draft_in(bytes: &[u8]) -> Result<(Kind, Draft), u64>
     let Some(kind) = kind_at(*code) else {
         return Err(0);
     };
-    match numbers_at(kind, rest) {
+    match numbers_at(key_parts(), table_row(kind).parts, rest) {
         Ok(draft) => Ok((kind, draft)),
         Err(place) => Err(place),
     }
-}
-
-// The numbers of a kind in all of the bytes, which stand behind the kind's code.
-fn numbers_at(kind: Kind, bytes: &[u8]) -> Result<Draft, u64>
-    ensures { numbers_drafted result ≡ numbers_of_kind byte_source kind (placed 1 bytes.now) }
-{
-    let mut draft = Draft::new(kind);
-    let mut place = 1;
-    let mut rest = bytes;
-    while let Some(field) = draft.next() {
-        let Some(number) = number_at(field.form, rest) else {
-            return Err(place);
-        };
-        if !draft.push(number) {
-            return Err(place);
-        }
-        let width = field.form.width();
-        let (_, behind) = rest.split_at(width);
-        rest = behind;
-        place += width as u64;
-    }
-    if rest.is_empty() {
-        Ok(draft)
-    } else {
-        Err(place)
-    }
-}
-
-// The number of a field at the front of the bytes, where they are enough and it is one of 64 bits with sign.
-fn number_at(form: Form, bytes: &[u8]) -> Option<i64>
-    ensures some { IfSome result (λ number. IsNumber form bytes.now number) }
-    ensures none { result ≡ None → IsNoNumber form bytes.now }
-{
-    let width = form.width();
-    if bytes.len() < width {
-        return None;
-    }
-    i64::try_from(value_of(form, word_of(&bytes[..width]))).ok()
-}
-
-// The number that a word is in a form.
-fn value_of(form: Form, word: u64) -> i128
-    ensures { result ≡ value_in form word }
-{
-    match form {
-        Form::I64 => signed(word, 1 << 63),
-        Form::Day => signed(word, 1 << 31),
-        _ => word as i128,
-    }
-}
-
-// The words from a half on are the numbers below 0.
-fn signed(word: u64, half: u64) -> i128
-    ensures { result ≡ (if nat_lt word half then pos word else pos word -ℤ pos (2 * half)) }
-{
-    if word < half {
-        word as i128
-    } else {
-        word as i128 - 2 * half as i128
-    }
-}
-
-fn word_of(bytes: &[u8]) -> u64
-    requires few { length bytes.now ≤ 8 }
-    ensures value { result ≡ from_le_bytes w64 bytes.now }
-{
-    let mut block = [0; 8];
-    block[..bytes.len()].copy_from_slice(bytes);
-    u64::from_le_bytes(block)
 }

@@ -1,13 +1,12 @@
 //! A filing as bytes.
-ghost use Rattle.std.specs.Prelude.{◌≡◌, ◌+◌, ◌*◌, ◌≤◌, ◌++◌, length, List, ℕ};
+ghost use Rattle.std.specs.Prelude.{◌≡◌, ◌≤◌, ◌++◌, length, List, ℕ};
 ghost use Rattle.aid_filings.specs.declared.filing.Filing.{Filing};
-ghost use Rattle.filing_codec.specs.Spelling.{IsAlone, number_bytes, numbers_bytes, spelling};
-ghost use Rattle.filing_kinds.specs.Forms.{most_numbers};
-ghost use Rattle.filing_kinds.specs.Kinds.{slots_of_kind};
+ghost use Rattle.filing_codec.specs.Spelling.{IsAlone, spelling};
 ghost use Rattle.filing_numbers.specs.Numbers.{IsFiling};
 
 use aid_filings::Filing;
-use filing_kinds::{Form, Kind, Layout, table_row};
+use field_bytes::put_numbers;
+use filing_kinds::{key_parts, table_row};
 use filing_numbers::{kind, numbers_in};
 use payload::{CAPACITY, Room};
 
@@ -31,28 +30,5 @@ fn put_parts(filing: &Filing, room: &mut Room)
     let numbers = numbers_in(filing);
     room.clear();
     room.append(&[table_row(kind).code]);
-    put_numbers(kind, numbers.as_slice(), room);
-}
-
-fn put_numbers(kind: Kind, numbers: &[i64], room: &mut Room)
-    requires few { length numbers.now ≤ most_numbers }
-    requires fits { length room.old ≤ 1 }
-    ensures added { room.new ≡ room.old ++ numbers_bytes (slots_of_kind kind) numbers.now }
-{
-    let mut layout = Layout::new(kind);
-    for number in numbers {
-        if let Some(field) = layout.next() {
-            put_number(field.form, *number, room);
-            layout.advance(*number);
-        }
-    }
-}
-
-fn put_number(form: Form, number: i64, room: &mut Room)
-    requires fits { length room.old + 8 ≤ 8192 }
-    ensures added { room.new ≡ room.old ++ number_bytes form number }
-    ensures grown { length room.new ≤ length room.old + 8 }
-{
-    let bytes = number.to_le_bytes();
-    room.append(&bytes[..form.width()]);
+    put_numbers(key_parts(), table_row(kind).parts, numbers.as_slice(), room);
 }

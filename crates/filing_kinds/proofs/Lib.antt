@@ -1,5 +1,1 @@
-pub mod DraftLemmas
 pub mod Laws
-pub mod LayoutLemmas
-pub mod LimitLemmas
-pub mod WalkLaws

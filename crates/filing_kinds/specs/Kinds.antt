@@ -1,51 +1,18 @@
 -- The kinds of filings: the code and the name of each, and its fields behind those of the key. Own format.
 use Rattle.std.specs.Prelude.{ℕ, ◌==◌, ℤ, pos, neg_ℤ, List, [], ◌∷◌, ◌++◌, map, replicate, codes, bytes_eq, find, Option}
 use Rattle.std.specs.List.{slice_split}
-use Rattle.filing_kinds.specs.Layout.{plain}
-use Rattle.filing_kinds.specs.Parts.{Line, Slot}
-use Rattle.filing_kinds.specs.declared.field.Form.{Form}
-use Rattle.filing_kinds.specs.declared.field.Form.TheVariants.{U8, U16, U32, U64, I64, Cents, Day, Flag, Program as ProgramForm, Count}
-use Rattle.filing_kinds.specs.declared.field.Limit.{Limit}
-use Rattle.filing_kinds.specs.declared.field.Limit.TheVariants.{Between, UpToLast, AboveRow, Continues, Begins}
+use Rattle.field_table.specs.Columns.{cents, counted, day, fields, flags, line, one, student, term, year}
+use Rattle.field_table.specs.Layout.{plain}
+use Rattle.field_table.specs.Parts.{Line, Slot}
+use Rattle.field_table.specs.declared.field.Form.{Form}
+use Rattle.field_table.specs.declared.field.Form.TheVariants.{U8, U16, U32, U64, I64, Cents, Day, Flag, Word, Count}
+use Rattle.field_table.specs.declared.field.Limit.{Limit}
+use Rattle.field_table.specs.declared.field.Limit.TheVariants.{Between, UpToLast, AboveRow, Continues, Begins}
 use Rattle.filing_kinds.specs.declared.kind.Kind.{Kind}
 use Rattle.filing_kinds.specs.declared.kind.Kind.TheVariants.{Book, School, Calendar, Prior, Apply, Enrol, Originate, Pay, Withdraw, Repay, Adjust}
 
-abbrev pub line : List ℕ → Form → Limit → Line
-line name form limit = record { name = name; form = form; limit = limit }
-
--- a field that counts nothing, from a least number to a greatest one
-abbrev pub one : List ℕ → Form → ℤ → ℤ → Slot
-one name form low high = plain (line name form (Between low high))
-
--- such fields, alike but for their names: a beginning, and behind it each word of a text
-abbrev pub fields : List ℕ → List ℕ → Form → ℤ → ℤ → List Slot
-fields start words form low high = map (λ word. one (start ++ word) form low high) (slice_split (λ c. c == 32) words)
-
--- a count of rows, and their fields
-abbrev pub counted : List ℕ → ℤ → ℤ → List Line → List Line → Slot
-counted name low high first later = record { line = line name Count (Between low high); first = first; later = later }
-
--- ---- fields that several kinds have
-abbrev pub student : Slot
-student = one (codes "student") U64 (pos 1) (pos 999999999999)
-
-abbrev pub year : Slot
-year = one (codes "year") U16 (pos 2000) (pos 2099)
-
-abbrev pub term : Slot
-term = one (codes "term") U8 (pos 1) (pos 8)
-
-abbrev pub day : List ℕ → Line
-day name = line name Day (Between (neg_ℤ (pos 25567)) (pos 2932896))
-
 abbrev pub first_and_last : List Line
 first_and_last = day (codes "first") ∷ day (codes "last") ∷ []
-
-abbrev pub flags : List ℕ → List Slot
-flags names = fields [] names Flag (pos 0) (pos 1)
-
-abbrev pub cents : List ℕ → List Slot
-cents names = fields [] names Cents (pos 0) (pos 99999999)
 
 -- dollars, and those of a household that may be negative
 abbrev pub dollars : List ℕ → List ℕ → List Slot
@@ -86,7 +53,7 @@ abbrev pub originate_slots : List Slot
 originate_slots = student ∷ year ∷ one (codes "cost") U32 (pos 0) (pos 999999) ∷ []
 
 abbrev pub amount_slots : List Slot
-amount_slots = student ∷ year ∷ term ∷ one (codes "program") ProgramForm (pos 0) (pos 5) ∷ cents (codes "cents")
+amount_slots = student ∷ year ∷ term ∷ one (codes "program") Word (pos 0) (pos 5) ∷ cents (codes "cents")
 
 abbrev pub withdraw_slots : List Slot
 withdraw_slots =

@@ -1,7 +1,2 @@
-pub mod Draft
-pub mod Forms
+pub mod Drafts
 pub mod Kinds
-pub mod Layout
-pub mod Limits
-pub mod Parts
-pub mod Walk

@@ -1,10 +1,10 @@
 //! The fields of a book, which are the numbers of its sections and tables in order.
 ghost use Rattle.std.specs.Prelude.{◌≡◌};
 ghost use Rattle.filing_kinds.specs.Kinds.{book_slots};
-ghost use Rattle.filing_kinds.specs.Parts.{slots_of};
+ghost use Rattle.field_table.specs.Parts.{slots_of};
 
-use crate::field::Form::{Count, I64};
-use crate::field::{Field, Limit, Part};
+use field_table::Form::{Count, I64};
+use field_table::{Field, Limit, Part};
 
 macro_rules! number {
     ($name:literal: $limit:expr) => {

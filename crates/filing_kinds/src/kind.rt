@@ -1,14 +1,14 @@
 //! The table of kinds.
 ghost use Rattle.std.specs.Prelude.{◌≡◌};
 ghost use Rattle.filing_kinds.specs.Kinds.{code_of, kind_at as kind_at_code, kind_named as kind_of_name, name_of, table_row_of};
-ghost use Rattle.filing_kinds.specs.Parts.{slots_of};
+ghost use Rattle.field_table.specs.Parts.{slots_of};
 
 use crate::book::book_parts;
-use crate::field::Part;
 use crate::parts::{
     amount_parts, apply_parts, calendar_parts, enrol_parts, key_parts, originate_parts,
     prior_parts, school_parts, withdraw_parts,
 };
+use field_table::Part;
 
 /// A kind of filing.
 #[derive(Clone, Copy, PartialEq, Eq, Debug)]

@@ -3,18 +3,12 @@
 #![tactic(auto)]
 
 mod book;
-mod draft;
-mod field;
+mod draft_of;
 mod kind;
-mod layout;
-mod limit;
-mod numbers;
 mod parts;
+mod words;
 
-pub use draft::Draft;
-pub use field::{Field, Form, Limit, Part, program_words};
+pub use draft_of::{new_draft, new_layout};
 pub use kind::{Kind, KindRow, kind_at, kind_named, table_row};
-pub use layout::Layout;
-pub use limit::fits;
-pub use numbers::{MOST_NUMBERS, Numbers, add_numbers};
 pub use parts::key_parts;
+pub use words::program_words;

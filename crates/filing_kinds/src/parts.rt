@@ -1,10 +1,10 @@
 //! The fields of each kind but the book.
 ghost use Rattle.std.specs.Prelude.{◌≡◌};
 ghost use Rattle.filing_kinds.specs.Kinds.{amount_slots, apply_slots, calendar_slots, enrol_slots, key_slots, originate_slots, prior_slots, school_slots, withdraw_slots};
-ghost use Rattle.filing_kinds.specs.Parts.{slots_of};
+ghost use Rattle.field_table.specs.Parts.{slots_of};
 
-use crate::field::Form::{Cents, Count, Day, Flag, I64, Program, U8, U16, U32, U64};
-use crate::field::{Field, Limit, Part};
+use field_table::Form::{Cents, Count, Day, Flag, I64, U8, U16, U32, U64, Word};
+use field_table::{Field, Limit, Part};
 
 // A field that counts nothing.
 macro_rules! plain {
@@ -144,7 +144,7 @@ static AMOUNT: [Part; 5] = [
     STUDENT,
     YEAR,
     TERM,
-    one!("program", Program: 0 to 5),
+    one!("program", Word: 0 to 5),
     one!("cents", Cents: 0 to 99_999_999),
 ];
 

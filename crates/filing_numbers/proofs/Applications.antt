@@ -3,13 +3,13 @@ use Rattle.std.proofs.Common.{◌≡◌, ℕ, ℤ, pos, neg_ℤ, List, [], ◌�
 use Rattle.std.specs.Prelude.{Bool, true, false, IsTrue, map, slice_index_or}
 use Rattle.std.proofs.Common.{subst, to_z, of_z, w64}
 use Rattle.std.proofs.lemmas.Int.{ints}
-use Rattle.filing_kinds.proofs.LimitLemmas.{narrow}
+use Rattle.field_table.proofs.LimitLemmas.{narrow}
 use Rattle.std.proofs.lemmas.List.{take-append-drop}
 use Rattle.aid_types.specs.Ranges.{IsAmount, IsSignedAmount, IsWithin}
 use Rattle.aid_types.specs.declared.application.Application.{Application}
 use Rattle.aid_types.specs.declared.application.Side.{Side}
 use Rattle.filing_kinds.specs.Kinds.{apply_slots, household_slots}
-use Rattle.filing_kinds.specs.Limits.{is_between}
+use Rattle.field_table.specs.Limits.{is_between}
 use Rattle.filing_numbers.specs.Numbers.{application_numbers, flag_number, side_numbers}
 use Rattle.filing_numbers.specs.Parts.{FitAnywhere, FitSomewhere, applicant_numbers, applicant_slots, flag_slots, parents_numbers, parents_slots, standing_numbers, standing_slots, upbringing_numbers, upbringing_slots}
 use Rattle.filing_numbers.proofs.Calendars.{flag_fits}

@@ -3,8 +3,8 @@ use Rattle.std.proofs.Common.{◌≡◌, ℕ, zero, suc, ◌+◌, ◌<◌, ◌�
 use Rattle.std.specs.Prelude.{IsTrue, flat_map, slice_index_or}
 use Rattle.std.proofs.lemmas.List.{append-nil}
 use Rattle.filing_kinds.specs.Kinds.{first_and_last}
-use Rattle.filing_kinds.specs.Layout.{rows_again}
-use Rattle.filing_kinds.specs.Limits.{is_between}
+use Rattle.field_table.specs.Layout.{rows_again}
+use Rattle.field_table.specs.Limits.{is_between}
 use Rattle.filing_numbers.specs.Numbers.{break_days, day_number}
 use Rattle.filing_numbers.specs.Parts.{FitSomewhere}
 

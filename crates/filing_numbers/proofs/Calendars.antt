@@ -5,9 +5,9 @@ use Rattle.std.proofs.lemmas.Int.{ints}
 use Rattle.std.proofs.lemmas.List.{append-nil, take_more}
 use Rattle.aid_filings.specs.declared.filing.CalendarFacts.{CalendarFacts}
 use Rattle.filing_kinds.specs.Kinds.{calendar_slots, first_and_last}
-use Rattle.filing_kinds.specs.Layout.{AreNumbers, plain, rows, rows_again}
-use Rattle.filing_kinds.specs.Limits.{is_between}
-use Rattle.filing_kinds.specs.Parts.{Slot}
+use Rattle.field_table.specs.Layout.{AreNumbers, plain, rows, rows_again}
+use Rattle.field_table.specs.Limits.{is_between}
+use Rattle.field_table.specs.Parts.{Slot}
 use Rattle.filing_numbers.specs.Numbers.{break_days, day_number, flag_number}
 use Rattle.filing_numbers.specs.Parts.{FitAnywhere, FitSomewhere, calendar_numbers}
 use Rattle.filing_numbers.proofs.Breaks.{IsDayNumber, flat_map-more}

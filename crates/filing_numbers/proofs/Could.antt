@@ -6,7 +6,7 @@ use Rattle.std.proofs.lemmas.Bool.{and_parts}
 use Rattle.std.proofs.lemmas.Bool.Decides.{nat_tests}
 use Rattle.aid_types.specs.Ranges.{EachIsCents, is_cents}
 use Rattle.filing_kinds.specs.Kinds.{withdraw_slots}
-use Rattle.filing_kinds.specs.Limits.{is_between}
+use Rattle.field_table.specs.Limits.{is_between}
 use Rattle.filing_numbers.specs.Parts.{FitAnywhere, could_numbers}
 use Rattle.filing_numbers.proofs.Ranges.{is_natural_within}
 

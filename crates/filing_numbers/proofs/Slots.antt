@@ -6,14 +6,14 @@ use Rattle.std.proofs.lemmas.Bool.{and_parts, true≢false}
 use Rattle.std.proofs.Common.{◌-◌, length-drop}
 use Rattle.std.proofs.Math.Seq.{take-length}
 use Rattle.std.proofs.lemmas.List.{append-nil}
-use Rattle.filing_kinds.specs.Layout.{AreNumbers, after, plain, rows, rows_again}
+use Rattle.field_table.specs.Layout.{AreNumbers, after, plain, rows, rows_again}
 use Rattle.std.proofs.lemmas.Int.{ints}
 use Rattle.aid_types.specs.Ranges.{IsBetween}
-use Rattle.filing_kinds.specs.declared.field.Limit.TheVariants.{Between}
-use Rattle.filing_kinds.specs.Limits.{fits, is_between}
+use Rattle.field_table.specs.declared.field.Limit.TheVariants.{Between}
+use Rattle.field_table.specs.Limits.{fits, is_between}
 use Rattle.filing_numbers.proofs.Ranges.{within}
-use Rattle.filing_kinds.specs.Parts.{Line, Slot}
-use Rattle.filing_kinds.specs.declared.field.Limit.{Limit}
+use Rattle.field_table.specs.Parts.{Line, Slot}
+use Rattle.field_table.specs.declared.field.Limit.{Limit}
 use Rattle.filing_numbers.specs.Parts.{FitAnywhere, FitSomewhere}
 
 -- ---- numbers of fields one after the other

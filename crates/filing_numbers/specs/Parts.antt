@@ -8,10 +8,11 @@ use Rattle.aid_filings.specs.declared.filing.PriorFacts.{PriorFacts}
 use Rattle.aid_filings.specs.declared.filing.SchoolFacts.{SchoolFacts}
 use Rattle.aid_filings.specs.declared.filing.What.TheVariants.{School, Calendar, Prior, Enrol, Originate, Withdraw}
 use Rattle.aid_filings.specs.declared.filing.WithdrawFacts.{WithdrawFacts}
-use Rattle.filing_kinds.specs.Kinds.{apply_slots, one}
-use Rattle.filing_kinds.specs.Layout.{AreNumbers}
-use Rattle.filing_kinds.specs.Parts.{Slot}
-use Rattle.filing_kinds.specs.declared.field.Form.TheVariants.{Cents, Flag}
+use Rattle.field_table.specs.Columns.{one}
+use Rattle.filing_kinds.specs.Kinds.{apply_slots}
+use Rattle.field_table.specs.Layout.{AreNumbers}
+use Rattle.field_table.specs.Parts.{Slot}
+use Rattle.field_table.specs.declared.field.Form.TheVariants.{Cents, Flag}
 use Rattle.filing_numbers.specs.Numbers.{application_numbers, filed_as}
 
 -- numbers of these fields behind some numbers

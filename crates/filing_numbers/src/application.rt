@@ -1,7 +1,7 @@
 //! The numbers of an application.
 ghost use Rattle.std.specs.Prelude.{◌≡◌, ◌+◌, ◌≤◌, [], ◌∷◌, ◌++◌, length, map, pos};
 ghost use Rattle.aid_types.specs.Ranges.{IsBetween};
-ghost use Rattle.filing_kinds.specs.Forms.{most_numbers};
+ghost use Rattle.field_table.specs.Forms.{most_numbers};
 ghost use Rattle.filing_kinds.specs.Kinds.{apply_slots, household_slots};
 ghost use Rattle.filing_numbers.specs.Numbers.{application_numbers, flag_number, region_number, side_numbers};
 ghost use Rattle.filing_numbers.specs.Parts.{FitAnywhere, FitSomewhere, applicant_numbers, applicant_slots, flag_slots, parents_numbers, parents_slots, standing_numbers, upbringing_numbers};
@@ -11,7 +11,7 @@ use crate::scalar::{
     student_from, year_from,
 };
 use aid_types::{Application, Region, Side, Student, Year};
-use filing_kinds::{Numbers, add_numbers};
+use field_table::{Numbers, add_numbers};
 
 pub(crate) fn put_application(application: &Application, numbers: &mut Numbers)
     requires room { length numbers.old.items + 52 ≤ most_numbers }

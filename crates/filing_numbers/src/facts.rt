@@ -1,10 +1,10 @@
 //! The numbers of a key and of the facts of each kind but books and applications.
 ghost use Rattle.std.specs.Prelude.{◌≡◌, ℕ, ◌+◌, ◌*◌, ◌≤◌, ◌++◌, drop, flat_map, length, take};
 ghost use Rattle.aid_types.specs.Ranges.{EachIsCents};
-ghost use Rattle.filing_kinds.specs.Forms.{most_numbers};
+ghost use Rattle.field_table.specs.Forms.{most_numbers};
 ghost use Rattle.filing_kinds.specs.Kinds.{amount_slots, calendar_slots, enrol_slots, first_and_last, key_slots, originate_slots, prior_slots, school_slots, withdraw_slots};
 ghost use Rattle.filing_numbers.specs.Numbers.{amount_numbers, break_days, key_numbers};
-ghost use Rattle.filing_kinds.specs.Layout.{rows_again};
+ghost use Rattle.field_table.specs.Layout.{rows_again};
 ghost use Rattle.filing_numbers.specs.Parts.{FitAnywhere, FitSomewhere, calendar_numbers, cents_slots, could_numbers, enrol_numbers, originate_numbers, prior_numbers, school_numbers, withdraw_numbers, withdrawal_numbers};
 
 use crate::scalar::{
@@ -15,7 +15,7 @@ use aid_filings::{
     Amount, CalendarFacts, EnrolFacts, OriginateFacts, PriorFacts, SchoolFacts, WithdrawFacts,
 };
 use aid_types::{Breaks, ByProgram, Day, Key, School};
-use filing_kinds::{Numbers, add_numbers};
+use field_table::{Numbers, add_numbers};
 
 pub(crate) fn put_key(key: &Key, numbers: &mut Numbers)
     requires room { length numbers.old.items + 2 ≤ most_numbers }

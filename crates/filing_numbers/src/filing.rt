@@ -2,7 +2,7 @@
 ghost use Rattle.std.specs.Prelude.{◌≡◌, ◌≢◌, ◌≤◌, ◌++◌, [], length, IfOk, IsOk};
 ghost use Rattle.aid_filings.specs.declared.filing.Filing.{Filing};
 ghost use Rattle.filing_kinds.specs.Kinds.{slots_of_kind, table_row_of};
-ghost use Rattle.filing_kinds.specs.Layout.{AreNumbers};
+ghost use Rattle.field_table.specs.Layout.{AreNumbers};
 ghost use Rattle.filing_numbers.specs.Numbers.{IsFiling, facts_of, kind_of, numbers_of};
 ghost use Rattle.filing_numbers.specs.Parts.{FitAnywhere, FitSomewhere};
 
@@ -14,7 +14,8 @@ use crate::facts::{
 use aid_books::BoxedBook;
 use aid_filings::{Filing, What};
 use book_numbers::{book_of_numbers, put_book};
-use filing_kinds::{Kind, Numbers};
+use field_table::Numbers;
+use filing_kinds::Kind;
 use std::alloc::{AllocError, Global};
 
 /// The kind of what is filed.

@@ -2,7 +2,7 @@
 ghost use Rattle.std.specs.Prelude.{◌≡◌, ◌+◌, ◌≤◌, ◌++◌, IsTrue, length, neg_ℤ, pos};
 ghost use Rattle.aid_types.specs.Programs.{rank};
 ghost use Rattle.aid_types.specs.Ranges.{IsBetween};
-ghost use Rattle.filing_kinds.specs.Limits.{is_between};
+ghost use Rattle.field_table.specs.Limits.{is_between};
 ghost use Rattle.filing_numbers.specs.Numbers.{day_number, flag_number, region_number};
 
 use aid_types::{Day, Program, Region, Student, Year};

@@ -6,7 +6,7 @@ use Rattle.kept_session.specs.Edges.{Output, HasWritten}
 use Rattle.kept_session.specs.Texts.{Texts}
 use Rattle.kept_session.specs.Checks.{LooksAt, all, unwritten, starved, check_line, check_lines, errors_in}
 use Rattle.kept_session.specs.declared.checking.CheckStop.TheVariants.{Write, NoMemory}
-use Rattle.kept_session.specs.declared.checking.Tally.{Tally}
+use Rattle.kept_session.specs.declared.checking.CheckTally.{CheckTally}
 use Rattle.kept_session.proofs.Filed.{split_push}
 
 -- one row more that is no ask, or one that is
@@ -25,7 +25,7 @@ check_lines-push texts fine number (first ∷ rows) row =
     ∙ sym (append_assoc (check_line texts fine number first) (check_lines texts fine (number + 1) rows) _)
 
 -- of the rows that were left those in front were looked at, and these are left
-pub record HasLooked {Ask Verdict Error : Type 0} (texts : Texts Ask Verdict Error) (fine : ℕ → List ℕ) (total left : List texts.Meaning) (output : Output) (tally : Tally) : Type 0 where
+pub record HasLooked {Ask Verdict Error : Type 0} (texts : Texts Ask Verdict Error) (fine : ℕ → List ℕ) (total left : List texts.Meaning) (output : Output) (tally : CheckTally) : Type 0 where
   pub front : List (Result Ask Error)
   pub split : total ≡ map texts.said front ++ left
   pub rows : tally.rows ≡ length front
@@ -37,7 +37,7 @@ module _ {Ask Verdict Error : Type 0} {texts : Texts Ask Verdict Error} {fine : 
   pub none_looked : (honest : Bool) (text : List ℕ) → HasLooked texts fine total total (record { honest = honest; before = text; after = text }) (record { rows = 0; errors = 0 })
   none_looked honest text = record { front = []; split = refl; rows = refl; errors = refl; written = λ is. sym (append-nil text) }
 
-  module _ {left : List texts.Meaning} {output : Output} {tally : Tally} (looked : HasLooked texts fine total left output tally) where
+  module _ {left : List texts.Meaning} {output : Output} {tally : CheckTally} (looked : HasLooked texts fine total left output tally) where
     -- no row is left
     pub all_looked : left ≡ [] → LooksAt texts fine output total (Ok tally)
     all_looked none = record {
@@ -77,7 +77,7 @@ module _ {Ask Verdict Error : Type 0} {texts : Texts Ask Verdict Error} {fine : 
       }
 
       -- it was looked at
-      pub next_looked : (IsTrue output.honest → text ≡ output.after ++ line) → (counted : Tally) → counted.rows ≡ tally.rows + 1 → counted.errors ≡ tally.errors + errors_in (row ∷ [])
+      pub next_looked : (IsTrue output.honest → text ≡ output.after ++ line) → (counted : CheckTally) → counted.rows ≡ tally.rows + 1 → counted.errors ≡ tally.errors + errors_in (row ∷ [])
           → HasLooked texts fine total rest (record { honest = output.honest; before = output.before; after = text }) counted
       next_looked wrote counted more also = record {
         front = looked.front ++ row ∷ [];

@@ -5,7 +5,7 @@ use Rattle.kept_session.specs.Texts.{Texts}
 use Rattle.kept_session.specs.Sessions.{IsUnread}
 use Rattle.kept_session.specs.declared.checking.CheckStop.{CheckStop}
 use Rattle.kept_session.specs.declared.checking.CheckStop.TheVariants.{Reading, Write, NoMemory}
-use Rattle.kept_session.specs.declared.checking.Tally.{Tally}
+use Rattle.kept_session.specs.declared.checking.CheckTally.{CheckTally}
 use Rattle.kept_session.specs.declared.stop.ReadStop.{ReadStop}
 
 -- the line of a row: that it is fine, by its number, or why it is no ask
@@ -25,8 +25,8 @@ errors_in (Ok ask ∷ rows) = errors_in rows
 errors_in (Err error ∷ rows) = errors_in rows + 1
 
 -- Rows that were looked at, with what was written: all of them, or up to a stop.
-pub data Looks {Ask Verdict Error : Type 0} (texts : Texts Ask Verdict Error) (fine : ℕ → List ℕ) (output : Output) : List (Result Ask Error) → Result Tally CheckStop → Type 0 where
-  all : (rows : List (Result Ask Error)) (tally : Tally) → HasWritten (check_lines texts fine 1 rows) output
+pub data Looks {Ask Verdict Error : Type 0} (texts : Texts Ask Verdict Error) (fine : ℕ → List ℕ) (output : Output) : List (Result Ask Error) → Result CheckTally CheckStop → Type 0 where
+  all : (rows : List (Result Ask Error)) (tally : CheckTally) → HasWritten (check_lines texts fine 1 rows) output
       → tally.rows ≡ length rows → tally.errors ≡ errors_in rows → Looks texts fine output rows (Ok tally)
   -- the line of a row was cut short
   unwritten : (front : List (Result Ask Error)) (row : Result Ask Error)
@@ -36,7 +36,7 @@ pub data Looks {Ask Verdict Error : Type 0} (texts : Texts Ask Verdict Error) (f
   starved : (front : List (Result Ask Error)) → HasWritten (check_lines texts fine 1 front) output → Looks texts fine output front (Err NoMemory)
 
 -- Of the rows that are left some in front are looked at, and all of them where nothing stops that.
-pub record LooksAt {Ask Verdict Error : Type 0} (texts : Texts Ask Verdict Error) (fine : ℕ → List ℕ) (output : Output) (left : List texts.Meaning) (ended : Result Tally CheckStop) : Type 0 where
+pub record LooksAt {Ask Verdict Error : Type 0} (texts : Texts Ask Verdict Error) (fine : ℕ → List ℕ) (output : Output) (left : List texts.Meaning) (ended : Result CheckTally CheckStop) : Type 0 where
   pub rows : List (Result Ask Error)
   pub rest : List texts.Meaning
   pub taken : left ≡ map texts.said rows ++ rest
@@ -44,9 +44,9 @@ pub record LooksAt {Ask Verdict Error : Type 0} (texts : Texts Ask Verdict Error
   pub looks : Looks texts fine output rows ended
 
 -- The input is read whole, and then its rows are looked at.
-pub data Checks {Ask Verdict Error : Type 0} (texts : Texts Ask Verdict Error) (rows_of : List ℕ → List texts.Meaning) (fine : ℕ → List ℕ) (limit : ℕ) (input : Input) (output : Output) : Result Tally CheckStop → Type 0 where
+pub data Checks {Ask Verdict Error : Type 0} (texts : Texts Ask Verdict Error) (rows_of : List ℕ → List texts.Meaning) (fine : ℕ → List ℕ) (limit : ℕ) (input : Input) (output : Output) : Result CheckTally CheckStop → Type 0 where
   -- the input wasn't read
   unread : (stop : ReadStop) → IsUnread stop limit input → output.after ≡ output.before → Checks texts rows_of fine limit input output (Err (Reading stop))
   -- it was
-  read : (left : List texts.Meaning) (ended : Result Tally CheckStop) → IsReadWhole limit input → (IsTrue input.honest → left ≡ rows_of input.before)
+  read : (left : List texts.Meaning) (ended : Result CheckTally CheckStop) → IsReadWhole limit input → (IsTrue input.honest → left ≡ rows_of input.before)
       → LooksAt texts fine output left ended → Checks texts rows_of fine limit input output ended

@@ -11,12 +11,12 @@ use std::alloc::{AllocError, Global};
 
 /// How many rows were looked at, and how many of them are no ask.
 #[derive(Clone, Copy, Debug, PartialEq, Eq)]
-pub struct Tally {
+pub struct CheckTally {
     pub rows: u32,
     pub errors: u32,
 }
 
-impl Tally {
+impl CheckTally {
     // Counts one row more.
     fn count<A, E>(&mut self, row: &Result<A, E>)
         requires few { self.old.rows + 1 < 2 ^ 32 }
@@ -63,7 +63,7 @@ fn look<K: Sink, R: Docket, F: Forms<R>>(
     alloc: Global,
     mut rows: F::Rows,
     out: &mut K,
-) -> Result<Tally, CheckStop>
+) -> Result<CheckTally, CheckStop>
     requires few { length (F.Rows.left rows) < 2 ^ 32 }
     ensures looks { LooksAt F.Rows.texts F.fine_line (record { honest = K.honest out.old; before = K.text out.old; after = K.text out.new }) (F.Rows.left rows) result }
     ensures write_fault { result ≡ Err CheckStop.Write → Rose (K.faults out.old) (K.faults out.new) }
@@ -73,7 +73,7 @@ fn look<K: Sink, R: Docket, F: Forms<R>>(
     ensures honest { K.honest out.new ≡ K.honest out.old }
 {
     let mut line = Vec::new(alloc);
-    let mut tally = Tally { rows: 0, errors: 0 };
+    let mut tally = CheckTally { rows: 0, errors: 0 };
     loop {
         let row = match rows.next() {
             Ok(Some(row)) => row,
@@ -96,7 +96,7 @@ pub fn check<S: Source, K: Sink, R: Docket, F: Forms<R>>(
     forms: &F,
     input: &mut S,
     out: &mut K,
-) -> Result<Tally, CheckStop>
+) -> Result<CheckTally, CheckStop>
     ensures checks { Checks F.Rows.texts (F.Rows.rows_of forms.now) F.fine_line INPUT_LIMIT
         (record { honest = S.honest input.old; before = S.left input.old; after = S.left input.new })
         (record { honest = K.honest out.old; before = K.text out.old; after = K.text out.new }) result }

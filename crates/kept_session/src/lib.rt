@@ -13,7 +13,7 @@ mod rows;
 mod session;
 mod stop;
 
-pub use checking::{CheckStop, Tally, check};
+pub use checking::{CheckStop, CheckTally, check};
 pub use filing::file_rows;
 pub use forms::Forms;
 pub use founding::found;

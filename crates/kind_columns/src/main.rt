@@ -5,7 +5,8 @@
 mod words;
 
 use aid_num::{read_cents, read_whole};
-use filing_kinds::{Field, Form, Kind, Limit, Part, key_parts, kind_at, program_words, table_row};
+use field_table::{Field, Form, Limit, Part};
+use filing_kinds::{Kind, key_parts, kind_at, program_words, table_row};
 use std::io;
 use words::{KEY_WORDS, KindWords, words_of};
 
@@ -108,7 +109,7 @@ fn print_member(rt: &impl Print, part: &Part, example: &str, column: usize) -> i
 // The value of a column in a body: cents are a whole number there.
 fn print_value(rt: &impl Print, form: Form, text: &str) -> io::Result<()> {
     match form {
-        Form::Day | Form::Program => print!(rt; "\"{text}\""),
+        Form::Day | Form::Word => print!(rt; "\"{text}\""),
         Form::Cents => match read_cents(text.as_bytes()) {
             Ok(cents) => print!(rt; "{cents}"),
             Err(_) => Ok(()),
@@ -178,7 +179,7 @@ fn print_form(rt: &impl Print, form: Form) -> io::Result<()> {
         Form::Cents => print!(rt; "dollars and cents"),
         Form::Day => print!(rt; "a day"),
         Form::Flag => print!(rt; "1 for yes, 0 for no"),
-        Form::Program => print_words(rt, program_words()),
+        Form::Word => print_words(rt, program_words()),
         Form::Count => print!(rt; "a count"),
     }
 }
@@ -194,7 +195,7 @@ fn print_words(rt: &impl Print, words: &[&str]) -> io::Result<()> {
 // What a number may be, where its form doesn't say so.
 fn print_limit(rt: &impl Print, form: Form, limit: Limit) -> io::Result<()> {
     match form {
-        Form::Flag | Form::Program => Ok(()),
+        Form::Flag | Form::Word => Ok(()),
         Form::Day => print!(rt; ", 1900-01-01 to 9999-12-31"),
         Form::Cents => print_cents(rt, limit),
         _ => print_range(rt, limit),

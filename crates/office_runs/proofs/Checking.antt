@@ -2,13 +2,13 @@
 use Rattle.std.proofs.Common.{◌≡◌, false, Result, refl}
 use Rattle.kept_session.specs.Edges.{Input, Output}
 use Rattle.kept_session.specs.declared.checking.CheckStop.{CheckStop}
-use Rattle.kept_session.specs.declared.checking.Tally.{Tally}
+use Rattle.kept_session.specs.declared.checking.CheckTally.{CheckTally}
 use Rattle.run_ends.specs.Statuses.{is_disk_fault}
 use Rattle.run_ends.specs.declared.stop.RunStop.{RunStop}
 use Rattle.office_runs.specs.Ran.{ChecksRows, Tallies, tallied, unwritten, starved, stopped, from}
 use Rattle.office_runs.specs.Ran as run
 
-tallies_disk : (output : Output) (checked : Result Tally CheckStop) (ended : Result Unit RunStop) → Tallies output checked ended → is_disk_fault ended ≡ false
+tallies_disk : (output : Output) (checked : Result CheckTally CheckStop) (ended : Result Unit RunStop) → Tallies output checked ended → is_disk_fault ended ≡ false
 tallies_disk output checked ended (tallied tally wrote) = refl
 tallies_disk output checked ended (unwritten tally cut) = refl
 tallies_disk output checked ended (starved tally same) = refl

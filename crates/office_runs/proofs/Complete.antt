@@ -29,7 +29,7 @@ use Rattle.kept_session.specs.Reports as telling
 use Rattle.kept_session.specs.Sessions.{FoundSession, founded, unsaid, refused, IsNotFounded, IsUnopened, IsUnread, Opens, unopened, opened, Session, unread, read, ended_filing}
 use Rattle.kept_session.specs.Texts.{Texts}
 use Rattle.kept_session.specs.declared.checking.CheckStop.{CheckStop}
-use Rattle.kept_session.specs.declared.checking.Tally.{Tally}
+use Rattle.kept_session.specs.declared.checking.CheckTally.{CheckTally}
 use Rattle.kept_session.specs.declared.stop.FileStop.{FileStop}
 use Rattle.kept_session.specs.declared.stop.FileStop.TheVariants as filing_stop
 use Rattle.kept_session.specs.declared.stop.FoundStop.{FoundStop}
@@ -131,25 +131,25 @@ module _ {D Entry : Type 0} (disk : Ghosts D) (scheme : Scheme Entry) (old new :
     session_by rows_of limit input ended (read left inner is are opens) source short = opened_by left inner opens
 
 -- rows that are looked at
-looked_by : {Ask Verdict Error : Type 0} (texts : Texts Ask Verdict Error) (fine : ℕ → List ℕ) (output : Output) (rows : List (Result Ask Error)) (ended : Result Tally CheckStop)
+looked_by : {Ask Verdict Error : Type 0} (texts : Texts Ask Verdict Error) (fine : ℕ → List ℕ) (output : Output) (rows : List (Result Ask Error)) (ended : Result CheckTally CheckStop)
     → Looks texts fine output rows ended → IfErr ended (λ stop. IsExcused (check_status stop))
 looked_by texts fine output rows ended (looking.all _ tally wrote counts errors) = tt
 looked_by texts fine output rows ended (looking.unwritten front row wrote) = inr (inl refl)
 looked_by texts fine output rows ended (looking.starved front wrote) = inr (inr (inr refl))
 
-checked_by : {Ask Verdict Error : Type 0} (texts : Texts Ask Verdict Error) (rows_of : List ℕ → List texts.Meaning) (fine : ℕ → List ℕ) (limit : ℕ) (input : Input) (output : Output) (ended : Result Tally CheckStop)
+checked_by : {Ask Verdict Error : Type 0} (texts : Texts Ask Verdict Error) (rows_of : List ℕ → List texts.Meaning) (fine : ℕ → List ℕ) (limit : ℕ) (input : Input) (output : Output) (ended : Result CheckTally CheckStop)
     → Checks texts rows_of fine limit input output ended → IsTrue input.honest → length input.before ≤ limit → IfErr ended (λ stop. IsExcused (check_status stop))
 checked_by texts rows_of fine limit input output ended (looking.unread stop is same) source short = unread_by stop limit input is source short
 checked_by texts rows_of fine limit input output ended (looking.read left inner is are looks) source short = looked_by texts fine output looks.rows inner looks.looks
 
-tallied_by : (output : Output) (checked : Result Tally CheckStop) (ended : Result Unit RunStop) → Tallies output checked ended
+tallied_by : (output : Output) (checked : Result CheckTally CheckStop) (ended : Result Unit RunStop) → Tallies output checked ended
     → IfErr checked (λ stop. IsExcused (check_status stop)) → IfErr ended (λ stop. IsExcused (status_of stop))
 tallied_by output checked ended (tallied tally wrote) by = tt
 tallied_by output checked ended (unwritten tally cut) by = inr (inl refl)
 tallied_by output checked ended (starved tally same) by = inr (inr (inr refl))
 tallied_by output checked ended (stopped stop same) by = by
 
-check_ended_by : (checked : Result Tally CheckStop) → IfErr checked (λ stop. IsExcused (check_status stop)) → IfErr (ended_check checked) (λ stop. IsExcused (status_of stop))
+check_ended_by : (checked : Result CheckTally CheckStop) → IfErr checked (λ stop. IsExcused (check_status stop)) → IfErr (ended_check checked) (λ stop. IsExcused (status_of stop))
 check_ended_by (Ok tally) by = tt
 check_ended_by (Err stop) by = by
 

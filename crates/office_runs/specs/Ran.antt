@@ -18,7 +18,7 @@ use Rattle.kept_session.specs.Reports.{Reports}
 use Rattle.kept_session.specs.Sessions.{FoundSession, Opens, Session}
 use Rattle.kept_session.specs.declared.checking.CheckStop.{CheckStop}
 use Rattle.kept_session.specs.declared.checking.CheckStop.TheVariants as checking
-use Rattle.kept_session.specs.declared.checking.Tally.{Tally}
+use Rattle.kept_session.specs.declared.checking.CheckTally.{CheckTally}
 use Rattle.kept_session.specs.declared.stop.FoundStop.{FoundStop}
 use Rattle.kept_session.specs.declared.stop.SessionStop.{SessionStop}
 use Rattle.desk_forms.specs.Lines.{fine_line, tally_line}
@@ -50,20 +50,20 @@ abbrev pub written : {K : Type 0} → SinkGhosts K → K → K → Output
 written sink old new = record { honest = sink.honest old; before = sink.text old; after = sink.text new }
 
 -- What follows the lines of rows that were looked at: `rows N errors M`, where all of them were.
-pub data Tallies (output : Output) : Result Tally CheckStop → Result Unit RunStop → Type 0 where
-  tallied : (tally : Tally) → HasWritten (tally_line tally.rows tally.errors) output → Tallies output (Ok tally) (Ok tt)
-  unwritten : (tally : Tally) → HasWrittenShort [] (tally_line tally.rows tally.errors) output → Tallies output (Ok tally) (Err (stops.Check checking.Write))
-  starved : (tally : Tally) → output.after ≡ output.before → Tallies output (Ok tally) (Err (stops.Check checking.NoMemory))
+pub data Tallies (output : Output) : Result CheckTally CheckStop → Result Unit RunStop → Type 0 where
+  tallied : (tally : CheckTally) → HasWritten (tally_line tally.rows tally.errors) output → Tallies output (Ok tally) (Ok tt)
+  unwritten : (tally : CheckTally) → HasWrittenShort [] (tally_line tally.rows tally.errors) output → Tallies output (Ok tally) (Err (stops.Check checking.Write))
+  starved : (tally : CheckTally) → output.after ≡ output.before → Tallies output (Ok tally) (Err (stops.Check checking.NoMemory))
   stopped : (stop : CheckStop) → output.after ≡ output.before → Tallies output (Err stop) (Err (stops.Check stop))
 
 -- What is said of the rows of the input: a line for each, and then how many there are.
 pub data ChecksRows (input : Input) (output : Output) : Result Unit RunStop → Type 0 where
-  looked_at : (text : List ℕ) (checked : Result Tally CheckStop) (ended : Result Unit RunStop) → Checks desk_texts desk_rows fine_line 16777216 input (up_to text output) checked
+  looked_at : (text : List ℕ) (checked : Result CheckTally CheckStop) (ended : Result Unit RunStop) → Checks desk_texts desk_rows fine_line 16777216 input (up_to text output) checked
       → Tallies (from text output) checked ended → ChecksRows input output ended
 
 -- What is said of the text of the input as a book: one line.
 pub data ChecksBook (input : Input) (output : Output) : Result Unit RunStop → Type 0 where
-  looked_at : (checked : Result Tally CheckStop) → Checks book_texts (book_rows 1) fine_line 16777216 input output checked → ChecksBook input output (ended_check checked)
+  looked_at : (checked : Result CheckTally CheckStop) → Checks book_texts (book_rows 1) fine_line 16777216 input output checked → ChecksBook input output (ended_check checked)
 
 -- What a command does, up to how it ends: to the disk, of the input, and with what it writes. `gives` tells what a call of the
 -- policy at a place may give.

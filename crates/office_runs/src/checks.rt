@@ -7,14 +7,14 @@ ghost use Rattle.run_ends.specs.Statuses.{is_read_fault, is_write_fault};
 use aid_edges::{Sink, Source, write_whole};
 use desk_forms::put_tally;
 use kept_office::FiledOffice;
-use kept_session::{CheckStop, Tally, check};
+use kept_session::{CheckStop, CheckTally, check};
 use office_forms::{BookForms, DeskForms};
 use office_words::BookNumber;
 use run_ends::{RunStop, ended_checking};
 use std::alloc::Global;
 
 // Writes how many rows there are, and how many of them are none.
-fn tell<K: Sink>(alloc: Global, tally: Tally, out: &mut K) -> Result<(), RunStop>
+fn tell<K: Sink>(alloc: Global, tally: CheckTally, out: &mut K) -> Result<(), RunStop>
     ensures tallies { Tallies (record { honest = K.honest out.old; before = K.text out.old; after = K.text out.new }) (Ok tally) result }
     ensures sink { Moved (is_write_fault result) (K.faults out.old, K.faults out.new) }
     ensures later { K.faults out.old ≤ K.faults out.new }

@@ -8,7 +8,7 @@ use Rattle.book_numbers.proofs.Chain.{book_left, left_age, left_assets, left_bus
 use Rattle.book_numbers.proofs.InRange.{book_in_range}
 use Rattle.book_numbers.specs.Book.{age_numbers, age_row, asset_numbers, bracket_numbers, bracket_row, employment_numbers, numbers_of, payroll_numbers, pell_numbers, percent_numbers, poverty_numbers, protection_numbers, schedule_numbers}
 use Rattle.filing_kinds.specs.Kinds.{book_slots}
-use Rattle.filing_kinds.specs.Layout.{AreNumbers}
+use Rattle.field_table.specs.Layout.{AreNumbers}
 use Rattle.filing_numbers.specs.Parts.{FitAnywhere}
 use Rattle.plain_filings.specs.Written.{Number, book_numbers, table, HasLists}
 use Rattle.plain_filings.specs.Written.Number.{whole, ranged}

@@ -14,9 +14,9 @@ use Rattle.aid_filings.specs.declared.filing.What.{What}
 use Rattle.aid_filings.specs.declared.filing.What.TheVariants.{Book, School, Calendar, Prior, Apply, Enrol, Originate, Pay, Withdraw, Repay, Adjust}
 use Rattle.aid_filings.specs.declared.filing.WithdrawFacts.{WithdrawFacts}
 use Rattle.filing_kinds.specs.Kinds.{amount_slots, calendar_slots, first_and_last, withdraw_slots, table_row_of}
-use Rattle.filing_kinds.specs.Layout.{AreNumbers, rows, rows_again}
-use Rattle.filing_kinds.specs.Limits.{is_between}
-use Rattle.filing_kinds.specs.Parts.{Slot}
+use Rattle.field_table.specs.Layout.{AreNumbers, rows, rows_again}
+use Rattle.field_table.specs.Limits.{is_between}
+use Rattle.field_table.specs.Parts.{Slot}
 use Rattle.filing_numbers.specs.Numbers.{IsFiling, amount_numbers, break_days, day_number, facts_of, flag_number, kind_of, region_number}
 use Rattle.filing_numbers.specs.Parts.{FitAnywhere, calendar_numbers, could_numbers, withdraw_numbers, withdrawal_numbers}
 use Rattle.filing_numbers.proofs.Applications.{application_fits}

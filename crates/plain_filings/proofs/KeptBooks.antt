@@ -5,10 +5,11 @@ use Rattle.aid_books.specs.declared.book.Book.{Book}
 use Rattle.book_numbers.proofs.Chain.{length-size_numbers}
 use Rattle.book_numbers.specs.Book.{age_numbers, age_row, asset_numbers, bracket_numbers, bracket_row, employment_numbers, numbers_of, payroll_numbers, pell_numbers, percent_numbers, schedule_numbers, size_numbers}
 use Rattle.filing_codec.specs.Spelling.{numbers_bytes}
-use Rattle.filing_kinds.specs.Kinds.{age_columns, amount, book_slots, by_amount, counted}
-use Rattle.filing_kinds.specs.Layout.{rows}
-use Rattle.filing_kinds.specs.Parts.{Line, Slot, width_of}
-use Rattle.filing_kinds.specs.declared.field.Limit.TheVariants.{AboveRow, Begins, Between}
+use Rattle.filing_kinds.specs.Kinds.{age_columns, amount, book_slots, by_amount}
+use Rattle.field_table.specs.Columns.{counted}
+use Rattle.field_table.specs.Layout.{rows}
+use Rattle.field_table.specs.Parts.{Line, Slot, width_of}
+use Rattle.field_table.specs.declared.field.Limit.TheVariants.{AboveRow, Begins, Between}
 use Rattle.filing_numbers.proofs.Slots.{has_none}
 use Rattle.plain_filings.specs.Written.{Number, book_numbers, bytes_of, lowest, table}
 use Rattle.plain_filings.specs.Written.Number.{whole, ranged}

@@ -5,8 +5,8 @@ use Rattle.std.proofs.lemmas.Bool.{true≢false}
 use Rattle.std.proofs.lemmas.List.{map-append}
 use Rattle.aid_types.specs.Programs.{rank}
 use Rattle.filing_codec.specs.Spelling.{number_bytes, numbers_bytes}
-use Rattle.filing_kinds.specs.Layout.{plain, rows, rows_again}
-use Rattle.filing_kinds.specs.Parts.{Line, Slot, width_of}
+use Rattle.field_table.specs.Layout.{plain, rows, rows_again}
+use Rattle.field_table.specs.Parts.{Line, Slot, width_of}
 use Rattle.filing_numbers.specs.Numbers.{day_number}
 use Rattle.filing_numbers.proofs.Slots.{has_none}
 use Rattle.plain_filings.specs.Written.{Number, bytes_of, lowest}

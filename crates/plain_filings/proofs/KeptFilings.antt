@@ -8,7 +8,7 @@ use Rattle.aid_filings.specs.declared.filing.What.TheVariants.{Book, School, Cal
 use Rattle.aid_filings.specs.declared.filing.WithdrawFacts.{WithdrawFacts}
 use Rattle.filing_codec.specs.Spelling.{numbers_bytes, spelling}
 use Rattle.filing_kinds.specs.Kinds.{calendar_slots, code_of, first_and_last, withdraw_slots, table_row_of}
-use Rattle.filing_kinds.specs.Layout.{rows}
+use Rattle.field_table.specs.Layout.{rows}
 use Rattle.filing_numbers.specs.Numbers.{break_days, facts_of, flag_number, kind_of}
 use Rattle.filing_numbers.specs.Parts.{calendar_numbers, could_numbers, withdraw_numbers}
 use Rattle.plain_filings.specs.Written.{Number, bytes_of, kept_bytes, student, year, written, CanBeFiled, HasLists}

@@ -5,7 +5,7 @@ use Rattle.std.specs.List.{All, list_all}
 use Rattle.std.proofs.lemmas.Int.{ints}
 use Rattle.std.proofs.lemmas.List.Elements.{All-cons}
 use Rattle.aid_types.specs.Ranges.{IsBetween}
-use Rattle.filing_kinds.specs.Limits.{is_between}
+use Rattle.field_table.specs.Limits.{is_between}
 use Rattle.filing_numbers.specs.Numbers.{day_number}
 use Rattle.filing_numbers.proofs.Breaks.{IsDayNumber}
 use Rattle.filing_numbers.proofs.Ranges.{is_natural_within, is_within, within}

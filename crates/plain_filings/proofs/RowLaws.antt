@@ -19,16 +19,17 @@ use Rattle.desk_forms.specs.Rows.{has_rows, row_meaning, row_of, row_of_kind}
 use Rattle.desk_forms.specs.declared.error.Cause.TheVariants.{UnknownKind, WrongCount}
 use Rattle.desk_forms.specs.declared.error.RowError.{RowError}
 use Rattle.filing_kinds.proofs.Laws.{few_numbers}
-use Rattle.filing_kinds.proofs.WalkLaws.{firsts, found_leads, led_to}
-use Rattle.filing_kinds.specs.Forms.{most_numbers}
+use Rattle.field_table.proofs.WalkLaws.{firsts, found_leads, led_to}
+use Rattle.field_table.specs.Forms.{most_numbers}
 use Rattle.filing_kinds.specs.Kinds.{first_and_last, kind_named, kinds, name_of, slots_of_kind, table_row_of, withdraw_slots}
-use Rattle.filing_kinds.specs.Layout.{AreNumbers, after, plain, rows, rows_again}
-use Rattle.filing_kinds.specs.Limits.{fits}
-use Rattle.filing_kinds.specs.Parts.{Line, Slot}
-use Rattle.filing_kinds.specs.Walk.{Found, and_then, number_first, numbers_from, numbers_of_kind}
-use Rattle.filing_kinds.specs.declared.field.Form.{Form}
-use Rattle.filing_kinds.specs.declared.field.Limit.{Limit}
-use Rattle.filing_kinds.specs.declared.field.Limit.TheVariants.{Between, UpToLast, AboveRow, Continues, Begins}
+use Rattle.field_table.specs.Layout.{AreNumbers, after, plain, rows, rows_again}
+use Rattle.field_table.specs.Limits.{fits}
+use Rattle.field_table.specs.Parts.{Line, Slot}
+use Rattle.field_table.specs.Walk.{Found, and_then, number_first, numbers_from}
+use Rattle.filing_kinds.specs.Drafts.{numbers_of_kind}
+use Rattle.field_table.specs.declared.field.Form.{Form}
+use Rattle.field_table.specs.declared.field.Limit.{Limit}
+use Rattle.field_table.specs.declared.field.Limit.TheVariants.{Between, UpToLast, AboveRow, Continues, Begins}
 use Rattle.filing_kinds.specs.declared.kind.Kind.{Kind}
 use Rattle.filing_kinds.specs.declared.kind.Kind.TheVariants as kinds_are
 use Rattle.filing_numbers.proofs.Slots.{rows-again}

@@ -21,8 +21,8 @@ use Rattle.enrolment.proofs.DayTextLaws.{IsDayReading-day_in}
 use Rattle.enrolment.specs.CivilDays.{IsCivilDate, IsDay, days_from_1900, day_number as civil_number}
 use Rattle.enrolment.specs.DayText.{IsDayText, date_text, day_in}
 use Rattle.filing_kinds.specs.Kinds.{words_of_programs}
-use Rattle.filing_kinds.specs.declared.field.Form.{Form}
-use Rattle.filing_kinds.specs.declared.field.Form.TheVariants.{Cents, Day, Program}
+use Rattle.field_table.specs.declared.field.Form.{Form}
+use Rattle.field_table.specs.declared.field.Form.TheVariants.{Cents, Day, Word}
 use Rattle.filing_numbers.specs.Numbers.{day_number}
 use Rattle.desk_forms.specs.Fields.{number_in}
 use Rattle.plain_filings.proofs.KeptBytes.{value}
@@ -34,11 +34,11 @@ has_form (money cents) Cents = true
 has_form (money cents) _ = false
 has_form (day d) Day = true
 has_form (day d) _ = false
-has_form (word program) Program = true
+has_form (word program) Word = true
 has_form (word program) _ = false
 has_form _ Cents = false
 has_form _ Day = false
-has_form _ Program = false
+has_form _ Word = false
 has_form _ _ = true
 
 -- the least and the greatest value that a text of the form spells
@@ -128,14 +128,14 @@ place_of : (o : Option ℕ) (z : ℤ) → ok_or (option_map (λ place. pos place
 place_of None z h = absurd cc
 place_of (Some n) z h = (n, refl, cc)
 
-word_spelled : (text : List ℕ) (p : ProgramOf) → number_in Program text ≡ Ok (pos (rank p)) → text ≡ get_or words_of_programs (rank p) []
+word_spelled : (text : List ℕ) (p : ProgramOf) → number_in Word text ≡ Ok (pos (rank p)) → text ≡ get_or words_of_programs (rank p) []
 word_spelled text p h =
     let place = place_of (position (λ word. bytes_eq word text) words_of_programs) (pos (rank p)) h in
     let same : place.0 ≡ rank p = omega (arith, ints, place.2) in
     let there = (position-Some (λ word. bytes_eq word text) words_of_programs place.0 [] place.1).1 in
     sym ((bytes_eq-Decides (get_or words_of_programs place.0 []) text).0 there) ∙ ap (λ (n : ℕ). get_or words_of_programs n []) same
 
-its_word : (p : ProgramOf) → number_in Program (get_or words_of_programs (rank p) []) ≡ Ok (pos (rank p))
+its_word : (p : ProgramOf) → number_in Word (get_or words_of_programs (rank p) []) ≡ Ok (pos (rank p))
 its_word Unsub = refl
 its_word Sub = refl
 its_word Plus = refl
@@ -150,11 +150,11 @@ read_spells (money cents) Cents text f h = cents_spelled text cents h
 read_spells (money cents) _ text f h = absurd cc
 read_spells (day d) Day text f h = day_spelled text d h
 read_spells (day d) _ text f h = absurd cc
-read_spells (word program) Program text f h = word_spelled text program h
+read_spells (word program) Word text f h = word_spelled text program h
 read_spells (word program) _ text f h = absurd cc
 read_spells _ Cents text f h = absurd cc
 read_spells _ Day text f h = absurd cc
-read_spells _ Program text f h = absurd cc
+read_spells _ Word text f h = absurd cc
 read_spells (whole width z) _ text f h = whole_spelled text z h
 read_spells (ranged width low high n) _ text f h = whole_spelled text (pos n) h
 
@@ -164,10 +164,10 @@ spelled_reads (money cents) Cents text f low high h = cents_read text cents high
 spelled_reads (money cents) _ text f low high h = absurd cc
 spelled_reads (day d) Day text f low high h = day_read text d (low, high) h
 spelled_reads (day d) _ text f low high h = absurd cc
-spelled_reads (word program) Program text f low high h = ap (number_in Program) h ∙ its_word program
+spelled_reads (word program) Word text f low high h = ap (number_in Word) h ∙ its_word program
 spelled_reads (word program) _ text f low high h = absurd cc
 spelled_reads _ Cents text f low high h = absurd cc
 spelled_reads _ Day text f low high h = absurd cc
-spelled_reads _ Program text f low high h = absurd cc
+spelled_reads _ Word text f low high h = absurd cc
 spelled_reads (whole width z) _ text f low high h = whole_read text z low high h
 spelled_reads (ranged width least_one greatest_one n) _ text f low high h = whole_read text (pos n) low high h

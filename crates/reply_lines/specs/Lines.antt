@@ -1,32 +1,14 @@
 -- The lines that answer asks. Own format.
-use Rattle.std.specs.Prelude.{ℕ, ◌/◌, ◌%◌, List, [], ◌++◌, ◌+◌, codes, decimal}
+use Rattle.std.specs.Prelude.{ℕ, ◌/◌, List, [], ◌++◌, ◌+◌, codes, decimal}
 use Rattle.aid_num.specs.Cents.{cents_text}
+use Rattle.aid_num.specs.Percents.{percent_text}
 use Rattle.aid_num.specs.Whole.{whole_text}
-use Rattle.aid_types.specs.declared.award.Formula.{Formula}
-use Rattle.aid_types.specs.declared.award.Formula.TheVariants.{A, B, C}
-use Rattle.aid_types.specs.declared.award.Way.{Way}
-use Rattle.aid_types.specs.declared.award.Way.TheVariants.{Maximum, Calculated, Minimum, Nothing}
+use Rattle.aid_types.specs.Words.{formula_text, way_text}
 use Rattle.aid_replies.specs.declared.reply.Outcome.{Outcome}
 use Rattle.aid_replies.specs.declared.reply.Outcome.TheVariants.{Noted, Indexed, Paid, Returned}
 use Rattle.aid_types.specs.declared.award.Refusal.{Refusal}
 use Rattle.aid_replies.specs.declared.reply.Verdict.{Verdict}
 use Rattle.aid_replies.specs.declared.reply.Verdict.TheVariants.{Again, Refused, Admit, Quoted, Standing}
-
--- how a formula and a way to an award are written
-abbrev pub formula_text : Formula → List ℕ
-formula_text A = codes "A"
-formula_text B = codes "B"
-formula_text C = codes "C"
-
-abbrev pub way_text : Way → List ℕ
-way_text Maximum = codes "maximum"
-way_text Calculated = codes "calculated"
-way_text Minimum = codes "minimum"
-way_text Nothing = codes "nothing"
-
--- tenths of a percent, with one decimal
-abbrev pub percent_text : ℕ → List ℕ
-percent_text tenths = decimal (tenths / 10) ++ codes "." ++ decimal (tenths % 10)
 
 -- how an outcome is written: `noted`, `index FORMULA SAI WAY AWARD`, `paid NET USED`, `returned PERCENT SCHOOL OWED POST`
 abbrev pub outcome_text : Outcome → List ℕ

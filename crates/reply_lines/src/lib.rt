@@ -3,4 +3,4 @@
 
 mod lines;
 
-pub use lines::{formula_name, outcome_line, put_answer, put_quote, way_name};
+pub use lines::{outcome_line, put_answer, put_quote};

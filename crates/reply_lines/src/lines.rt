@@ -2,11 +2,12 @@
 ghost use Rattle.std.specs.Prelude.{◌≡◌, ◌+◌, ◌<◌, ◌≤◌, [], ◌∷◌, ◌++◌, IsOk, OnErr, OnOk, codes, decimal, length, vec_capacity, vec_len};
 ghost use Rattle.arrayvec.specs.ArrayString.{array_string_len};
 ghost use Rattle.aid_num.specs.Cents.{cents_text};
+ghost use Rattle.aid_num.specs.Percents.{percent_text};
 ghost use Rattle.aid_num.specs.Whole.{whole_text};
-ghost use Rattle.reply_lines.specs.Lines.{formula_text, line_of, outcome_text, percent_text, quote_line, refused_text, standing_text, way_text};
+ghost use Rattle.reply_lines.specs.Lines.{line_of, outcome_text, quote_line, refused_text, standing_text};
 
 use aid_replies::{Outcome, Verdict};
-use aid_types::{Formula, Refusal, Way};
+use aid_types::{Formula, Refusal, Way, formula_name, way_name};
 use arrayvec::ArrayString;
 use itoa::Buffer;
 use std::alloc::AllocError;
@@ -175,31 +176,6 @@ fn push_returned(line: &mut ArrayString<160>, percent: u16, school: u64, owed: u
     push_cents(line, owed);
     line.push_str(" ");
     push_cents(line, post);
-}
-
-/// The letter of a formula.
-pub fn formula_name(formula: Formula) -> &'static str
-    ensures text { result.now ≡ formula_text formula }
-    ensures short { length result.now ≤ 1 }
-{
-    match formula {
-        Formula::A => "A",
-        Formula::B => "B",
-        Formula::C => "C",
-    }
-}
-
-/// The word for a way to an award.
-pub fn way_name(way: Way) -> &'static str
-    ensures text { result.now ≡ way_text way }
-    ensures short { length result.now ≤ 10 }
-{
-    match way {
-        Way::Maximum => "maximum",
-        Way::Calculated => "calculated",
-        Way::Minimum => "minimum",
-        Way::Nothing => "nothing",
-    }
 }
 
 // Appends a percent, given in tenths.

@@ -13,7 +13,7 @@ use Rattle.kept_session.specs.declared.stop.SessionStop.{SessionStop}
 use Rattle.kept_session.specs.declared.stop.SessionStop.TheVariants.{Reading, Opening, Filing}
 use Rattle.run_ends.specs.declared.stop.RunStop.{RunStop}
 use Rattle.run_ends.specs.declared.stop.RunStop.TheVariants.{Usage, Found, File, Check, Socket}
-use Rattle.kept_session.specs.declared.checking.Tally.{Tally}
+use Rattle.kept_session.specs.declared.checking.CheckTally.{CheckTally}
 use Rattle.kept_session.specs.declared.checking.CheckStop.{CheckStop}
 use Rattle.kept_session.specs.declared.checking.CheckStop.TheVariants as checking
 
@@ -111,7 +111,7 @@ abbrev pub ended_file : Result Unit SessionStop → Result Unit RunStop
 ended_file (Ok done) = Ok tt
 ended_file (Err stop) = Err (File stop)
 
-abbrev pub ended_check : Result Tally CheckStop → Result Unit RunStop
+abbrev pub ended_check : Result CheckTally CheckStop → Result Unit RunStop
 ended_check (Ok tally) = Ok tt
 ended_check (Err stop) = Err (Check stop)
 

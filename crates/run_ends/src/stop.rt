@@ -7,7 +7,7 @@ use arrayvec::ArrayString;
 use filing_journal::OpenError;
 use itoa::Buffer;
 use kept_list::FoundFault;
-use kept_session::{CheckStop, FileStop, FoundStop, ReadStop, SessionStop, Tally};
+use kept_session::{CheckStop, FileStop, FoundStop, ReadStop, SessionStop, CheckTally};
 
 /// Why a run ends before its input is answered.
 #[derive(Clone, Copy, PartialEq, Eq, Debug)]
@@ -65,7 +65,7 @@ pub fn ended_founding(ended: Result<(), FoundStop>) -> Result<(), RunStop>
 }
 
 /// How a run ended, by how its check did.
-pub fn ended_checking(ended: Result<Tally, CheckStop>) -> Result<(), RunStop>
+pub fn ended_checking(ended: Result<CheckTally, CheckStop>) -> Result<(), RunStop>
     ensures { result ≡ ended_check ended }
 {
     match ended {

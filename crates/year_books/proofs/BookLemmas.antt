@@ -9,14 +9,15 @@ use Rattle.book_numbers.proofs.Amounts.{is_amount_slot}
 use Rattle.book_numbers.proofs.Behind.{onto}
 use Rattle.book_numbers.proofs.InRange.{age_put, amounts_put, bracket_put, business_put}
 use Rattle.book_numbers.specs.Book.{AreBookNumbers, age_numbers, age_row, bracket_numbers, bracket_row}
-use Rattle.filing_kinds.proofs.Laws.{AreNumbers-few}
-use Rattle.filing_kinds.specs.Forms.{most_numbers}
+use Rattle.field_table.proofs.Laws.{AreNumbers-few}
+use Rattle.field_table.specs.Forms.{most_numbers}
 use Rattle.book_numbers.specs.Sections.{age_slots, bracket_slots, business_slots, pell_slots, schedule_slots}
-use Rattle.filing_kinds.specs.Kinds.{book_slots, one}
-use Rattle.filing_kinds.specs.Layout.{AreNumbers}
-use Rattle.filing_kinds.specs.Limits.{is_between}
-use Rattle.filing_kinds.specs.Parts.{Slot}
-use Rattle.filing_kinds.specs.declared.field.Form.TheVariants.{I64}
+use Rattle.filing_kinds.specs.Kinds.{book_slots}
+use Rattle.field_table.specs.Columns.{one}
+use Rattle.field_table.specs.Layout.{AreNumbers}
+use Rattle.field_table.specs.Limits.{is_between}
+use Rattle.field_table.specs.Parts.{Slot}
+use Rattle.field_table.specs.declared.field.Form.TheVariants.{I64}
 use Rattle.year_books.specs.Fields.{BookLine, book_line, field_line, table_fields}
 use Rattle.year_books.specs.Ranges.{Range, between, range_named, up_to}
 use Rattle.year_books.specs.Numbers.{added_by, added_by_all, fields_in, numbers_in, row_numbers}

@@ -8,7 +8,7 @@ use Rattle.std.proofs.lemmas.List.Folds.{list_all-map}
 use Rattle.std.proofs.lemmas.List.{length-map}
 use Rattle.toml.specs.Data.{Data, Members, as_array, as_integer}
 use Rattle.aid_types.specs.Ranges.{EachIsAmount}
-use Rattle.filing_kinds.specs.Limits.{is_between}
+use Rattle.field_table.specs.Limits.{is_between}
 use Rattle.year_books.specs.Fields.{BookLine, table_fields}
 use Rattle.year_books.specs.Ranges.{range_named}
 use Rattle.year_books.specs.Reading.{field_error, fields_error, first_error, first_fault, has_kind, has_range, integer_in, items_in, limit, listed, places_error, places_of}

@@ -2,8 +2,8 @@
 use Rattle.std.proofs.Common.{◌≡◌, ℕ, pos, List, Option, ap}
 use Rattle.std.specs.Prelude.{unwrap_or}
 use Rattle.filing_kinds.specs.Kinds.{book_slots}
-use Rattle.filing_kinds.specs.declared.field.Limit.{Limit}
-use Rattle.filing_kinds.specs.declared.field.Limit.TheVariants.{Between}
+use Rattle.field_table.specs.declared.field.Limit.{Limit}
+use Rattle.field_table.specs.declared.field.Limit.TheVariants.{Between}
 use Rattle.year_books.specs.Ranges.{limit_named, range_named, range_of}
 
 pub range_by : (name : List ℕ) (found : Option Limit) → limit_named name book_slots ≡ found → range_named name ≡ range_of (unwrap_or found (Between (pos 0) (pos 0)))

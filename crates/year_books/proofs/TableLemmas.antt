@@ -11,7 +11,7 @@ use Rattle.aid_books.specs.Ages.{IsAgeRow, is_by_age, rises_from}
 use Rattle.aid_books.specs.Marginal.{IsBracket, goes_on, is_marginal}
 use Rattle.aid_books.specs.declared.ages.AgeRow.{AgeRow}
 use Rattle.aid_books.specs.declared.marginal.Bracket.{Bracket}
-use Rattle.filing_kinds.specs.Limits.{is_between}
+use Rattle.field_table.specs.Limits.{is_between}
 use Rattle.toml.specs.Data.{Data, get}
 use Rattle.year_books.specs.Reading.{has_range, integer_in}
 use Rattle.year_books.specs.declared.table.Holds.TheVariants.{Column}

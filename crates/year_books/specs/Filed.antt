@@ -2,7 +2,7 @@
 -- ranges, in the same order.
 use Rattle.std.specs.Prelude.{◌≡◌, ℕ, List, [], ◌∷◌, flat_map, map, replicate}
 use Rattle.filing_kinds.specs.Kinds.{book_slots}
-use Rattle.filing_kinds.specs.Parts.{Line, Slot}
+use Rattle.field_table.specs.Parts.{Line, Slot}
 use Rattle.year_books.specs.Fields.{BookLine}
 use Rattle.year_books.specs.Ranges.{Range, range_named, range_of}
 use Rattle.year_books.specs.declared.table.Holds.{Holds}

@@ -2,9 +2,9 @@
 use Rattle.std.specs.Prelude.{ℕ, ℤ, pos, codes, List, [], ◌∷◌, bytes_eq, Option, Some, None, unwrap_or, if◌then◌else◌}
 use Rattle.std.specs.Option.{option_or}
 use Rattle.filing_kinds.specs.Kinds.{book_slots}
-use Rattle.filing_kinds.specs.Parts.{Line, Slot}
-use Rattle.filing_kinds.specs.declared.field.Limit.{Limit}
-use Rattle.filing_kinds.specs.declared.field.Limit.TheVariants.{Between, UpToLast, AboveRow, Continues, Begins}
+use Rattle.field_table.specs.Parts.{Line, Slot}
+use Rattle.field_table.specs.declared.field.Limit.{Limit}
+use Rattle.field_table.specs.declared.field.Limit.TheVariants.{Between, UpToLast, AboveRow, Continues, Begins}
 use Rattle.year_books.specs.declared.ranges.Highest.{Highest}
 use Rattle.year_books.specs.declared.ranges.Highest.TheVariants.{Number, Key}
 

@@ -5,7 +5,7 @@ use Rattle.std.specs.Option.{option_or}
 use Rattle.std.specs.Str.{is_utf8}
 use Rattle.toml.specs.Data.{Data, Items, no_items, item, Members, get, get_member, as_array, as_integer, as_table}
 use Rattle.toml.specs.Parse.{parse_document}
-use Rattle.filing_kinds.specs.Limits.{is_between}
+use Rattle.field_table.specs.Limits.{is_between}
 use Rattle.year_books.specs.Fields.{BookLine, table_fields}
 use Rattle.year_books.specs.Ranges.{Greatest, Range, number_at, range_named, up_to}
 use Rattle.year_books.specs.declared.table.Holds.{Holds}

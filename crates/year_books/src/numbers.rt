@@ -1,7 +1,7 @@
 //! The numbers of a book, put in the order in which a book is filed.
 ghost use Rattle.std.specs.Prelude.{◌≡◌, ◌≤◌, ◌+◌, ◌++◌, Some, flat_map, length, map};
 ghost use Rattle.arrayvec.specs.ArrayVec.{array_vec_len};
-ghost use Rattle.filing_kinds.specs.Forms.{most_numbers};
+ghost use Rattle.field_table.specs.Forms.{most_numbers};
 ghost use Rattle.toml.specs.View.{table_view, view};
 ghost use Rattle.year_books.specs.Fields.{table_fields};
 ghost use Rattle.year_books.specs.Numbers.{added_by, fields_in, numbers_in, row_numbers};
@@ -9,7 +9,7 @@ ghost use Rattle.year_books.specs.Reading.{integer_in as integer_of};
 
 use crate::reading::{integer_in, items_in, value_at};
 use crate::table::{BookField, Holds, fields};
-use filing_kinds::Numbers;
+use field_table::Numbers;
 use toml::{Table, Value};
 
 // Puts each integer of a list.

@@ -1,10 +1,11 @@
 //! The ranges of the fields of a year book, which stand in the table of kinds.
 ghost use Rattle.std.specs.Prelude.{◌≡◌};
 ghost use Rattle.filing_kinds.specs.Kinds.{book_slots};
-ghost use Rattle.filing_kinds.specs.Parts.{lines_of, slots_of};
+ghost use Rattle.field_table.specs.Parts.{lines_of, slots_of};
 ghost use Rattle.year_books.specs.Ranges.{between, greatest, limit_in as limit_of_line, limit_named as limit_of_name, range_named, range_of, up_to as numbers_to};
 
-use filing_kinds::{Field, Kind, Limit, Part, table_row};
+use field_table::{Field, Limit, Part};
+use filing_kinds::{Kind, table_row};
 
 /// The greatest number of a field.
 #[derive(Clone, Copy, Debug)]

@@ -3,7 +3,7 @@ ghost use Rattle.std.specs.Prelude.{◌≡◌, ◌⊎◌, ◌∷◌, [], None, S
 ghost use Rattle.std.specs.List.{list_all};
 ghost use Rattle.toml.specs.Data.{as_integer, as_table, get, get_member};
 ghost use Rattle.toml.specs.View.{table_view, view};
-ghost use Rattle.filing_kinds.specs.Limits.{is_between as goes_between};
+ghost use Rattle.field_table.specs.Limits.{is_between as goes_between};
 ghost use Rattle.year_books.specs.Fields.{field_line};
 ghost use Rattle.year_books.specs.Ranges.{greatest};
 ghost use Rattle.year_books.specs.Reading.{field_error, fields_error, first_fault, has_kind, has_range, integer_in as integer_of, items_in as items_of, limit, member_at, places_error, rows_of, table_of};

@@ -2,8 +2,8 @@ use Rattle.std.proofs.Common.{rules, ◌≡◌, ◌++◌, List, pos, drop, sym, 
 use Rattle.std.specs.Prelude.{Some, None}
 use Rattle.serde_json.specs.View.{view}
 use Rattle.filing_kinds.specs.Kinds.{key_slots}
-use Rattle.filing_kinds.specs.Parts.{Slot, slots_of}
-use Rattle.filing_kinds.specs.declared.field.Part.{Part}
+use Rattle.field_table.specs.Parts.{Slot, slots_of}
+use Rattle.field_table.specs.declared.field.Part.{Part}
 use Rattle.desk_bodies.specs.Filings.{fields_of}
 use Rattle.desk_bodies.proofs.FilingLemmas.{put_three}
 use Rattle.desk_bodies.proofs.filing.put_filing.Goals as goal

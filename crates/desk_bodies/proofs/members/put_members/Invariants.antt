@@ -1,6 +1,6 @@
 use Rattle.std.proofs.Common.{◌≡◌, drop}
 use Rattle.serde_json.specs.View.{view}
-use Rattle.filing_kinds.specs.Parts.{slots_of}
+use Rattle.field_table.specs.Parts.{slots_of}
 use Rattle.desk_bodies.specs.Drafts.{put_said}
 use Rattle.desk_bodies.specs.Values.{numbers_said}
 use Rattle.desk_bodies.proofs.members.put_members.Given as goal

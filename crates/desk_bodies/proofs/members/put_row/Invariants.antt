@@ -1,7 +1,7 @@
 use Rattle.std.proofs.Common.{◌≡◌, drop}
 use Rattle.std.specs.Prelude.{map}
 use Rattle.serde_json.specs.View.{view}
-use Rattle.filing_kinds.specs.Parts.{lines_of}
+use Rattle.field_table.specs.Parts.{lines_of}
 use Rattle.desk_bodies.specs.Drafts.{put_said}
 use Rattle.desk_bodies.specs.Values.{row_said}
 use Rattle.desk_bodies.proofs.members.put_row.Given as goal

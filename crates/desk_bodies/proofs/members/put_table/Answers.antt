@@ -1,7 +1,7 @@
 use Rattle.std.proofs.Common.{◌≡◌, sym, ap, ◌∙◌}
 use Rattle.std.specs.Prelude.{Some, None}
 use Rattle.serde_json.specs.View.{items_view}
-use Rattle.filing_kinds.specs.Parts.{lines_of}
+use Rattle.field_table.specs.Parts.{lines_of}
 use Rattle.desk_bodies.proofs.MemberLemmas.{left_none, rows_next}
 use Rattle.desk_bodies.proofs.members.put_table.Goals as goal
 

@@ -3,7 +3,7 @@ use Rattle.std.specs.Prelude.{nat_le}
 use Rattle.std.proofs.lemmas.Bool.{lt-leb}
 use Rattle.std.proofs.lemmas.List.{length-map}
 use Rattle.csv.specs.Records.{fields_of as texts_of}
-use Rattle.filing_kinds.specs.Parts.{slot_of, slots_of}
+use Rattle.field_table.specs.Parts.{slot_of, slots_of}
 use Rattle.desk_forms.specs.Fields.{are_as_many}
 use Rattle.desk_forms.proofs.CountLemmas.{IsAt, at_most, count_is_none, is_end, is_short, rows_are_short, rows_fit}
 use Rattle.desk_forms.proofs.count.+are_as_many.Goals as goal

@@ -1,6 +1,6 @@
 use Rattle.std.proofs.Common.{◌≡◌, sym, ap, ◌∙◌, length, rules}
 use Rattle.std.specs.Prelude.{Some}
-use Rattle.filing_kinds.specs.Parts.{line_of}
+use Rattle.field_table.specs.Parts.{line_of}
 use Rattle.desk_forms.proofs.FieldsLemmas.{counted_lines}
 use Rattle.desk_forms.proofs.count.fields_counted.Goals as goal
 

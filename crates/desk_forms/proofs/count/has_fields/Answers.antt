@@ -3,7 +3,7 @@ use Rattle.std.proofs.lemmas.Bool.{lt-leb}
 use Rattle.std.proofs.lemmas.List.{length-map}
 use Rattle.csv.specs.Records.{fields_of as texts_of}
 use Rattle.filing_kinds.specs.Kinds.{table_row_of}
-use Rattle.filing_kinds.specs.Parts.{slot_of}
+use Rattle.field_table.specs.Parts.{slot_of}
 use Rattle.desk_forms.specs.Fields.{are_as_many}
 use Rattle.desk_forms.proofs.CountLemmas.{key_fits, key_is_short}
 use Rattle.desk_forms.proofs.count.has_fields.Goals as goal

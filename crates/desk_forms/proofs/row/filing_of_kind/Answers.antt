@@ -3,7 +3,7 @@ use Rattle.std.specs.Prelude.{Ok, Err}
 use Rattle.std.proofs.lemmas.Result.{err_from_is_err_and}
 use Rattle.csv.specs.Records.{fields_of as texts_of}
 use Rattle.filing_kinds.specs.Kinds.{slots_of_kind}
-use Rattle.filing_kinds.specs.Walk.{numbers_drafted}
+use Rattle.field_table.specs.Walk.{numbers_drafted}
 use Rattle.desk_forms.specs.Fields.{are_as_many}
 use Rattle.desk_forms.proofs.RowsLemmas.{read-are, right_count, wrong_count}
 use Rattle.desk_forms.proofs.row.filing_of_kind.Goals as goal

@@ -2,19 +2,20 @@ use Rattle.std.proofs.Common.{rules, ◌≡◌, ◌+◌, ℕ, length, drop, refl
 use Rattle.std.specs.Prelude.{Err}
 use Rattle.std.proofs.lemmas.Result.{err_from_is_err_and}
 use Rattle.csv.specs.Records.{fields_of as texts_of}
-use Rattle.filing_kinds.specs.Draft.{Progress, onward}
-use Rattle.filing_kinds.specs.Parts.{line_of}
-use Rattle.filing_kinds.proofs.WalkLaws.{all_put, numbers_with, numbers_with-none}
+use Rattle.filing_kinds.specs.Kinds.{slots_of_kind}
+use Rattle.field_table.specs.Draft.{Progress, onward}
+use Rattle.field_table.specs.Parts.{line_of}
+use Rattle.field_table.proofs.WalkLaws.{all_put, numbers_with, numbers_with-none}
 use Rattle.desk_forms.specs.Numbers.{row_source}
 use Rattle.desk_forms.proofs.NumbersLemmas.{goes_on, is_past, is_reading, not_read, texts_left}
 use Rattle.desk_forms.proofs.row.numbers_of.Goals as goal
 
 pub loop-field-init : goal.loop-field-init
 loop-field-init c =
-    let d = c.new-draft.result in
+    let d = c.new_draft.result in
     let texts = texts_of c.args.texts.now in
-    ap (λ (k : ℕ). numbers_with (row_source c.args.row) d (drop k texts)) (ap (λ zs. length zs + 1) c.new-draft.ensures.none)
-    ∙ numbers_with-none (row_source c.args.row) c.args.kind d (drop 1 texts) c.new-draft.ensures.to_come c.new-draft.ensures.none
+    ap (λ (k : ℕ). numbers_with (row_source c.args.row) d (drop k texts)) (ap (λ zs. length zs + 1) c.new_draft.ensures.none)
+    ∙ numbers_with-none (row_source c.args.row) (slots_of_kind c.args.kind) d (drop 1 texts) c.new_draft.ensures.to_come c.new_draft.ensures.none
 
 pub returns-in_err-number : goal.returns-in_err-number
 returns-in_err-number c =

@@ -1,8 +1,8 @@
 use Rattle.std.proofs.Common.{◌≡◌, ◌-◌, length, drop}
 use Rattle.csv.specs.Records.{fields_of as texts_of}
-use Rattle.filing_kinds.specs.Forms.{most_numbers}
-use Rattle.filing_kinds.specs.Walk.{numbers_of_kind}
-use Rattle.filing_kinds.proofs.WalkLaws.{numbers_with}
+use Rattle.field_table.specs.Forms.{most_numbers}
+use Rattle.filing_kinds.specs.Drafts.{numbers_of_kind}
+use Rattle.field_table.proofs.WalkLaws.{numbers_with}
 use Rattle.desk_forms.specs.Numbers.{row_source}
 use Rattle.desk_forms.proofs.NumbersLemmas.{texts_left}
 use Rattle.desk_forms.proofs.row.numbers_of.Given as goal

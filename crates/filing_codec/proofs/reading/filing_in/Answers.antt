@@ -1,6 +1,6 @@
 use Rattle.std.proofs.Common.{[], reverse, sym, subst, arith}
 use Rattle.filing_kinds.specs.Kinds.{slots_of_kind}
-use Rattle.filing_kinds.specs.Layout.{AreNumbers}
+use Rattle.field_table.specs.Layout.{AreNumbers}
 use Rattle.filing_codec.proofs.RowLaws.{takes}
 use Rattle.filing_codec.proofs.reading.filing_in.Goals as goal
 

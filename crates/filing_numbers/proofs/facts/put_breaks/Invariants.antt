@@ -1,8 +1,8 @@
 use Rattle.std.proofs.Common.{◌≡◌, ◌+◌, ◌-◌, ◌*◌, ◌≤◌, ◌++◌, length, take}
 use Rattle.std.specs.Prelude.{flat_map}
 use Rattle.filing_kinds.specs.Kinds.{first_and_last}
-use Rattle.filing_kinds.specs.Forms.{most_numbers}
-use Rattle.filing_kinds.specs.Layout.{rows_again}
+use Rattle.field_table.specs.Forms.{most_numbers}
+use Rattle.field_table.specs.Layout.{rows_again}
 use Rattle.filing_numbers.specs.Numbers.{break_days}
 use Rattle.filing_numbers.specs.Parts.{FitAnywhere}
 use Rattle.filing_numbers.proofs.facts.put_breaks.Given as goal

@@ -1,6 +1,6 @@
 use Rattle.std.proofs.Common.{◌≤◌, length, arith}
 use Rattle.filing_kinds.specs.Kinds.{first_and_last}
-use Rattle.filing_kinds.specs.Layout.{rows_again}
+use Rattle.field_table.specs.Layout.{rows_again}
 use Rattle.std.specs.Prelude.{flat_map}
 use Rattle.filing_numbers.specs.Numbers.{break_days}
 use Rattle.filing_numbers.specs.Parts.{FitAnywhere}

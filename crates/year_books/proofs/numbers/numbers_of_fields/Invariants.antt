@@ -1,6 +1,6 @@
 use Rattle.std.proofs.Common.{◌≡◌, ◌≤◌, ◌+◌, ◌++◌, drop, length, map}
 use Rattle.arrayvec.specs.ArrayVec.{array_vec_len}
-use Rattle.filing_kinds.specs.Forms.{most_numbers}
+use Rattle.field_table.specs.Forms.{most_numbers}
 use Rattle.toml.specs.View.{table_view}
 use Rattle.year_books.specs.Fields.{field_line}
 use Rattle.year_books.specs.Numbers.{added_by_all, numbers_in}

@@ -1,6 +1,6 @@
 use Rattle.std.proofs.Common.{◌≡◌, ◌≤◌, ◌+◌, ◌++◌, Some, drop, length, map}
 use Rattle.arrayvec.specs.ArrayVec.{array_vec_len}
-use Rattle.filing_kinds.specs.Forms.{most_numbers}
+use Rattle.field_table.specs.Forms.{most_numbers}
 use Rattle.toml.specs.View.{view}
 use Rattle.year_books.specs.Reading.{integer_in}
 use Rattle.year_books.proofs.numbers.put_integers.Given as goal

@@ -1,7 +1,7 @@
 use Rattle.std.proofs.Common.{◌≡◌, ◌≤◌, ◌+◌, ◌++◌, drop, length, map}
 use Rattle.std.specs.Prelude.{flat_map}
 use Rattle.arrayvec.specs.ArrayVec.{array_vec_len}
-use Rattle.filing_kinds.specs.Forms.{most_numbers}
+use Rattle.field_table.specs.Forms.{most_numbers}
 use Rattle.toml.specs.View.{view}
 use Rattle.year_books.specs.Fields.{table_fields}
 use Rattle.year_books.specs.Numbers.{fields_in, row_numbers}

@@ -1,5 +1,5 @@
 use Rattle.std.proofs.Common.{◌≡◌, drop}
-use Rattle.filing_kinds.specs.Parts.{lines_of}
+use Rattle.field_table.specs.Parts.{lines_of}
 use Rattle.year_books.specs.Ranges.{limit_in}
 use Rattle.year_books.proofs.ranges.limit_in.Given as goal
 

@@ -1,7 +1,7 @@
 use Rattle.std.proofs.Common.{◌≡◌, pos, ap, sym, ◌∙◌, rules}
 use Rattle.std.specs.Prelude.{unwrap_or}
 use Rattle.filing_kinds.specs.Kinds.{book_slots}
-use Rattle.filing_kinds.specs.declared.field.Limit.TheVariants.{Between}
+use Rattle.field_table.specs.declared.field.Limit.TheVariants.{Between}
 use Rattle.year_books.specs.Ranges.{limit_named, range_of}
 use Rattle.year_books.proofs.RangeLemmas.{range_by}
 use Rattle.year_books.proofs.ranges.range.Goals as goal

@@ -1,7 +1,7 @@
 use Rattle.std.proofs.Common.{Some, rules}
 use Rattle.std.proofs.lemmas.List.Folds.{list_all-map}
 use Rattle.toml.specs.View.{view}
-use Rattle.filing_kinds.specs.Limits.{is_between}
+use Rattle.field_table.specs.Limits.{is_between}
 use Rattle.year_books.specs.Reading.{integer_in}
 use Rattle.year_books.proofs.reading.is_in_range.Goals as goal
 

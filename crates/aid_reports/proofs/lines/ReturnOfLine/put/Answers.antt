@@ -1,7 +1,7 @@
 use Rattle.std.proofs.Common.{[], ◌∷◌, decimal}
 use Rattle.std.proofs.lemmas.Result.{on_ok_weaker}
 use Rattle.aid_num.specs.Cents.{cents_text}
-use Rattle.reply_lines.specs.Lines.{percent_text}
+use Rattle.aid_num.specs.Percents.{percent_text}
 use Rattle.aid_reports.specs.Columns.{right}
 use Rattle.aid_reports.specs.Lines.{due_text}
 use Rattle.aid_reports.proofs.Pieces.{written}

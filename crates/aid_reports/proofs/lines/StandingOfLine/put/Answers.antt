@@ -2,7 +2,7 @@ use Rattle.std.proofs.Common.{rules, ◌≡◌, [], ◌∷◌, decimal, of_z, to
 use Rattle.std.proofs.lemmas.Result.{on_ok_weaker}
 use Rattle.aid_num.specs.Cents.{cents_text}
 use Rattle.aid_num.specs.Whole.{whole_text}
-use Rattle.reply_lines.specs.Lines.{formula_text, way_text}
+use Rattle.aid_types.specs.Words.{formula_text, way_text}
 use Rattle.aid_reports.specs.Columns.{left, right}
 use Rattle.aid_reports.proofs.Pieces.{written}
 use Rattle.aid_reports.proofs.lines.StandingOfLine.put.Goals as goal

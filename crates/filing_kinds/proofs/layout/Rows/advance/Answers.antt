@@ -1,6 +1,0 @@
-use Rattle.std.proofs.Common.{◌-◌}
-use Rattle.filing_kinds.proofs.LayoutLemmas.{no_rows}
-use Rattle.filing_kinds.proofs.layout.Rows.advance.Goals as goal
-
-pub invariant_of-self : goal.invariant_of-self
-invariant_of-self c = λ e. no_rows (c.self.inside.left - 1) c.self.inside.later.now e
