@@ -1,18 +1,16 @@
 //! The program of a federal student aid office: its words, its journal, what it reads and what it writes.
 #![tactic(auto)]
 
-use aid_edges::{ReadEdge, Sink, WriteEdge};
+use aid_edges::{FreeGate, ReadEdge, Sink, WriteEdge};
 use disk_model::HostDisk;
 use filing_journal::OpenError;
 use fund_policy::{Rule, level, quarter, standard};
-use kept_desks::FreeGate;
+use kept_runs::{RunStop, end};
 use kept_session::ReadStop;
 use kept_web::WebDesk;
-use office_desks::{DeskInput, run_desks};
-use office_runs::run;
-use office_web::run_web;
-use office_words::{MainRow, row_of};
-use run_ends::{RunStop, end};
+use run_office::{DeskInput, run, run_desks};
+use run_web::run_web;
+use run_words::{MainRow, row_of};
 use std::alloc::{AllocError, Global};
 use std::fs::{File, OpenOptions, TryLockError};
 use std::io::ErrorKind;

@@ -8,8 +8,7 @@ ghost use Rattle.aid_reports.specs.Rows.{award_rows as award_rows_on, lifetime_r
 use crate::gathered::{applicants, lifetime_users, paid_places};
 use crate::priors::{prior_of, priors};
 use crate::rows::{LifetimeOf, NetOf, PaidPlace, ReturnOf, StandingOf};
-use aid_filings::{Filing, What};
-use aid_replies::Outcome;
+use aid_filings::{Filing, Outcome, What};
 use aid_types::{Program, Student, Year};
 use enrolment::due;
 use office_core::Office;

@@ -1,5 +1,5 @@
 //! What the lines of reports tell.
-use aid_replies::StandingRow;
+use aid_filings::StandingRow;
 use aid_types::{Day, Program, School, Student};
 
 /// Where a student stands in the year.

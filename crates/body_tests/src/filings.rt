@@ -1,13 +1,13 @@
 //! What bodies say.
 use aid_filings::Filing;
 use aid_types::School;
-use desk_bodies::{BodyError, filing_of};
 use filing_kinds::table_row;
 use filing_numbers::{kind, numbers_in};
 use itoa::Buffer;
 use std::alloc::{AllocError, Global};
 use std::process::Abort;
 use std::test::Fail;
+use web_forms::{BodyError, filing_of};
 
 // What a body says at a school: the kind and the numbers of its filing, or that it is none.
 fn told(rt: &impl Abort, alloc: Global, school: u32, body: &[u8]) -> Result<Vec<u8>, Fail> {

@@ -1,8 +1,8 @@
 //! How replies are written.
-use aid_replies::{Outcome, Reply, StandingRow};
+use aid_filings::{Outcome, Reply, StandingRow};
 use aid_types::{Formula, Refusal, Way};
-use desk_bodies::body_of;
 use std::test::Fail;
+use web_forms::body_of;
 
 #[test]
 fn each_reply(rt: HostRuntime) -> Result<(), Fail> {

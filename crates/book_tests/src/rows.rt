@@ -3,7 +3,7 @@ use crate::specimen_text;
 use crate::tests::with_lines;
 use aid_filings::What;
 use aid_types::Name;
-use book_forms::{book_filing, put_book_error};
+use desk_forms::{book_filing, put_book_error};
 use specimen::specimen_book;
 use std::alloc::Global;
 use std::process::Abort;

@@ -1,7 +1,7 @@
 //! A book: bytes worked from its figures, cuts, and numbers past their limits.
 use crate::filings::{book, place_of};
+use aid_edges::Room;
 use filing_codec::{put, take};
-use payload::Room;
 use specimen::specimen_book;
 use std::alloc::{AllocError, Global};
 use std::test::*;

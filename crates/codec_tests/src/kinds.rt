@@ -1,8 +1,8 @@
 //! Kinds without tables.
 use crate::filings::{application, calendar, payment, place_of, prior, school, withdrawal};
+use aid_edges::Room;
 use aid_filings::Filing;
 use filing_codec::{put, take};
-use payload::Room;
 use std::alloc::{AllocError, Global};
 use std::test::*;
 

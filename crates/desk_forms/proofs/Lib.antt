@@ -5,3 +5,4 @@ pub mod ReadingLemmas
 pub mod RecordsLemmas
 pub mod RowsLemmas
 pub mod TextLaws
+pub mod LineLemmas

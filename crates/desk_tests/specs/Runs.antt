@@ -4,7 +4,7 @@ use Rattle.atomic_table.specs.Seated.{TableId}
 use Rattle.rising_tests.specs.Rising.{byte_rows, rising_judging, rising_texts}
 use Rattle.rising_tests.specs.declared.forms.BytesLeft.{BytesLeft}
 use Rattle.office_lock.specs.declared.turned.Stand.{Stand}
-use Rattle.kept_desks.specs.declared.names.Filed.{Filed}
+use Rattle.kept_list.specs.declared.names.Filed.{Filed}
 use Rattle.kept_desks.specs.Desks.{DeskView, Works, Ran, all_shown}
 
 abbrev pub left_of : BytesLeft → List (Result ℕ ℕ)

@@ -2,13 +2,14 @@
 ghost use Rattle.std.specs.Prelude.{◌≡◌, ◌<◌, [], length, ℕ, None, IfOk, slice_index_or};
 ghost use Rattle.std.specs.List.{All};
 ghost use Rattle.office_lock.specs.declared.turned.Stand.{Stand};
-ghost use Rattle.kept_desks.specs.declared.names.Filed.{Filed};
+ghost use Rattle.kept_list.specs.declared.names.Filed.{Filed};
 ghost use Rattle.kept_desks.specs.Desks.{IsReady, HasEnded};
 ghost use Rattle.kept_desks.specs.Shares.{stand_of};
 ghost use Rattle.desk_tests.specs.Runs.{HasRun, WorksHere};
 
+use aid_edges::Gate;
 use disk_model::Disk;
-use kept_desks::{Desk, DeskEnd, Gate, SharedList, close_desks, open_desks};
+use kept_desks::{Desk, DeskEnd, SharedList, close_desks, open_desks};
 use kept_list::KeptList;
 use office_lock::Turns;
 use rising_tests::{BytesLeft, Rising};

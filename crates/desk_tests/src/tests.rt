@@ -3,10 +3,10 @@ ghost use Rattle.std.specs.Prelude.{◌≡◌, ◌≤◌, ◌<◌, None, IfOk, l
 ghost use Rattle.std.specs.List.{All};
 
 use crate::run::{NumberDesk, run};
+use aid_edges::HoldGate;
 use disk_model::MemoryDisk;
-use kept_desks::{Desk, DeskEnd, HoldGate, RowName};
-use kept_list::KeptList;
-use kept_session::Forms;
+use kept_desks::{Desk, DeskEnd};
+use kept_list::{Forms, KeptList, RowName};
 use rising_tests::{ByteForms, Rising};
 use std::alloc::Global;
 use std::process::Abort;

@@ -4,11 +4,11 @@ ghost use Rattle.aid_filings.specs.declared.filing.Filing.{Filing};
 ghost use Rattle.filing_codec.specs.Spelling.{IsAlone, spelling};
 ghost use Rattle.filing_numbers.specs.Numbers.{IsFiling};
 
+use aid_edges::{CAPACITY, Room};
 use aid_filings::Filing;
 use field_bytes::put_numbers;
 use filing_kinds::{key_parts, table_row};
 use filing_numbers::{kind, numbers_in};
-use payload::{CAPACITY, Room};
 
 /// Puts the one spelling of a filing into the room, in place of what the room held. It takes no memory.
 pub fn put(filing: &Filing, room: &mut Room)

@@ -8,8 +8,8 @@ ghost use Rattle.filing_journal.specs.Stands.{Payloads, StandsFor, IsPayload, Be
 ghost use Rattle.filing_journal.specs.declared.header.Header.{Header};
 
 use crate::ahead::{Ahead, part_ahead};
+use aid_edges::CAPACITY;
 use disk_model::{Disk, Failed, write_kept};
-use payload::CAPACITY;
 
 const OPEN: u8 = 1;
 

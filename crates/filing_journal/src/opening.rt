@@ -9,8 +9,8 @@ ghost use Rattle.filing_journal.specs.Piece.{IsPieceOf};
 use crate::Journal;
 use crate::piece::Piece;
 use crate::record::{Record, read_record};
+use aid_edges::Room;
 use disk_model::{Disk, Failed, trim};
-use payload::Room;
 
 /// Why a journal can't be opened.
 #[derive(Clone, Copy, Debug, PartialEq, Eq)]

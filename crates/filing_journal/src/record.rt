@@ -6,8 +6,8 @@ ghost use Rattle.filing_journal.specs.Piece.{IsPieceOf};
 ghost use Rattle.filing_journal.specs.Record.{RecordAt, StartsWith, IfSize, IfWhole};
 
 use crate::piece::Piece;
+use aid_edges::{CAPACITY, Room};
 use disk_model::{Disk, Failed};
-use payload::{CAPACITY, Room};
 
 /// What a gate and the length behind it say.
 #[derive(Clone, Copy, Debug, PartialEq, Eq)]

@@ -1,1 +1,5 @@
 pub mod Groups
+pub mod Amounts
+pub mod Greatest
+pub mod LimitLaws
+pub mod Payable

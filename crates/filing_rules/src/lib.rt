@@ -1,9 +1,10 @@
-//! The rules on filings: the first rule that a filing breaks, on the facts of the filings before it.
+//! The rules on filings: the first rule that a filing breaks, on the facts of the filings before it; and the quote, which is the
+//! greatest Pell payment that breaks none.
 #![tactic(auto)]
 
-ghost use Rattle.std.specs.Prelude.{◌≡◌};
 ghost use Rattle.filing_rules.specs.InRange.{AreFactsInRange};
 ghost use Rattle.filing_rules.specs.Lines.{broken_of};
+ghost use Rattle.std.specs.Prelude.{◌≡◌};
 
 mod award;
 mod calendar;
@@ -12,6 +13,8 @@ mod desk;
 mod facts;
 mod limits;
 mod payment;
+mod quote;
+mod quote_limits;
 mod rules;
 mod school;
 mod withdrawal;
@@ -20,6 +23,7 @@ use aid_filings::What;
 use aid_types::{Key, Refusal};
 pub use facts::Facts;
 pub use limits::{MOST_UNITS, limit_of_year, payment_at};
+pub use quote::quote;
 pub use rules::MOST_FILINGS;
 
 /// The first rule of its kind's order that a filing breaks, with what stands and what may stand; `None` where it

@@ -1,3 +1,4 @@
 pub mod Founding
 pub mod Counts
 pub mod Paid
+pub mod BookRows

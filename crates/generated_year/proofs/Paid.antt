@@ -4,9 +4,9 @@ use Rattle.aid_filings.proofs.SameFiling.{amount_parts, amount_whole}
 use Rattle.aid_filings.specs.declared.filing.Amount.{Amount}
 use Rattle.aid_filings.specs.declared.filing.Filing.{Filing}
 use Rattle.aid_filings.specs.declared.filing.What.TheVariants.{Pay}
-use Rattle.aid_replies.specs.declared.reply.Ask.{Ask}
-use Rattle.aid_replies.specs.declared.reply.Ask.TheVariants as asks
-use Rattle.aid_replies.specs.declared.reply.Verdict.{Verdict}
+use Rattle.aid_filings.specs.declared.reply.Ask.{Ask}
+use Rattle.aid_filings.specs.declared.reply.Ask.TheVariants as asks
+use Rattle.aid_filings.specs.declared.reply.Verdict.{Verdict}
 use Rattle.aid_types.specs.declared.number.Key.{Key}
 use Rattle.kept_list.specs.Scheme.{Judging}
 use Rattle.generated_year.specs.Payments.{paid, paid_adds, payable, payment}

@@ -1,9 +1,9 @@
 -- What the verdicts of a generated year come to, and the lines that tell it. Own.
 use Rattle.std.specs.Prelude.{ℕ, ◌+◌, ◌-◌, ◌/◌, ◌^◌, min, List, ◌++◌, codes, decimal}
 use Rattle.aid_num.specs.Cents.{cents_text}
-use Rattle.aid_replies.specs.declared.reply.Outcome.TheVariants.{Returned}
-use Rattle.aid_replies.specs.declared.reply.Verdict.{Verdict}
-use Rattle.aid_replies.specs.declared.reply.Verdict.TheVariants.{Again, Refused, Admit}
+use Rattle.aid_filings.specs.declared.reply.Outcome.TheVariants.{Returned}
+use Rattle.aid_filings.specs.declared.reply.Verdict.{Verdict}
+use Rattle.aid_filings.specs.declared.reply.Verdict.TheVariants.{Again, Refused, Admit}
 use Rattle.generated_year.specs.declared.ask.YearVerdict.{YearVerdict}
 use Rattle.generated_year.specs.declared.ask.YearVerdict.TheVariants.{Filed, Paid}
 use Rattle.generated_year.specs.declared.tally.YearTally.{YearTally}

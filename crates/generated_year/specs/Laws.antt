@@ -1,9 +1,9 @@
 -- What holds of the asks of a generated year in every office.
 use Rattle.std.proofs.Common.{◌≡◌, ℕ, zero, suc, List, Option, Some, None, IsTrue}
 use Rattle.aid_filings.specs.declared.filing.Filing.{Filing}
-use Rattle.aid_replies.specs.declared.reply.Ask.{Ask}
-use Rattle.aid_replies.specs.declared.reply.Ask.TheVariants as asks
-use Rattle.aid_replies.specs.declared.reply.Verdict.{Verdict}
+use Rattle.aid_filings.specs.declared.reply.Ask.{Ask}
+use Rattle.aid_filings.specs.declared.reply.Ask.TheVariants as asks
+use Rattle.aid_filings.specs.declared.reply.Verdict.{Verdict}
 use Rattle.kept_list.specs.Scheme.{Scheme, Judging}
 use Rattle.generated_year.specs.declared.ask.YearAsk.{YearAsk}
 use Rattle.generated_year.specs.declared.ask.YearAsk.TheVariants.{File, PayQuote}

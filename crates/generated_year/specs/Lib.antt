@@ -4,3 +4,4 @@ pub mod Drawn
 pub mod Rows
 pub mod Left
 pub mod Counted
+pub mod Texts

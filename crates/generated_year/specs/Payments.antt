@@ -3,10 +3,10 @@ use Rattle.std.specs.Prelude.{ℕ, zero, suc, min, List, Option, Some, None}
 use Rattle.std.proofs.Math.Nat.{min-le_right}
 use Rattle.aid_filings.specs.declared.filing.Filing.{Filing}
 use Rattle.aid_filings.specs.declared.filing.What.TheVariants.{Pay}
-use Rattle.aid_replies.specs.declared.reply.Ask.{Ask}
-use Rattle.aid_replies.specs.declared.reply.Ask.TheVariants as asks
-use Rattle.aid_replies.specs.declared.reply.Verdict.{Verdict}
-use Rattle.aid_replies.specs.declared.reply.Verdict.TheVariants.{Quoted}
+use Rattle.aid_filings.specs.declared.reply.Ask.{Ask}
+use Rattle.aid_filings.specs.declared.reply.Ask.TheVariants as asks
+use Rattle.aid_filings.specs.declared.reply.Verdict.{Verdict}
+use Rattle.aid_filings.specs.declared.reply.Verdict.TheVariants.{Quoted}
 use Rattle.aid_types.specs.declared.number.Program.TheVariants.{Pell}
 use Rattle.kept_list.specs.Scheme.{Judging}
 use Rattle.generated_year.specs.declared.ask.QuotePayment.{QuotePayment}

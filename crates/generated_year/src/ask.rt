@@ -1,8 +1,7 @@
 // What a generated year asks, and what is answered.
 ghost use Rattle.aid_types.specs.Ranges.{IsBetween};
 
-use aid_filings::Filing;
-use aid_replies::Verdict;
+use aid_filings::{Filing, Verdict};
 use aid_types::{Key, Student, Year};
 
 /// A Pell payment of as much as the office quotes to the key's school. `term` is 1 to 8.

@@ -4,12 +4,11 @@ ghost use Rattle.kept_list.specs.Added.{entry_of};
 ghost use Rattle.generated_year.specs.Payments.{paid, paid_adds, payment as payment_of, quoted, year_added, year_answer};
 
 use crate::{QuotePayment, YearAsk, YearVerdict};
-use aid_filings::{Amount, Filing, What};
-use aid_replies::{Ask, Verdict};
+use aid_edges::Room;
+use aid_filings::{Amount, Ask, Filing, Verdict, What};
 use aid_types::Program;
 use filing_journal::Header;
 use kept_list::{Docket, Judged, TakeFault};
-use payload::Room;
 use std::alloc::{AllocError, Global};
 
 /// The docket of an office, which takes the asks of a generated year in place of its own.

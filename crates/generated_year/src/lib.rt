@@ -1,10 +1,12 @@
-//! A generated year: a year book, four schools with their terms, and students whose rows are drawn from a seed.
+//! A generated year: a year book, four schools with their terms, and students whose rows are drawn from a seed; and its rows
+//! behind the book of a text.
 #![tactic(auto)]
 
 mod ask;
 mod asks;
 mod docket;
 mod draws;
+mod forms;
 mod student;
 mod tally;
 mod terms;
@@ -13,5 +15,6 @@ pub use ask::{QuotePayment, YearAsk, YearVerdict};
 pub use asks::YearAsks;
 pub use docket::GeneratedOffice;
 pub use draws::{Draws, Students};
+pub use forms::{YearForms, YearRows};
 pub use student::Student;
 pub use tally::YearTally;

@@ -6,11 +6,10 @@ ghost use Rattle.generated_year.specs.Counted.{accepted_by as accepted_by_of, ac
 
 use crate::YearVerdict;
 use crate::docket::GeneratedOffice;
-use aid_filings::Filing;
-use aid_replies::{Ask, Outcome, Verdict};
+use aid_filings::{Ask, Filing, Outcome, Verdict};
 use itoa::Buffer;
 use kept_list::Docket;
-use kept_rounds::Tally;
+use kept_session::Tally;
 use std::alloc::AllocError;
 
 /// How many rows of a year were accepted and refused, and the cents of the Pell payments and of the schools' returns that

@@ -6,10 +6,10 @@ use Rattle.std.proofs.lemmas.List.Elements.{All-nil, All-cons, All-head, All-tai
 use Rattle.aid_types.specs.declared.award.Refusal.{Refusal}
 use Rattle.aid_filings.specs.declared.filing.Filing.{Filing}
 use Rattle.aid_filings.proofs.SameFiling.{tells_filing}
-use Rattle.aid_replies.specs.declared.reply.Ask.{Ask}
-use Rattle.aid_replies.specs.declared.reply.Ask.TheVariants.{File, Quote, Standing}
-use Rattle.aid_replies.specs.declared.reply.Verdict.{Verdict}
-use Rattle.aid_replies.specs.declared.reply.Verdict.TheVariants as verdict
+use Rattle.aid_filings.specs.declared.reply.Ask.{Ask}
+use Rattle.aid_filings.specs.declared.reply.Ask.TheVariants.{File, Quote, Standing}
+use Rattle.aid_filings.specs.declared.reply.Verdict.{Verdict}
+use Rattle.aid_filings.specs.declared.reply.Verdict.TheVariants as verdict
 use Rattle.desk_forms.specs.Causes.{number_of}
 use Rattle.desk_forms.specs.Lines.{error_line}
 use Rattle.desk_forms.specs.Rows.{row_meaning}
@@ -29,18 +29,18 @@ use Rattle.kept_office.specs.Recovers as kept
 use Rattle.kept_office.specs.Scheme.{office_header, office_scheme}
 use Rattle.kept_office.specs.Turns.{asked as filing_asked, office_judging}
 use Rattle.kept_office.specs.OfficeLaws.{alone, keepable}
-use Rattle.kept_session.specs.Texts.{after_row, row_line}
-use Rattle.office_forms.specs.Asks.{asked, desk_texts, said_by}
+use Rattle.kept_list.specs.Texts.{after_row, row_line}
+use Rattle.run_rows.specs.Asks.{asked, desk_texts, said_by}
 use Rattle.office_history.specs.Answer.{IsLegal, answer_at, answer_new, breaks, is_admit, judged, outcome_at, outcome_of}
 use Rattle.office_history.specs.Past.{filing_at, first_of_two, key_at, same_filing}
 use Rattle.office_history.proofs.FirstFilings.{skipped}
 use Rattle.office_history.proofs.Recorded.{outcome_at-stays, same_itself}
-use Rattle.plain_filings.specs.Written.{CanBeFiled, Files, kept_bytes}
-use Rattle.plain_filings.proofs.FilingRanges.{can_be_filed, is_filing}
-use Rattle.plain_filings.proofs.KeptFilings.{kept_is_spelling}
-use Rattle.plain_filings.proofs.RowLaws.{error_named, row_means}
-use Rattle.plain_rules.proofs.Admitted.{admitted_legal, keys_differ, legal_admitted, may_follow_is}
-use Rattle.reply_lines.specs.Lines.{line_of}
+use Rattle.headline.specs.Written.{CanBeFiled, Files, kept_bytes}
+use Rattle.headline.proofs.FilingRanges.{can_be_filed, is_filing}
+use Rattle.headline.proofs.KeptFilings.{kept_is_spelling}
+use Rattle.headline.proofs.RowLaws.{error_named, row_means}
+use Rattle.headline.proofs.Admitted.{admitted_legal, keys_differ, legal_admitted, may_follow_is}
+use Rattle.desk_forms.specs.Replies.{line_of}
 
 -- a filing stands in a history, at a position that is one more than there are filings before it
 record StandsAt (past : List Filing) (f : Filing) (position : ℕ) : Type 0 where

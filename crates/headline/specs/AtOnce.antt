@@ -4,9 +4,9 @@ use Rattle.aid_filings.specs.declared.filing.Filing.{Filing}
 use Rattle.disk_model.specs.Telling.{EachImage, EachMoment, Telling}
 use Rattle.headline.specs.Filed.{IsFault, Row}
 use Rattle.headline.specs.Office.{Answered, Recovers}
-use Rattle.kept_desks.specs.declared.names.RowName.{RowName}
+use Rattle.kept_list.specs.declared.names.RowName.{RowName}
 use Rattle.office_lock.specs.Passes.{IsOlder}
-use Rattle.plain_filings.specs.Written.{Files}
+use Rattle.headline.specs.Written.{Files}
 
 -- Rows of a desk, the first of them with this number: each was answered on a history that goes on from the one that the desk had
 -- seen, and that history with what the row adds is the older part of the closed one.

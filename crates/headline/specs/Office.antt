@@ -5,9 +5,9 @@ use Rattle.std.specs.Int.{w32, to_le_bytes}
 use Rattle.aid_types.specs.declared.award.Refusal.{Refusal}
 use Rattle.aid_filings.specs.declared.filing.Filing.{Filing}
 use Rattle.office_history.specs.Answer.{outcome_of}
-use Rattle.plain_filings.specs.Written.{CanBeFiled, Files, kept_bytes}
-use Rattle.plain_rules.specs.Rules.{AreAdmitted, may_follow}
-use Rattle.reply_lines.specs.Lines.{refused_text, standing_text}
+use Rattle.headline.specs.Written.{CanBeFiled, Files, kept_bytes}
+use Rattle.headline.specs.Rules.{AreAdmitted, may_follow}
+use Rattle.desk_forms.specs.Replies.{refused_text, standing_text}
 
 -- records, the oldest first: an open gate, the length of a filing's bytes in four bytes, and these
 abbrev pub records_of : List Filing → List ℕ

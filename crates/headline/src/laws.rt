@@ -1,14 +1,14 @@
 // What the headline's words come to in those of the kept office. Each of these functions does nothing.
 ghost use Rattle.std.specs.Prelude.{◌≡◌, ℕ, List, Result};
 ghost use Rattle.aid_filings.specs.declared.filing.Filing.{Filing};
-ghost use Rattle.aid_replies.specs.declared.reply.Ask.{Ask};
+ghost use Rattle.aid_filings.specs.declared.reply.Ask.{Ask};
 ghost use Rattle.desk_forms.specs.Rows.{row_meaning};
 ghost use Rattle.desk_forms.specs.declared.error.RowError.{RowError};
 ghost use Rattle.headline.specs.Office.{Answered, Recovers};
 ghost use Rattle.kept_office.specs.Recovers.{Recovers as KeptRecovers};
 ghost use Rattle.kept_office.specs.Turns.{office_judging};
-ghost use Rattle.kept_session.specs.Texts.{after_row, row_line};
-ghost use Rattle.office_forms.specs.Asks.{asked, desk_texts, said_by};
+ghost use Rattle.kept_list.specs.Texts.{after_row, row_line};
+ghost use Rattle.run_rows.specs.Asks.{asked, desk_texts, said_by};
 ghost use Rattle.office_history.specs.Answer.{IsLegal};
 
 /// A file recovers a history in few words exactly where a kept office recovers it.

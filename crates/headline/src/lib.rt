@@ -1,9 +1,16 @@
-//! What the headline says of a run of one desk and of a run of many, in few words.
+//! What the headline says of a run of one desk and of a run of many, in few words: which filings may follow a history, how
+//! a filing is written and kept, and what a file and a row come to.
 //!
-//! The definitions are in `specs/`. The laws that tie them to what the kept office says of a file and of a row are stated here,
-//! each as the contract of a function that computes nothing.
+//! The definitions are in `specs/`. The laws that tie them to the program's own are stated here, each as the contract of a
+//! function that computes nothing.
 #![tactic(auto)]
 
+mod bytes;
 mod laws;
+mod rows;
+mod rule_laws;
 
+pub use bytes::{files_what_can_be, kept_as_spelled};
 pub use laws::{recovers_as_kept, recovers_once, row_is_answered};
+pub use rows::{meant_in_range, row_files, row_files_once, row_named};
+pub use rule_laws::{admitted_is_legal, keys_differ, legal_is_admitted, may_follow_is_rules};

@@ -3,8 +3,7 @@
 ghost use Rattle.std.specs.Prelude.{◌≡◌, ◌<◌, IfOk, reverse};
 ghost use Rattle.office_history.specs.Answer.{IsLegal};
 
-use aid_filings::{CalendarFacts, Filing, WithdrawFacts};
-use aid_replies::{Outcome, Verdict};
+use aid_filings::{CalendarFacts, Filing, Outcome, Verdict, WithdrawFacts};
 use aid_types::{Breaks, ByProgram, Day, Program, School, Student, Term, Year};
 use office_answers::{answer, quote, sheet, standing};
 use office_history::{
@@ -12,12 +11,12 @@ use office_history::{
     admitted_is_legal,
 };
 use plain_list::Plain;
+use sorted_rows::Steps;
 use std::alloc::Global;
 use std::marker::Brand;
 use std::process::Abort;
 use std::sync::ledger::{Blank, Ledger};
 use std::test::Fail;
-use steps::Steps;
 use worked_filings::Answer::{self, Noted, Refused};
 use worked_filings::Filed::{
     self, Book, Enrol, Exempt, Extra, Main, Originate, Prior, School as Opens,

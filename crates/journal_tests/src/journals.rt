@@ -6,9 +6,9 @@ ghost use Rattle.filing_journal.specs.Journal.{Keeps, IsDecided, journal_disk, j
 ghost use Rattle.filing_journal.specs.Opening.{HasGiven, HasAll, HasEnded, opening_disk, opening_count};
 ghost use Rattle.filing_journal.specs.declared.header.Header.{Header};
 
+use aid_edges::Room;
 use disk_model::{Disk, DiskStop, Fill, MemoryDisk};
 use filing_journal::{Header, Journal, OpenError, Opening, PutError, found, recover};
-use payload::Room;
 use std::alloc::Global;
 use std::process::Abort;
 use std::test::Fail;

@@ -1,8 +1,8 @@
 //! What no clause says of a journal that is read in pieces: records across the end of a piece come back whole, and how many
 //! bytes are read at once, and how often.
+use aid_edges::Room;
 use disk_model::{Disk, MemoryDisk};
 use filing_journal::{Header, OpenError, found, recover};
-use payload::Room;
 use std::alloc::Global;
 use std::process::Abort;
 use std::test::Fail;

@@ -13,7 +13,7 @@ use Rattle.office_lock.specs.declared.turned.Stand.{Stand}
 use Rattle.office_lock.specs.Turning.{RoseBy}
 use Rattle.office_lock.specs.Passes.{Known, IsOlder, Closes, numbered}
 use Rattle.office_lock.proofs.Lists.{older_trans}
-use Rattle.kept_desks.specs.declared.names.Filed.{Filed}
+use Rattle.kept_list.specs.declared.names.Filed.{Filed}
 use Rattle.kept_desks.specs.declared.stop.DeskEnd.TheVariants.{Open}
 use Rattle.kept_desks.specs.Desks.{DeskView, IsFresh, IsReady, Gathers, IsJoined, Ran, mine_in, settled_in, left_in, faults_in, seen_in}
 

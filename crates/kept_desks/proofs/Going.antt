@@ -8,9 +8,9 @@ use Rattle.kept_list.specs.declared.reply.ListReply.{ListReply}
 use Rattle.kept_list.specs.declared.reply.ListReply.TheVariants.{Answered, DiskFault, NoMemory}
 use Rattle.office_lock.specs.declared.turned.Stand.{Stand}
 use Rattle.office_lock.specs.Turning.{Says, Admitted, Undecided, Failed, Nothing, Goes, stays, stays_pending, settles, fails, admits, leaves, RoseBy, faults_in, settled_list}
-use Rattle.kept_desks.specs.declared.names.RowName.{RowName}
-use Rattle.kept_desks.specs.declared.names.Filed.{Filed}
-use Rattle.kept_desks.specs.Names.{no_row, filed_list, filed_by, filed_pending, entries_of, entry_of}
+use Rattle.kept_list.specs.declared.names.RowName.{RowName}
+use Rattle.kept_list.specs.declared.names.Filed.{Filed}
+use Rattle.kept_list.specs.Names.{no_row, filed_list, filed_by, filed_pending, entries_of, entry_of}
 use Rattle.kept_desks.specs.Notes.{says_of, Notes}
 use Rattle.kept_desks.specs.Shares.{stand_of, AreBoth, IsTurn}
 

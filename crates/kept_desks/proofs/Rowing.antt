@@ -3,16 +3,16 @@ use Rattle.std.proofs.Common.{◌≡◌, ◌⊎◌, inl, inr, ⊎_elim, ℕ, suc
 use Rattle.std.specs.Prelude.{Contains}
 use Rattle.std.proofs.lemmas.List.{append-nil, length_push, map-append}
 use Rattle.kept_list.specs.Scheme.{Judging}
-use Rattle.kept_session.specs.Texts.{Texts, row_line, after_row}
+use Rattle.kept_list.specs.Texts.{Texts, row_line, after_row}
 use Rattle.office_lock.specs.Passes.{Known, IsOlder}
 use Rattle.office_lock.proofs.Lists.{older_refl, older_trans}
-use Rattle.kept_desks.specs.declared.names.RowName.{RowName}
-use Rattle.kept_desks.specs.declared.names.Filed.{Filed}
+use Rattle.kept_list.specs.declared.names.RowName.{RowName}
+use Rattle.kept_list.specs.declared.names.Filed.{Filed}
 use Rattle.kept_desks.specs.declared.stop.DeskStop.{DeskStop}
 use Rattle.kept_desks.specs.declared.stop.DeskStop.TheVariants.{DiskFault, NoMemory}
 use Rattle.kept_desks.specs.declared.stop.DeskEnd.{DeskEnd}
 use Rattle.kept_desks.specs.declared.stop.DeskEnd.TheVariants.{Open, Done, Stopped}
-use Rattle.kept_desks.specs.Names.{filed_by, entries_of}
+use Rattle.kept_list.specs.Names.{filed_by, entries_of}
 use Rattle.kept_desks.specs.Answered.{Answer, Follows, answer_lines, admitted_row, admitted_of, IsClean, IsAtFault, Ends, Files}
 use Rattle.kept_desks.specs.Rows.{IsAnsweredOn, IsFaulted, IsStarved, IsWritten, StopsAt}
 

@@ -12,9 +12,9 @@ use Rattle.office_lock.specs.Passes.{Known, IsOlder, TakesTurn, with_turn}
 use Rattle.office_lock.proofs.Lists.{older_refl, older_trans}
 use Rattle.office_lock.proofs.Laws.{admitted_by, mine_after, left_after}
 use Rattle.office_lock.proofs.Learning.{turn_seen}
-use Rattle.kept_desks.specs.declared.names.RowName.{RowName}
-use Rattle.kept_desks.specs.declared.names.Filed.{Filed}
-use Rattle.kept_desks.specs.Names.{filed_by, entries_of, entry_of}
+use Rattle.kept_list.specs.declared.names.RowName.{RowName}
+use Rattle.kept_list.specs.declared.names.Filed.{Filed}
+use Rattle.kept_list.specs.Names.{filed_by, entries_of, entry_of}
 use Rattle.kept_desks.specs.Notes.{says_of}
 use Rattle.kept_desks.specs.Shares.{IsTurn}
 use Rattle.kept_desks.specs.Answered.{placed, admitted_row}

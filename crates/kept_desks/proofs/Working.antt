@@ -2,10 +2,10 @@
 use Rattle.std.proofs.Common.{◌≡◌, ◌≢◌, ℕ, List, Option, Some, sym, ap, ◌∙◌, subst}
 use Rattle.atomic_table.specs.Seated.{TableId}
 use Rattle.kept_list.specs.Scheme.{Judging}
-use Rattle.kept_session.specs.Texts.{Texts}
+use Rattle.kept_list.specs.Texts.{Texts}
 use Rattle.office_lock.specs.declared.turned.Stand.{Stand}
 use Rattle.office_lock.specs.Passes.{Known}
-use Rattle.kept_desks.specs.declared.names.Filed.{Filed}
+use Rattle.kept_list.specs.declared.names.Filed.{Filed}
 use Rattle.kept_desks.specs.declared.stop.DeskEnd.TheVariants.{Open}
 use Rattle.kept_desks.specs.Answered.{Files}
 use Rattle.kept_desks.specs.Desks.{DeskView, IsFresh, IsReady, HasEnded, Works}

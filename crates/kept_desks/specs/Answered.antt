@@ -1,15 +1,15 @@
 -- What the rows of a desk were answered. A list is read newest first, answers oldest first.
 use Rattle.std.specs.Prelude.{◌≡◌, ℕ, ◌+◌, List, [], ◌∷◌, ◌++◌, length, map, Option, Some, None, Result, Ok, Err, Contains}
 use Rattle.kept_list.specs.Scheme.{Judging}
-use Rattle.kept_session.specs.Texts.{Texts, row_line, after_row}
+use Rattle.kept_list.specs.Texts.{Texts, row_line, after_row}
 use Rattle.office_lock.specs.Passes.{IsOlder, Known}
-use Rattle.kept_desks.specs.declared.names.RowName.{RowName}
-use Rattle.kept_desks.specs.declared.names.Filed.{Filed}
+use Rattle.kept_list.specs.declared.names.RowName.{RowName}
+use Rattle.kept_list.specs.declared.names.Filed.{Filed}
 use Rattle.kept_desks.specs.declared.stop.DeskStop.{DeskStop}
 use Rattle.kept_desks.specs.declared.stop.DeskStop.TheVariants.{DiskFault, NoMemory}
 use Rattle.kept_desks.specs.declared.stop.DeskEnd.{DeskEnd}
 use Rattle.kept_desks.specs.declared.stop.DeskEnd.TheVariants.{Open, Done, Stopped}
-use Rattle.kept_desks.specs.Names.{filed_by, entries_of}
+use Rattle.kept_list.specs.Names.{filed_by, entries_of}
 
 -- a row, and the list that it was answered on
 pub record Answer (Entry Ask Error : Type 0) : Type 0 where

@@ -1,6 +1,6 @@
 -- The lines of a desk.
 use Rattle.std.specs.Prelude.{◌+◌, ℕ, List, [], ◌++◌, Option, Some, None}
-use Rattle.kept_desks.specs.declared.names.RowName.{RowName}
+use Rattle.kept_list.specs.declared.names.RowName.{RowName}
 use Rattle.kept_desks.specs.declared.stop.DeskStop.{DeskStop}
 use Rattle.kept_desks.specs.declared.stop.DeskEnd.{DeskEnd}
 use Rattle.kept_desks.specs.declared.stop.DeskEnd.TheVariants.{Open, Done, Stopped}

@@ -3,11 +3,11 @@ use Rattle.std.specs.Prelude.{◌≡◌, ◌≢◌, ℕ, ◌+◌, List, [], ◌+
 use Rattle.std.specs.List.{All}
 use Rattle.atomic_table.specs.Seated.{TableId}
 use Rattle.kept_list.specs.Scheme.{Judging}
-use Rattle.kept_session.specs.Texts.{Texts}
+use Rattle.kept_list.specs.Texts.{Texts}
 use Rattle.office_lock.specs.declared.turned.Stand.{Stand}
 use Rattle.office_lock.specs.Turning.{RoseBy}
 use Rattle.office_lock.specs.Passes.{Known, IsOlder, numbered}
-use Rattle.kept_desks.specs.declared.names.Filed.{Filed}
+use Rattle.kept_list.specs.declared.names.Filed.{Filed}
 use Rattle.kept_desks.specs.declared.stop.DeskEnd.{DeskEnd}
 use Rattle.kept_desks.specs.declared.stop.DeskEnd.TheVariants.{Open}
 use Rattle.kept_desks.specs.Answered.{Files}

@@ -1,6 +1,5 @@
 pub use Rattle.kept_list.specs.Turns
 pub use Rattle.office_lock.specs.Passes
-pub mod Names
 pub mod Notes
 pub mod Shares
 pub mod Answered

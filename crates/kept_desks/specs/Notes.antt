@@ -4,7 +4,7 @@ use Rattle.kept_list.specs.Turns.{with_entry}
 use Rattle.kept_list.specs.declared.reply.ListReply.{ListReply}
 use Rattle.kept_list.specs.declared.reply.ListReply.TheVariants.{Answered, DiskFault, NoMemory}
 use Rattle.office_lock.specs.Turning.{Says, Admitted, Undecided, Failed, Nothing}
-use Rattle.kept_desks.specs.declared.names.RowName.{RowName}
+use Rattle.kept_list.specs.declared.names.RowName.{RowName}
 
 -- what a reply says to the lock, by whether a verdict adds an entry
 abbrev pub says_of : {Verdict : Type 0} → (Verdict → Bool) → ListReply Verdict → Says

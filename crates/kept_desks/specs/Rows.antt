@@ -4,13 +4,13 @@ use Rattle.kept_list.specs.Scheme.{Judging}
 use Rattle.kept_list.specs.Turns.{after_ask}
 use Rattle.kept_list.specs.declared.reply.ListReply.{ListReply}
 use Rattle.kept_list.specs.declared.reply.ListReply.TheVariants as reply
-use Rattle.kept_session.specs.Texts.{Texts, row_line, after_row}
+use Rattle.kept_list.specs.Texts.{Texts, row_line, after_row}
 use Rattle.office_lock.specs.Passes.{IsOlder, Known}
-use Rattle.kept_desks.specs.declared.names.RowName.{RowName}
-use Rattle.kept_desks.specs.declared.names.Filed.{Filed}
+use Rattle.kept_list.specs.declared.names.RowName.{RowName}
+use Rattle.kept_list.specs.declared.names.Filed.{Filed}
 use Rattle.kept_desks.specs.declared.stop.DeskStop.{DeskStop}
 use Rattle.kept_desks.specs.declared.stop.DeskStop.TheVariants as stop
-use Rattle.kept_desks.specs.Names.{filed_by, entries_of}
+use Rattle.kept_list.specs.Names.{filed_by, entries_of}
 use Rattle.kept_desks.specs.Answered.{admitted_row}
 
 -- A row was answered on `past`: what it adds is the pass's own, and no other entry is.

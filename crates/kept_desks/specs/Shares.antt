@@ -4,9 +4,9 @@ use Rattle.kept_list.specs.Scheme.{Judging}
 use Rattle.kept_list.specs.Turns.{Turns}
 use Rattle.kept_list.specs.declared.reply.ListReply.{ListReply}
 use Rattle.office_lock.specs.declared.turned.Stand.{Stand}
-use Rattle.kept_desks.specs.declared.names.RowName.{RowName}
-use Rattle.kept_desks.specs.declared.names.Filed.{Filed}
-use Rattle.kept_desks.specs.Names.{filed_list, filed_pending, entries_of, entry_of}
+use Rattle.kept_list.specs.declared.names.RowName.{RowName}
+use Rattle.kept_list.specs.declared.names.Filed.{Filed}
+use Rattle.kept_list.specs.Names.{filed_list, filed_pending, entries_of, entry_of}
 
 -- what a contract sees of a shared list
 pub record Shared (D Entry : Type 0) : Type 0 where

@@ -4,10 +4,9 @@ ghost use Rattle.std.specs.List.{All};
 ghost use Rattle.kept_desks.specs.Desks.{IsFresh, IsReady, HasEnded, IsJoined, Gathers, Ran, shown_of, all_shown};
 ghost use Rattle.kept_desks.specs.Shares.{stand_of};
 
-use crate::{Desk, DeskEnd, Filed, OwnDocket, SharedList};
+use crate::{Desk, DeskEnd, SharedList};
 use disk_model::Disk;
-use kept_list::{Docket, KeptList};
-use kept_session::Rows;
+use kept_list::{Docket, Filed, KeptList, OwnDocket, Rows};
 use office_lock::{Pass, Turned, Turns};
 use std::alloc::Global;
 

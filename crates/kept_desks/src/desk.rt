@@ -1,15 +1,15 @@
 // A desk: its rows, its lines, and its pass of the lock.
 ghost use Rattle.std.specs.Prelude.{◌≡◌, ◌+◌, ◌<◌, ◌^◌, [], None, Some, length};
 ghost use Rattle.office_lock.specs.declared.turned.Stand.{Stand};
-ghost use Rattle.kept_desks.specs.declared.names.Filed.{Filed as FiledEntry};
+ghost use Rattle.kept_list.specs.declared.names.Filed.{Filed as FiledEntry};
 ghost use Rattle.kept_desks.specs.Desks.{IsReady, Works};
 ghost use Rattle.kept_desks.specs.DeskTexts.{stop_at};
 
 use crate::filing::file_rows;
-use crate::{DeskEnd, DeskStop, Filed, Gate, OwnDocket, RowName, SharedList};
+use crate::{DeskEnd, DeskStop, SharedList};
+use aid_edges::Gate;
 use disk_model::Disk;
-use kept_list::Docket;
-use kept_session::Rows;
+use kept_list::{Docket, Filed, OwnDocket, RowName, Rows};
 use office_lock::{Pass, Turned, Turns};
 use std::alloc::Global;
 use std::marker::Model;

@@ -1,14 +1,14 @@
 // The rows of one desk, from the first to the last or to a stop.
 ghost use Rattle.std.specs.Prelude.{◌≡◌, ◌≢◌, ◌≤◌, ◌<◌, ◌^◌, [], length};
 ghost use Rattle.office_lock.specs.Passes.{IsOlder};
-ghost use Rattle.kept_desks.specs.Names.{entries_of};
+ghost use Rattle.kept_list.specs.Names.{entries_of};
 ghost use Rattle.kept_desks.specs.Answered.{Files, IsClean};
 
 use crate::row::file_row;
-use crate::{DeskEnd, DeskStop, Filed, Gate, OwnDocket, RowName, SharedList};
+use crate::{DeskEnd, DeskStop, SharedList};
+use aid_edges::Gate;
 use disk_model::Disk;
-use kept_list::Docket;
-use kept_session::Rows;
+use kept_list::{Docket, Filed, OwnDocket, RowName, Rows};
 use office_lock::{Pass, Turned, Turns};
 use std::sync::Wait;
 

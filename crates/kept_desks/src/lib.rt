@@ -4,9 +4,6 @@
 mod crew;
 mod desk;
 mod filing;
-mod gate;
-mod names;
-mod own;
 mod row;
 mod shared;
 mod stop;
@@ -14,8 +11,5 @@ mod stop;
 pub use crew::{close_desks, open_desks};
 pub use desk::Desk;
 pub use filing::file_rows;
-pub use gate::{FreeGate, Gate, HoldGate};
-pub use names::{Filed, RowAsk, RowName};
-pub use own::OwnDocket;
 pub use shared::SharedList;
 pub use stop::{DeskEnd, DeskStop};

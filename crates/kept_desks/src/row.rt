@@ -2,10 +2,10 @@
 ghost use Rattle.std.specs.Prelude.{◌≡◌, ◌++◌, ◌≤◌, ◌+◌, [], length, Ok, IfErr, OnOk, OnErr, vec_len, vec_capacity};
 ghost use Rattle.kept_desks.specs.Rows.{Replies, IsWritten, StopsAt};
 
-use crate::{DeskStop, Filed, Gate, OwnDocket, RowAsk, RowName, SharedList};
+use crate::{DeskStop, SharedList};
+use aid_edges::Gate;
 use disk_model::Disk;
-use kept_list::{Docket, ListReply};
-use kept_session::Rows;
+use kept_list::{Docket, Filed, ListReply, OwnDocket, RowAsk, RowName, Rows};
 use office_lock::{Pass, Turned, Turns};
 use std::sync::Wait;
 

@@ -5,9 +5,8 @@ ghost use Rattle.kept_list.specs.Kept.{IsSound};
 ghost use Rattle.kept_list.specs.Turns.{with_entry};
 ghost use Rattle.kept_desks.specs.Notes.{Notes};
 
-use crate::{Filed, OwnDocket, RowAsk, RowName};
 use disk_model::Disk;
-use kept_list::{Docket, KeptList, ListReply};
+use kept_list::{Docket, Filed, KeptList, ListReply, OwnDocket, RowAsk, RowName};
 use office_lock::Turned;
 use std::alloc::{AllocError, Global};
 use std::marker::Model;
@@ -138,7 +137,7 @@ impl<D: Disk, R: OwnDocket> SharedList<D, R> {
 }
 
 impl<D: Disk, R: OwnDocket> Turned for SharedList<D, R> {
-    ghost use Rattle.kept_desks.specs.Names.{filed_by};
+    ghost use Rattle.kept_list.specs.Names.{filed_by};
     ghost use Rattle.kept_desks.specs.Notes.{says_of};
     ghost use Rattle.kept_desks.specs.Shares.{stand_of, IsTurn};
 

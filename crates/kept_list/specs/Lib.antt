@@ -1,6 +1,6 @@
-pub use Rattle.filing_journal.specs.Telling
-pub use Rattle.filing_journal.specs.Stands
 pub use Rattle.filing_journal.specs.Founded
+pub use Rattle.filing_journal.specs.Stands
+pub use Rattle.filing_journal.specs.Telling
 pub mod Scheme
 pub mod Recovers
 pub mod Added
@@ -9,3 +9,5 @@ pub mod Reading
 pub mod Turns
 pub mod Kept
 pub mod Lives
+pub mod Names
+pub mod Texts

@@ -4,8 +4,8 @@ ghost use Rattle.filing_journal.specs.Stands.{IsPayload};
 ghost use Rattle.kept_list.specs.Scheme.{Scheme, Judging};
 ghost use Rattle.kept_list.specs.Added.{entry_of};
 
+use aid_edges::Room;
 use filing_journal::Header;
-use payload::Room;
 use std::alloc::{AllocError, Global};
 
 /// An entry that may follow those that stand.

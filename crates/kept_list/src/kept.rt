@@ -9,9 +9,9 @@ ghost use Rattle.filing_journal.specs.Founded.{UnbornOrEmpty};
 use crate::reading::read_all;
 use crate::writing::lengthen_and_put;
 use crate::{Added, Docket, Judged, ListReply};
+use aid_edges::Room;
 use disk_model::Disk;
 use filing_journal::{FoundError, Journal, OpenError, PutError};
-use payload::Room;
 use std::alloc::{AllocError, Global};
 use std::marker::Model;
 

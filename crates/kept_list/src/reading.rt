@@ -9,9 +9,9 @@ ghost use Rattle.kept_list.specs.Faulty.{IsFaultyAt};
 ghost use Rattle.kept_list.specs.Reading.{HasRead, IsReadRefusal};
 
 use crate::{Docket, TakeFault};
+use aid_edges::Room;
 use disk_model::Disk;
 use filing_journal::{OpenError, Opening};
-use payload::Room;
 use std::alloc::Global;
 
 // The next entry, with the place of its gate.

@@ -2,9 +2,9 @@
 use Rattle.std.proofs.Common.{◌≡◌, ℕ, zero, suc, ◌+◌, refl, sym, ap, arith, Bool, true, false, List, [], ◌∷◌, length, Option, Some, None}
 use Rattle.std.specs.Prelude.{Contains}
 use Rattle.aid_filings.specs.declared.filing.Filing.{Filing}
-use Rattle.aid_replies.specs.declared.reply.Outcome.{Outcome}
+use Rattle.aid_filings.specs.declared.reply.Outcome.{Outcome}
 use Rattle.aid_types.specs.declared.award.Refusal.{Refusal}
-use Rattle.aid_replies.specs.declared.reply.Verdict.TheVariants.{Again}
+use Rattle.aid_filings.specs.declared.reply.Verdict.TheVariants.{Again}
 use Rattle.office_history.specs.Past.{key_at, filing_at, first_of_two, same_filing}
 use Rattle.office_history.specs.Answer.{answer_of, answer_at, answer_new, judged, breaks}
 use Rattle.aid_filings.proofs.SameFiling.{tells_filing}

@@ -2,11 +2,11 @@
 use Rattle.std.proofs.Common.{◌≡◌, ◌∙◌, List, Option, Some, None, sym, ap}
 use Rattle.std.specs.Prelude.{IfSome}
 use Rattle.aid_filings.specs.declared.filing.Filing.{Filing}
-use Rattle.aid_replies.specs.declared.reply.Ask.{Ask}
-use Rattle.aid_replies.specs.declared.reply.Ask.TheVariants.{File}
-use Rattle.aid_replies.specs.declared.reply.Outcome.{Outcome}
-use Rattle.aid_replies.specs.declared.reply.Verdict.{Verdict}
-use Rattle.aid_replies.specs.declared.reply.Verdict.TheVariants.{Admit}
+use Rattle.aid_filings.specs.declared.reply.Ask.{Ask}
+use Rattle.aid_filings.specs.declared.reply.Ask.TheVariants.{File}
+use Rattle.aid_filings.specs.declared.reply.Outcome.{Outcome}
+use Rattle.aid_filings.specs.declared.reply.Verdict.{Verdict}
+use Rattle.aid_filings.specs.declared.reply.Verdict.TheVariants.{Admit}
 use Rattle.kept_list.specs.declared.docket.Added.{Added}
 use Rattle.office_history.specs.Answer.{answer_of, answer_to}
 

@@ -1,8 +1,8 @@
-pub use Rattle.filing_journal.specs.Telling
-pub use Rattle.filing_journal.specs.Stands
 pub use Rattle.filing_journal.specs.Founded
-pub use Rattle.office_history.specs.Answer
+pub use Rattle.filing_journal.specs.Stands
+pub use Rattle.filing_journal.specs.Telling
 pub use Rattle.office_core.specs.Register
+pub use Rattle.office_history.specs.Answer
 pub mod Scheme
 pub mod Recovers
 pub mod Faulty

@@ -2,8 +2,8 @@
 use Rattle.std.proofs.Common.{◌≡◌, ℕ, refl, subst, arith, Bool, true, false, IsTrue, List, ◌∷◌, ◌++◌, Some, None}
 use Rattle.std.specs.Prelude.{if◌then◌else◌}
 use Rattle.aid_filings.specs.declared.filing.Filing.{Filing}
-use Rattle.aid_replies.specs.declared.reply.Ask.{Ask}
-use Rattle.aid_replies.specs.declared.reply.Ask.TheVariants.{File, Quote, Standing}
+use Rattle.aid_filings.specs.declared.reply.Ask.{Ask}
+use Rattle.aid_filings.specs.declared.reply.Ask.TheVariants.{File, Quote, Standing}
 use Rattle.filing_numbers.specs.Numbers.{IsFiling}
 use Rattle.filing_codec.specs.Spelling.{spelling}
 use Rattle.filing_codec.proofs.FilingLaws.{is_alone, length-spelling}

@@ -2,8 +2,8 @@
 use Rattle.std.proofs.Common.{◌≡◌, refl, Bool, true, false, List, Some, None}
 use Rattle.std.specs.Prelude.{is_some, if◌then◌else◌, Option}
 use Rattle.aid_filings.specs.declared.filing.Filing.{Filing}
-use Rattle.aid_replies.specs.declared.reply.Ask.{Ask}
-use Rattle.aid_replies.specs.declared.reply.Ask.TheVariants.{File, Quote, Standing}
+use Rattle.aid_filings.specs.declared.reply.Ask.{Ask}
+use Rattle.aid_filings.specs.declared.reply.Ask.TheVariants.{File, Quote, Standing}
 use Rattle.office_history.specs.Answer.{answer_to, is_admit}
 use Rattle.kept_office.specs.Turns.{added, asked}
 

@@ -1,15 +1,15 @@
 -- What a turn of an office makes of an ask.
 use Rattle.std.specs.Prelude.{◌≡◌, ◌⊎◌, ◌+◌, ◌<◌, ◌^◌, ℕ, Bool, true, false, IsTrue, List, length, Option, Some, None, if◌then◌else◌}
 use Rattle.aid_filings.specs.declared.filing.Filing.{Filing}
-use Rattle.aid_replies.specs.declared.reply.Ask.{Ask}
-use Rattle.aid_replies.specs.declared.reply.Ask.TheVariants.{File}
-use Rattle.aid_replies.specs.declared.reply.Outcome.{Outcome}
+use Rattle.aid_filings.specs.declared.reply.Ask.{Ask}
+use Rattle.aid_filings.specs.declared.reply.Ask.TheVariants.{File}
+use Rattle.aid_filings.specs.declared.reply.Outcome.{Outcome}
 use Rattle.aid_types.specs.declared.award.Refusal.{Refusal}
-use Rattle.aid_replies.specs.declared.reply.Reply.{Reply}
-use Rattle.aid_replies.specs.declared.reply.Reply.TheVariants.{Accepted, Again, Refused, Quoted, Standing, DiskFault, NoMemory}
-use Rattle.aid_replies.specs.declared.reply.StandingRow.{StandingRow}
-use Rattle.aid_replies.specs.declared.reply.Verdict.{Verdict}
-use Rattle.aid_replies.specs.declared.reply.Verdict.TheVariants as verdict
+use Rattle.aid_filings.specs.declared.reply.Reply.{Reply}
+use Rattle.aid_filings.specs.declared.reply.Reply.TheVariants.{Accepted, Again, Refused, Quoted, Standing, DiskFault, NoMemory}
+use Rattle.aid_filings.specs.declared.reply.StandingRow.{StandingRow}
+use Rattle.aid_filings.specs.declared.reply.Verdict.{Verdict}
+use Rattle.aid_filings.specs.declared.reply.Verdict.TheVariants as verdict
 use Rattle.kept_list.specs.Scheme.{Judging}
 use Rattle.kept_list.specs.declared.reply.ListReply.{ListReply}
 use Rattle.kept_list.specs.declared.reply.ListReply.TheVariants as answer

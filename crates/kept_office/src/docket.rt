@@ -1,22 +1,21 @@
 // The office as the docket of a kept list.
 ghost use Rattle.std.specs.Prelude.{◌≡◌, ◌<◌, None, IfSome, if◌then◌else◌};
-ghost use Rattle.aid_replies.specs.declared.reply.Ask.TheVariants.{File as FileAsked};
-ghost use Rattle.aid_replies.specs.declared.reply.Verdict.TheVariants.{Admit};
+ghost use Rattle.aid_filings.specs.declared.reply.Ask.TheVariants.{File as FileAsked};
+ghost use Rattle.aid_filings.specs.declared.reply.Verdict.TheVariants.{Admit};
 ghost use Rattle.kept_list.specs.Added.{entry_of};
 ghost use Rattle.office_history.specs.Answer.{answer_to, is_admit};
 ghost use Rattle.kept_office.specs.Turns.{asked};
 
-use aid_filings::Filing;
-use aid_replies::{Ask, Outcome, Verdict};
+use aid_edges::Room;
+use aid_filings::{Ask, Filing, Outcome, Verdict};
 use filing_codec::TakeError;
 use filing_journal::Header;
 use kept_list::{Added, Docket, Judged, TakeFault};
 use office_core::Office;
-use payload::Room;
+use sorted_rows::Steps;
 use std::alloc::{AllocError, Global};
 use std::marker::Brand;
 use std::sync::ledger::{Blank, Ledger};
-use steps::Steps;
 
 /// An office whose filings a list keeps: it judges them, and spells them.
 #[derive(Drop)]
@@ -67,7 +66,7 @@ fn added(ask: Ask, verdict: &Verdict) -> Option<Added<Filing, Outcome>>
 }
 
 impl Docket for FiledOffice {
-    ghost use Rattle.aid_replies.specs.declared.reply.Verdict.TheVariants.{Admit};
+    ghost use Rattle.aid_filings.specs.declared.reply.Verdict.TheVariants.{Admit};
     ghost use Rattle.office_history.specs.Answer.{answer_of};
     ghost use Rattle.kept_office.specs.Scheme.{office_scheme};
     ghost use Rattle.kept_office.specs.Turns.{office_judging};

@@ -9,7 +9,7 @@ ghost use Rattle.office_history.specs.Answer.{answer_to, is_admit};
 ghost use Rattle.kept_office.specs.Turns.{IsFew, reply_of as replied};
 
 use crate::FiledOffice;
-use aid_replies::{Ask, Reply, Verdict};
+use aid_filings::{Ask, Reply, Verdict};
 use disk_model::Disk;
 use kept_list::{FoundFault, KeptList, ListReply, OpenError};
 use office_core::Office;

@@ -1,7 +1,7 @@
 // The filing that an ask may add.
 use crate::FiledOffice;
-use aid_replies::Verdict;
-use kept_desks::OwnDocket;
+use aid_filings::Verdict;
+use kept_list::OwnDocket;
 
 impl OwnDocket for FiledOffice {
     ghost use Rattle.office_history.specs.Answer.{is_admit};

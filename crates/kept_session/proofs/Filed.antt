@@ -7,7 +7,7 @@ use Rattle.disk_model.specs.declared.disk.Disk.{Ghosts}
 use Rattle.aid_edges.specs.Whole.{IsCutShort}
 use Rattle.kept_list.specs.Scheme.{Scheme, Judging}
 use Rattle.kept_session.specs.Edges.{Output, HasWritten}
-use Rattle.kept_session.specs.Texts.{Texts, after_row, after_rows, lines_of, row_line}
+use Rattle.kept_list.specs.Texts.{Texts, after_row, after_rows, lines_of, row_line}
 use Rattle.kept_session.specs.Links.{IsLink, Runs, begun}
 use Rattle.kept_session.specs.Sessions.{Files, StopsRow, Takes, all, unwritten, faulted, starved}
 use Rattle.kept_session.specs.declared.stop.FileStop.{FileStop}

@@ -7,7 +7,7 @@ use Rattle.disk_model.proofs.Moments.{join, started, weaken}
 use Rattle.kept_list.specs.Scheme.{Scheme, Judging}
 use Rattle.kept_list.specs.Recovers.{Recovers, RecoversEither}
 use Rattle.kept_session.specs.Edges.{Input, Output}
-use Rattle.kept_session.specs.Texts.{Texts, after_row, after_rows}
+use Rattle.kept_list.specs.Texts.{Texts, after_row, after_rows}
 use Rattle.kept_session.specs.Links.{Runs, begun, answered, RecoversFront, RecoversOf, RecoversTaken}
 use Rattle.kept_session.specs.Sessions.{Files, Takes, Opens, Session, all, unwritten, faulted, starved, unopened, opened, unread, read}
 use Rattle.kept_session.specs.declared.stop.FileStop.{FileStop}

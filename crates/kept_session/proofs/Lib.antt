@@ -4,3 +4,6 @@ pub mod Fronts
 pub mod Looked
 pub mod Runs
 pub mod Standing
+pub mod Behind
+pub mod Moments
+pub mod Retold

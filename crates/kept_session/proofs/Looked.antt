@@ -3,7 +3,7 @@ use Rattle.std.proofs.Common.{◌≡◌, ℕ, ◌+◌, Bool, IsTrue, List, [], �
 use Rattle.std.proofs.lemmas.List.{append-nil, length_push}
 use Rattle.aid_edges.specs.Whole.{IsCutShort}
 use Rattle.kept_session.specs.Edges.{Output, HasWritten}
-use Rattle.kept_session.specs.Texts.{Texts}
+use Rattle.kept_list.specs.Texts.{Texts}
 use Rattle.kept_session.specs.Checks.{LooksAt, all, unwritten, starved, check_line, check_lines, errors_in}
 use Rattle.kept_session.specs.declared.checking.CheckStop.TheVariants.{Write, NoMemory}
 use Rattle.kept_session.specs.declared.checking.CheckTally.{CheckTally}

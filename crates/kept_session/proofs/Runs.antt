@@ -3,7 +3,7 @@ use Rattle.std.proofs.Common.{◌≡◌, ℕ, ◌+◌, List, [], ◌∷◌, ◌+
 use Rattle.std.proofs.lemmas.List.{append-nil}
 use Rattle.disk_model.specs.declared.disk.Disk.{Ghosts}
 use Rattle.kept_list.specs.Scheme.{Scheme, Judging}
-use Rattle.kept_session.specs.Texts.{Texts, after_row, after_rows, lines_of, row_line}
+use Rattle.kept_list.specs.Texts.{Texts, after_row, after_rows, lines_of, row_line}
 use Rattle.kept_session.specs.Links.{IsLink, Runs, begun, answered}
 
 module _ {Entry Ask Verdict Error : Type 0} (judging : Judging Entry Ask Verdict) where

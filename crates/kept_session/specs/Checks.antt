@@ -1,7 +1,7 @@
 -- Rows that are looked at, and filed nowhere.
 use Rattle.std.specs.Prelude.{◌≡◌, ℕ, ◌+◌, List, [], ◌∷◌, ◌++◌, length, map, Result, Ok, Err, IsOk, IsTrue}
 use Rattle.kept_session.specs.Edges.{Input, Output, IsReadWhole, HasWritten, HasWrittenShort}
-use Rattle.kept_session.specs.Texts.{Texts}
+use Rattle.kept_list.specs.Texts.{Texts}
 use Rattle.kept_session.specs.Sessions.{IsUnread}
 use Rattle.kept_session.specs.declared.checking.CheckStop.{CheckStop}
 use Rattle.kept_session.specs.declared.checking.CheckStop.TheVariants.{Reading, Write, NoMemory}

@@ -1,7 +1,10 @@
 pub use Rattle.kept_list.specs.Recovers
 pub mod Edges
-pub mod Texts
 pub mod Links
 pub mod Sessions
 pub mod Checks
 pub mod Reports
+pub mod Asks
+pub mod Planned
+pub mod Counted
+pub mod Fronts

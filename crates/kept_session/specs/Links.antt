@@ -6,7 +6,7 @@ use Rattle.kept_list.specs.Scheme.{Scheme, Judging}
 use Rattle.filing_journal.specs.Stands.{WithGateOpen}
 use Rattle.kept_list.specs.Recovers.{Recovers, RecoversEither, payloads_of}
 use Rattle.kept_session.specs.Edges.{Input}
-use Rattle.kept_session.specs.Texts.{Texts, after_row, after_rows}
+use Rattle.kept_list.specs.Texts.{Texts, after_row, after_rows}
 
 -- One row was answered: at each moment of its turn each image recovers the list before it or the list after it, and at
 -- the end each image recovers the list after it.

@@ -13,7 +13,7 @@ use Rattle.kept_list.specs.Faulty.{IsFaultyAt}
 use Rattle.kept_list.specs.declared.kept.FoundFault.{FoundFault}
 use Rattle.kept_list.specs.declared.kept.FoundFault.TheVariants as founding
 use Rattle.kept_session.specs.Edges.{Input, Output, IsReadWhole, IsReadWithin, IsReadPast, HasWritten, HasWrittenShort}
-use Rattle.kept_session.specs.Texts.{Texts, after_rows, lines_of, row_line}
+use Rattle.kept_list.specs.Texts.{Texts, after_rows, lines_of, row_line}
 use Rattle.kept_session.specs.Links.{IsFaulted, IsOpened, Runs}
 use Rattle.kept_session.specs.declared.stop.ReadStop.{ReadStop}
 use Rattle.kept_session.specs.declared.stop.ReadStop.TheVariants as reading

@@ -4,9 +4,9 @@ ghost use Rattle.aid_edges.specs.Faults.{Rose};
 ghost use Rattle.kept_session.specs.Checks.{Checks, LooksAt, check_line, errors_in};
 
 use crate::session::read_rows;
-use crate::{Forms, INPUT_LIMIT, ReadStop, Rows};
+use crate::{INPUT_LIMIT, ReadStop};
 use aid_edges::{Sink, Source, write_whole};
-use kept_list::Docket;
+use kept_list::{Docket, Forms, Rows};
 use std::alloc::{AllocError, Global};
 
 /// How many rows were looked at, and how many of them are no ask.

@@ -2,14 +2,14 @@
 ghost use Rattle.std.specs.Prelude.{◌≡◌, ◌≢◌, ◌≤◌, ◌<◌, ◌^◌, ℕ, false, Option, Ok, Err, IfErr, None, OnOk, length};
 ghost use Rattle.aid_edges.specs.Faults.{Rose};
 ghost use Rattle.kept_list.specs.Turns.{after_ask};
-ghost use Rattle.kept_session.specs.Texts.{after_row, row_line};
+ghost use Rattle.kept_list.specs.Texts.{after_row, row_line};
 ghost use Rattle.kept_session.specs.Links.{IsLink};
 ghost use Rattle.kept_session.specs.Sessions.{StopsRow, Takes, is_disk_fault};
 
-use crate::{FileStop, Rows, SessionStop, ask_of};
+use crate::{FileStop, SessionStop};
 use aid_edges::{Sink, write_whole};
 use disk_model::Disk;
-use kept_list::{Docket, KeptList, ListReply};
+use kept_list::{Docket, KeptList, ListReply, Rows, ask_of};
 use std::alloc::Global;
 
 /// The greatest length of the line that answers a row.

@@ -3,14 +3,13 @@ ghost use Rattle.std.specs.Prelude.{◌≡◌, ◌++◌, ℕ, List, Result, Ok, 
 ghost use Rattle.disk_model.specs.Telling.{EachImage, EachMoment, IsHonest};
 ghost use Rattle.kept_list.specs.Recovers.{Recovers};
 ghost use Rattle.kept_session.specs.Edges.{Input, Output};
-ghost use Rattle.kept_session.specs.Texts.{after_rows};
+ghost use Rattle.kept_list.specs.Texts.{after_rows};
 ghost use Rattle.kept_session.specs.Links.{Runs, RecoversFront, RecoversOf};
 ghost use Rattle.kept_session.specs.Sessions.{Session};
 ghost use Rattle.kept_session.specs.declared.stop.SessionStop.{SessionStop};
 
-use crate::Rows;
 use disk_model::Disk;
-use kept_list::Docket;
+use kept_list::{Docket, Rows};
 
 /// While rows are answered, each image at each moment recovers the list before them, with what some of them in front
 /// add.

@@ -5,10 +5,10 @@ ghost use Rattle.disk_model.specs.Telling.{IsHonest};
 ghost use Rattle.kept_session.specs.Edges.{IsReadWhole};
 ghost use Rattle.kept_session.specs.Sessions.{IsUnread, Opens, Session, is_disk_fault};
 
-use crate::{FileStop, Forms, ReadStop, Rows, SessionStop, file_rows, open};
+use crate::{FileStop, ReadStop, SessionStop, file_rows, open};
 use aid_edges::{ReadError, Sink, Source, read_to_limit};
 use disk_model::Disk;
-use kept_list::Docket;
+use kept_list::{Docket, Forms, Rows};
 use std::alloc::Global;
 
 /// The greatest length of an input, in bytes.

@@ -7,9 +7,9 @@ use Rattle.kept_list.specs.declared.reply.ListReply.{ListReply}
 use Rattle.office_lock.specs.declared.turned.Stand.{Stand}
 use Rattle.office_lock.specs.Passes.{Known}
 use Rattle.kept_desks.specs.Desks.{IsFresh}
-use Rattle.kept_desks.specs.declared.names.Filed.{Filed}
+use Rattle.kept_list.specs.declared.names.Filed.{Filed}
 use Rattle.web_desk.specs.Asks.{Scheme}
-use Rattle.kept_web.specs.Ports.{PortTelling}
+use Rattle.web_edges.specs.Ports.{PortTelling}
 use Rattle.kept_web.specs.Sessions.{Served}
 use Rattle.kept_web.specs.Workers.{AreReady, HasEnded, HasServed, HasStopped, HoldsPass, IsReady, Ran, ServesOwn, WebView, Works, all_shown}
 use Rattle.kept_web.specs.declared.stop.WebEnd.{WebEnd}

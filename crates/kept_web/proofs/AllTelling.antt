@@ -10,8 +10,8 @@ use Rattle.kept_list.specs.declared.reply.ListReply.{ListReply}
 use Rattle.office_lock.specs.declared.turned.Stand.{Stand}
 use Rattle.office_lock.specs.Passes.{IsOlder, numbered}
 use Rattle.kept_desks.specs.Desks.{left_in, mine_in, seen_in, settled_in}
-use Rattle.kept_desks.specs.Names.{entries_of}
-use Rattle.kept_desks.specs.declared.names.Filed.{Filed}
+use Rattle.kept_list.specs.Names.{entries_of}
+use Rattle.kept_list.specs.declared.names.Filed.{Filed}
 use Rattle.kept_desks.proofs.Turning.{entries_older}
 use Rattle.web_desk.specs.Asks.{Scheme}
 use Rattle.web_desk.specs.Exchange.{Judge}
@@ -19,7 +19,7 @@ use Rattle.web_desk.specs.Heads.{IsJudge}
 use Rattle.web_desk.specs.declared.status.Status.TheVariants.{Unavailable}
 use Rattle.kept_web.specs.AllTold.{EachIsBrought, EachIsTold}
 use Rattle.kept_web.specs.Closed.{IsBroughtBy}
-use Rattle.kept_web.specs.Ports.{PortTelling}
+use Rattle.web_edges.specs.Ports.{PortTelling}
 use Rattle.kept_web.specs.Workers.{HasServed, WebView}
 use Rattle.kept_web.proofs.Closing.{told_sessions}
 

@@ -9,14 +9,14 @@ use Rattle.kept_list.specs.Turns.{is_fault}
 use Rattle.kept_list.specs.declared.reply.ListReply.{ListReply}
 use Rattle.office_lock.specs.Passes.{IsOlder, Known}
 use Rattle.office_lock.proofs.Lists.{older_refl, older_trans}
-use Rattle.kept_desks.specs.Names.{entries_of}
-use Rattle.kept_desks.specs.declared.names.Filed.{Filed}
-use Rattle.kept_desks.specs.declared.names.RowName.{RowName}
+use Rattle.kept_list.specs.Names.{entries_of}
+use Rattle.kept_list.specs.declared.names.Filed.{Filed}
+use Rattle.kept_list.specs.declared.names.RowName.{RowName}
 use Rattle.web_desk.specs.Asks.{Scheme, Request}
 use Rattle.web_desk.specs.Exchange.{IsExchange, IsFront, Judge, Serves, ending, requests, written}
 use Rattle.web_desk.specs.Heads.{IsJudge}
 use Rattle.web_desk.specs.Responses.{Answer}
-use Rattle.web_desk.specs.Telling.{IsPrefix}
+use Rattle.web_edges.specs.LinkTelling.{IsPrefix}
 use Rattle.web_desk.specs.declared.end.End.{End}
 use Rattle.web_desk.specs.declared.status.Status.TheVariants.{Unavailable}
 use Rattle.web_desk.specs.declared.end.End.TheVariants.{Closed, Cut, Rejected, Limit, LinkFault, NoMemory}

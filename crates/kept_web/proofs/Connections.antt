@@ -7,16 +7,16 @@ use Rattle.aid_edges.specs.Faults.{Rose}
 use Rattle.kept_list.specs.Scheme.{Judging}
 use Rattle.kept_list.specs.declared.reply.ListReply.{ListReply}
 use Rattle.office_lock.specs.Passes.{Known}
-use Rattle.kept_desks.specs.declared.names.Filed.{Filed}
-use Rattle.kept_desks.specs.declared.names.RowName.{RowName}
+use Rattle.kept_list.specs.declared.names.Filed.{Filed}
+use Rattle.kept_list.specs.declared.names.RowName.{RowName}
 use Rattle.web_desk.specs.Asks.{Scheme}
 use Rattle.web_desk.specs.Exchange.{Judge, Serves}
 use Rattle.web_desk.specs.Heads.{IsJudge}
-use Rattle.web_desk.specs.Telling.{IsHonest, Telling}
+use Rattle.web_edges.specs.LinkTelling.{IsHonest, Telling}
 use Rattle.web_desk.specs.declared.end.End.{End}
 use Rattle.web_desk.specs.declared.end.End.TheVariants.{LinkFault}
 use Rattle.kept_web.specs.Clerks.{PassAnswers, PassReaches}
-use Rattle.kept_web.specs.Ports.{HandsOut, PortTelling, TakesBack}
+use Rattle.web_edges.specs.Ports.{HandsOut, PortTelling, TakesBack}
 use Rattle.kept_web.specs.Sessions.{AreSessions, FailsNext, IsSession, Served, ServesNext, Session, closed_as, is_starved_end, was_starved}
 
 -- a fact at the arm that an option took

@@ -4,7 +4,7 @@ use mathlib.Core.Logic.{dite}
 use native.Mathlib.Decide.{ℕ_discrete}
 use Rattle.atomic_table.specs.Seated.{TableId}
 use Rattle.office_lock.specs.declared.turned.Stand.{Stand}
-use Rattle.kept_desks.specs.declared.names.Filed.{Filed}
+use Rattle.kept_list.specs.declared.names.Filed.{Filed}
 use Rattle.kept_web.specs.Workers.{AreReady, IsReady, WebView}
 
 -- what stands at a place doesn't hang on what stands in for those past the end

@@ -11,7 +11,7 @@ use Rattle.office_lock.specs.declared.turned.Stand.{Stand}
 use Rattle.office_lock.specs.Turning.{RoseBy}
 use Rattle.office_lock.specs.Passes.{Known, IsOlder, Closes, numbered}
 use Rattle.office_lock.proofs.Lists.{older_trans}
-use Rattle.kept_desks.specs.declared.names.Filed.{Filed}
+use Rattle.kept_list.specs.declared.names.Filed.{Filed}
 use Rattle.kept_desks.specs.Desks.{IsFresh, IsJoined, mine_in, settled_in, left_in, faults_in, seen_in}
 use Rattle.kept_web.specs.Workers.{WebView, Gathers, Ran}
 

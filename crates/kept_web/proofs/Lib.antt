@@ -1,5 +1,4 @@
 pub mod Telling
-pub mod Handing
 pub mod Reached
 pub mod Connections
 pub mod Dealing

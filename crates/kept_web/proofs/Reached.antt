@@ -5,8 +5,8 @@ use Rattle.kept_list.specs.declared.reply.ListReply.{ListReply}
 use Rattle.kept_list.specs.declared.reply.ListReply.TheVariants as reply
 use Rattle.office_lock.specs.Passes.{Known}
 use Rattle.kept_desks.specs.Rows.{Replies}
-use Rattle.kept_desks.specs.declared.names.Filed.{Filed}
-use Rattle.kept_desks.specs.declared.names.RowName.{RowName}
+use Rattle.kept_list.specs.declared.names.Filed.{Filed}
+use Rattle.kept_list.specs.declared.names.RowName.{RowName}
 use Rattle.web_desk.specs.Asks.{IsAsked, Reaches, Steps}
 use Rattle.web_desk.specs.declared.status.Status.{Status}
 use Rattle.kept_web.specs.Clerks.{Clerking, AsksTurn, clerk_faults}

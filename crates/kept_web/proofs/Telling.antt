@@ -11,10 +11,10 @@ use Rattle.kept_list.specs.declared.reply.ListReply.TheVariants as reply
 use Rattle.office_lock.specs.Passes.{IsOlder, Known}
 use Rattle.office_lock.proofs.Lists.{older_refl, older_trans, older_length}
 use Rattle.kept_desks.specs.Answered.{placed}
-use Rattle.kept_desks.specs.Names.{entries_of, filed_by}
+use Rattle.kept_list.specs.Names.{entries_of, filed_by}
 use Rattle.kept_desks.specs.Rows.{Replies}
-use Rattle.kept_desks.specs.declared.names.Filed.{Filed}
-use Rattle.kept_desks.specs.declared.names.RowName.{RowName}
+use Rattle.kept_list.specs.declared.names.Filed.{Filed}
+use Rattle.kept_list.specs.declared.names.RowName.{RowName}
 use Rattle.kept_desks.proofs.Turning.{entries_length}
 use Rattle.web_desk.specs.Asks.{Scheme, Request, AnswersAsk, AnswersCall}
 use Rattle.web_desk.specs.Exchange.{Run}

@@ -4,12 +4,12 @@ use Rattle.kept_list.specs.Scheme.{Judging}
 use Rattle.kept_list.specs.declared.reply.ListReply.{ListReply}
 use Rattle.office_lock.specs.declared.turned.Stand.{Stand}
 use Rattle.office_lock.specs.Passes.{numbered}
-use Rattle.kept_desks.specs.Names.{entries_of}
-use Rattle.kept_desks.specs.declared.names.Filed.{Filed}
+use Rattle.kept_list.specs.Names.{entries_of}
+use Rattle.kept_list.specs.declared.names.Filed.{Filed}
 use Rattle.web_desk.specs.Asks.{Scheme}
 use Rattle.web_desk.specs.Exchange.{Judge}
 use Rattle.kept_web.specs.Closed.{HaveTold, IsBroughtBy}
-use Rattle.kept_web.specs.Ports.{PortTelling}
+use Rattle.web_edges.specs.Ports.{PortTelling}
 use Rattle.kept_web.specs.Workers.{HasServed, WebView}
 
 module _ {Entry Ask Verdict P : Type 0} (judging : Judging Entry Ask Verdict) (own : Ask → Option Entry) (scheme : Scheme Ask (ListReply Verdict)) (tells : P → PortTelling) (faults : P → ℕ) (limit : ℕ) (opening closed : Stand (Filed Entry)) (before after : List (WebView Entry P)) (served : HasServed judging own scheme tells faults limit opening closed before after) (judge : Judge) where

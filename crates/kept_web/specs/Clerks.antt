@@ -4,8 +4,8 @@ use Rattle.kept_list.specs.Scheme.{Judging}
 use Rattle.kept_list.specs.declared.reply.ListReply.{ListReply}
 use Rattle.office_lock.specs.Passes.{Known}
 use Rattle.kept_desks.specs.Rows.{Replies}
-use Rattle.kept_desks.specs.declared.names.Filed.{Filed}
-use Rattle.kept_desks.specs.declared.names.RowName.{RowName}
+use Rattle.kept_list.specs.declared.names.Filed.{Filed}
+use Rattle.kept_list.specs.declared.names.RowName.{RowName}
 use Rattle.web_desk.specs.Asks.{Scheme, Request, Answers, IsAsked, Reaches}
 use Rattle.web_desk.specs.Responses.{Answer}
 

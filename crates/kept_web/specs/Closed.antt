@@ -3,13 +3,13 @@ use Rattle.std.specs.Prelude.{◌≡◌, ◌⊎◌, ◌+◌, ◌≤◌, ℕ, Lis
 use Rattle.kept_list.specs.Scheme.{Judging}
 use Rattle.kept_list.specs.declared.reply.ListReply.{ListReply}
 use Rattle.office_lock.specs.Passes.{Known}
-use Rattle.kept_desks.specs.declared.names.Filed.{Filed}
-use Rattle.kept_desks.specs.declared.names.RowName.{RowName}
+use Rattle.kept_list.specs.declared.names.Filed.{Filed}
+use Rattle.kept_list.specs.declared.names.RowName.{RowName}
 use Rattle.std.specs.Prelude.{Option}
 use Rattle.web_desk.specs.Asks.{Scheme, Request}
 use Rattle.web_desk.specs.Exchange.{Judge, ending, requests, written}
 use Rattle.web_desk.specs.Responses.{Answer}
-use Rattle.web_desk.specs.Telling.{IsPrefix}
+use Rattle.web_edges.specs.LinkTelling.{IsPrefix}
 use Rattle.web_desk.specs.declared.end.End.{End}
 use Rattle.web_desk.specs.declared.end.End.TheVariants.{Closed, Cut, Rejected, Limit, LinkFault, NoMemory}
 use Rattle.kept_web.specs.Sessions.{Session}

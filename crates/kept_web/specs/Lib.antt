@@ -1,7 +1,6 @@
+pub use Rattle.kept_list.specs.Names
 pub use Rattle.kept_list.specs.Turns
 pub use Rattle.office_lock.specs.Passes
-pub use Rattle.kept_desks.specs.Names
-pub mod Ports
 pub mod Texts
 pub mod Clerks
 pub mod Told

@@ -5,15 +5,15 @@ use Rattle.aid_edges.specs.Faults.{Rose}
 use Rattle.kept_list.specs.Scheme.{Judging}
 use Rattle.kept_list.specs.declared.reply.ListReply.{ListReply}
 use Rattle.office_lock.specs.Passes.{Known}
-use Rattle.kept_desks.specs.declared.names.Filed.{Filed}
-use Rattle.kept_desks.specs.declared.names.RowName.{RowName}
+use Rattle.kept_list.specs.declared.names.Filed.{Filed}
+use Rattle.kept_list.specs.declared.names.RowName.{RowName}
 use Rattle.web_desk.specs.Asks.{Scheme}
 use Rattle.web_desk.specs.Exchange.{Judge, Serves}
 use Rattle.web_desk.specs.Heads.{IsJudge}
 use Rattle.web_desk.specs.declared.end.End.{End}
 use Rattle.web_desk.specs.declared.end.End.TheVariants.{LinkFault, NoMemory}
 use Rattle.kept_web.specs.Clerks.{PassAnswers, PassReaches}
-use Rattle.kept_web.specs.Ports.{Closed, PortTelling}
+use Rattle.web_edges.specs.Ports.{Closed, PortTelling}
 
 -- One connection: the bytes that it brought, what was written on it, its count of faults, how its session ended, and what the
 -- pass knew then.

@@ -7,9 +7,9 @@ use Rattle.kept_list.specs.declared.reply.ListReply.{ListReply}
 use Rattle.kept_list.specs.declared.reply.ListReply.TheVariants as reply
 use Rattle.office_lock.specs.Passes.{IsOlder, Known}
 use Rattle.kept_desks.specs.Answered.{placed}
-use Rattle.kept_desks.specs.Names.{entries_of, filed_by}
-use Rattle.kept_desks.specs.declared.names.Filed.{Filed}
-use Rattle.kept_desks.specs.declared.names.RowName.{RowName}
+use Rattle.kept_list.specs.Names.{entries_of, filed_by}
+use Rattle.kept_list.specs.declared.names.Filed.{Filed}
+use Rattle.kept_list.specs.declared.names.RowName.{RowName}
 use Rattle.web_desk.specs.Asks.{Scheme, Request}
 use Rattle.web_desk.specs.Responses.{Answer, failure_of}
 use Rattle.web_desk.specs.declared.call.Call.{Call}

@@ -9,9 +9,9 @@ use Rattle.office_lock.specs.declared.turned.Stand.{Stand}
 use Rattle.office_lock.specs.Turning.{RoseBy}
 use Rattle.office_lock.specs.Passes.{Known, IsOlder, numbered}
 use Rattle.kept_desks.specs.Desks.{IsFresh, mine_in, settled_in, left_in, faults_in, seen_in}
-use Rattle.kept_desks.specs.declared.names.Filed.{Filed}
+use Rattle.kept_list.specs.declared.names.Filed.{Filed}
 use Rattle.web_desk.specs.Asks.{Scheme}
-use Rattle.kept_web.specs.Ports.{PortTelling}
+use Rattle.web_edges.specs.Ports.{PortTelling}
 use Rattle.kept_web.specs.Sessions.{Served}
 use Rattle.kept_web.specs.declared.stop.WebEnd.{WebEnd}
 use Rattle.kept_web.specs.declared.stop.WebEnd.TheVariants.{Open, Done, PortFault}

@@ -3,14 +3,15 @@ ghost use Rattle.std.specs.Prelude.{◌≡◌, ◌≤◌, ◌<◌, ℕ, [], None
 ghost use Rattle.kept_web.specs.Workers.{WebView, HasServed, HoldsPass, Works};
 ghost use Rattle.kept_desks.specs.Shares.{stand_of};
 
-use crate::{Port, WebDesk, WebTexts, close_web, open_web};
+use crate::{WebDesk, WebTexts, close_web, open_web};
 use disk_model::Disk;
-use kept_desks::{OwnDocket, SharedList};
-use kept_list::{Docket, KeptList};
+use kept_desks::SharedList;
+use kept_list::{Docket, KeptList, OwnDocket};
 use office_lock::Turns;
 use std::alloc::Global;
 use std::sync::Wait;
 use std::thread::{Threads, for_each_mut};
+use web_edges::Port;
 
 /// At most so many desks serve at once.
 const MOST_DESKS: usize = 16;

@@ -3,18 +3,19 @@ ghost use Rattle.std.specs.Prelude.{◌≡◌, ◌≤◌};
 ghost use Rattle.aid_edges.specs.Faults.{Rose};
 ghost use Rattle.web_desk.specs.Exchange.{Judge, Serves};
 ghost use Rattle.web_desk.specs.Heads.{IsJudge};
-ghost use Rattle.web_desk.specs.Telling.{IsHonest};
+ghost use Rattle.web_edges.specs.LinkTelling.{IsHonest};
 ghost use Rattle.kept_web.specs.Clerks.{PassAnswers, PassReaches};
 
 use crate::{DocketForms, WebTexts};
 use disk_model::Disk;
-use kept_desks::{Filed, OwnDocket, RowAsk, RowName, SharedList};
-use kept_list::{Docket, ListReply};
+use kept_desks::SharedList;
+use kept_list::{Docket, Filed, ListReply, OwnDocket, RowAsk, RowName};
 use office_lock::{Pass, Turned, Turns};
 use std::alloc::Global;
 use std::marker::Model;
 use std::sync::Wait;
-use web_desk::{Clerk, End, Link, serve};
+use web_desk::{Clerk, End, serve};
+use web_edges::Link;
 
 // The clerk of one connection. Each ask is a turn of the lock, under one name.
 #[derive(Drop)]

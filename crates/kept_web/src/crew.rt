@@ -5,12 +5,13 @@ ghost use Rattle.kept_desks.specs.Desks.{IsFresh, IsJoined};
 ghost use Rattle.kept_desks.specs.Shares.{stand_of};
 ghost use Rattle.kept_web.specs.Workers.{AreReady, IsReady, HasEnded, Gathers, Ran, all_shown};
 
-use crate::{Port, WebDesk};
+use crate::WebDesk;
 use disk_model::Disk;
-use kept_desks::{Filed, OwnDocket, SharedList};
-use kept_list::{Docket, KeptList};
+use kept_desks::SharedList;
+use kept_list::{Docket, Filed, KeptList, OwnDocket};
 use office_lock::{Pass, Turned, Turns};
 use std::alloc::Global;
+use web_edges::Port;
 
 // Hands a part of the pass to the desk, with its number, and gives back the rest.
 fn hand_out<D: Disk, R: OwnDocket, P: Port>(

@@ -2,7 +2,7 @@
 ghost use Rattle.std.specs.Prelude.{◌≡◌, ℕ, List};
 ghost use Rattle.std.specs.List.{All};
 ghost use Rattle.office_lock.specs.declared.turned.Stand.{Stand};
-ghost use Rattle.kept_desks.specs.declared.names.Filed.{Filed};
+ghost use Rattle.kept_list.specs.declared.names.Filed.{Filed};
 ghost use Rattle.web_desk.specs.Asks.{Request};
 ghost use Rattle.web_desk.specs.Exchange.{Judge, Run, requests};
 ghost use Rattle.web_desk.specs.Heads.{IsJudge};
@@ -12,9 +12,9 @@ ghost use Rattle.kept_web.specs.Clerks.{Clerking, PassAnswers};
 ghost use Rattle.kept_web.specs.Told.{HasTold, IsAvailable};
 ghost use Rattle.kept_web.specs.Workers.{HasServed, WebView};
 
-use crate::{Port, WebTexts};
-use kept_desks::OwnDocket;
-use kept_list::Docket;
+use crate::WebTexts;
+use kept_list::{Docket, OwnDocket};
+use web_edges::Port;
 
 /// What the requests of one connection are told by the turns of a pass, and what they make of what the pass knows: each
 /// answer with a front is the answer on that many entries of what the pass then has seen, and what the pass admits besides is

@@ -4,14 +4,15 @@ ghost use Rattle.aid_edges.specs.Faults.{Rose};
 ghost use Rattle.kept_web.specs.Sessions.{FailsNext, Served, ServesNext, is_starved_end};
 ghost use Rattle.kept_web.specs.Workers.{HasStopped};
 
-use crate::{Port, WebEnd, WebTexts, serve_desk};
+use crate::{WebEnd, WebTexts, serve_desk};
 use disk_model::Disk;
-use kept_desks::{Filed, OwnDocket, RowName, SharedList};
-use kept_list::Docket;
+use kept_desks::SharedList;
+use kept_list::{Docket, Filed, OwnDocket, RowName};
 use office_lock::{Pass, Turned, Turns};
 use std::alloc::Global;
 use std::sync::Wait;
 use web_desk::End;
+use web_edges::Port;
 
 // How many connections were served, whether a session of them ended for want of memory, and how that ended.
 #[derive(Clone, Copy)]

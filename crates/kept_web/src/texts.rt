@@ -4,8 +4,7 @@ ghost use Rattle.kept_list.specs.Turns.{is_fault};
 ghost use Rattle.kept_web.specs.Texts.{is_added};
 ghost use Rattle.web_desk.specs.Asks.{Scheme};
 
-use kept_desks::OwnDocket;
-use kept_list::{Docket, ListReply};
+use kept_list::{Docket, ListReply, OwnDocket};
 use std::alloc::{AllocError, Global};
 use std::marker::PhantomData;
 use web_desk::{Call, Forms, Status};

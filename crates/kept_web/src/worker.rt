@@ -3,14 +3,15 @@ ghost use Rattle.std.specs.Prelude.{◌≡◌, ◌+◌, ◌≤◌, ◌<◌, ◌^
 ghost use Rattle.kept_web.specs.Workers.{HoldsPass, Works};
 
 use crate::serving::serve_all;
-use crate::{Port, WebEnd, WebTexts};
+use crate::{WebEnd, WebTexts};
 use disk_model::Disk;
-use kept_desks::{Filed, OwnDocket, SharedList};
-use kept_list::Docket;
+use kept_desks::SharedList;
+use kept_list::{Docket, Filed, OwnDocket};
 use office_lock::{Pass, Turned, Turns};
 use std::alloc::Global;
 use std::marker::Model;
 use std::sync::Wait;
+use web_edges::Port;
 
 /// A desk behind a port. It has a number and a pass of the lock while the lock is open.
 #[derive(Drop)]

@@ -4,7 +4,8 @@ ghost use Rattle.aid_types.specs.Ranges.{IsBetween, IsIndex, IsSignedAmount};
 use crate::households::{applicant, earner, family_of_four, no_lines, nothing};
 use aid_types::{Application, Formula, Refusal, Way};
 use pell_schedule::{Decision, decide};
-use sai_index::{IndexLines, ParentLines, fits, formula_of, index};
+use sai_index::{IndexLines, fits, formula_of, index};
+use sai_parent::ParentLines;
 use specimen::specimen_book;
 use std::process::Abort;
 

@@ -2,14 +2,13 @@
 //! whatever order the keys came.
 ghost use Rattle.std.specs.Prelude.{◌≡◌, ◌<◌};
 
-use sorted_rows::{Slots, Table};
+use sorted_rows::{Slots, Steps, Table};
 use std::alloc::AllocError;
 use std::collections::BTreeMap;
 use std::marker::Brand;
 use std::process::Abort;
 use std::sync::ledger::{Blank, Ledger};
 use std::test::Fail;
-use steps::Steps;
 
 /// More keys than four tails hold.
 const KEYS: u32 = 5_000;

@@ -8,7 +8,7 @@ use Rattle.aid_types.specs.declared.number.Key.{Key}
 use Rattle.aid_filings.specs.declared.filing.Amount.{Amount}
 use Rattle.aid_filings.specs.declared.filing.Filing.{Filing}
 use Rattle.aid_filings.specs.declared.filing.What.TheVariants.{Pay}
-use Rattle.aid_replies.specs.declared.reply.Outcome.TheVariants.{Paid}
+use Rattle.aid_filings.specs.declared.reply.Outcome.TheVariants.{Paid}
 use Rattle.lifetime_ledger.specs.Used.{use_of}
 use Rattle.filing_rules.specs.Lines.{year_limit}
 use Rattle.office_history.specs.Past.{prior_units}

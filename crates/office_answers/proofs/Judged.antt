@@ -7,7 +7,7 @@ use Rattle.aid_types.specs.declared.award.Refusal.{Refusal}
 use Rattle.aid_types.proofs.Same.{tells_key}
 use Rattle.aid_filings.specs.declared.filing.Filing.{Filing}
 use Rattle.aid_filings.proofs.SameFiling.{tells_filing}
-use Rattle.aid_replies.specs.declared.reply.Verdict.TheVariants.{Again, Refused}
+use Rattle.aid_filings.specs.declared.reply.Verdict.TheVariants.{Again, Refused}
 use Rattle.aid_types.specs.declared.number.Key.{Key}
 use Rattle.aid_filings.specs.declared.filing.What.{What}
 use Rattle.filing_rules.specs.declared.facts.Facts.{Facts}

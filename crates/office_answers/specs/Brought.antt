@@ -6,8 +6,8 @@ use Rattle.aid_types.specs.declared.award.Refusal.{Refusal}
 use Rattle.aid_types.specs.Programs.{rank}
 use Rattle.aid_filings.specs.declared.filing.Amount.{Amount}
 use Rattle.aid_filings.specs.declared.filing.Filing.{Filing}
-use Rattle.aid_replies.specs.declared.reply.Outcome.{Outcome}
-use Rattle.aid_replies.specs.declared.reply.Outcome.TheVariants.{Indexed, Noted, Paid}
+use Rattle.aid_filings.specs.declared.reply.Outcome.{Outcome}
+use Rattle.aid_filings.specs.declared.reply.Outcome.TheVariants.{Indexed, Noted, Paid}
 use Rattle.lifetime_ledger.specs.Used.{use_of}
 use Rattle.office_history.specs.Answer.{indexed}
 use Rattle.office_history.specs.Award.{scheduled}

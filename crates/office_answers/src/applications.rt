@@ -6,7 +6,7 @@ ghost use Rattle.office_history.specs.Answer.{indexed_by};
 ghost use Rattle.office_history.specs.Award.{unfit_under};
 
 use aid_books::Book;
-use aid_replies::Outcome;
+use aid_filings::Outcome;
 use aid_types::{Application, Refusal};
 use office_history::decision;
 use sai_index::{fits, formula_of};

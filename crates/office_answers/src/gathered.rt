@@ -14,14 +14,13 @@ ghost use Rattle.office_answers.specs.Walked.{walked};
 
 use crate::applications::{award_in, brought_under, unfit};
 use crate::noted::{desk_facts, net_of};
-use aid_filings::WithdrawFacts;
-use aid_replies::Outcome;
+use aid_filings::{Outcome, WithdrawFacts};
 use aid_types::{Application, Key, Program, School, Student, Year};
 use filing_rules::Facts;
 use lifetime_ledger::use_of;
 use office_history::{OnFile, PlaceRow, StudentRow, TermRow, YearRow};
+use sorted_rows::Steps;
 use std::sync::ledger::Ledger;
-use steps::Steps;
 
 /// What an application reads, and what it brings under the book of its year, where it isn't out of range for it.
 #[derive(Clone, Copy)]

@@ -12,8 +12,8 @@ use aid_filings::{Amount, CalendarFacts, EnrolFacts, Filing, What};
 use aid_types::{Key, Program};
 use filing_rules::Facts;
 use office_history::{Account, OnFile, SchoolRow};
+use sorted_rows::Steps;
 use std::sync::ledger::Ledger;
-use steps::Steps;
 
 /// What a filing that is only noted reads.
 pub(crate) fn noted_facts<P: OnFile, L: Ledger>(

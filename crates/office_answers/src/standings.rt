@@ -9,13 +9,12 @@ ghost use Rattle.office_answers.specs.Walked.{walked};
 
 use crate::gathered::payment_facts;
 use aid_books::Book;
-use aid_filings::What;
-use aid_replies::StandingRow;
+use aid_filings::{StandingRow, What};
 use aid_types::{Application, Formula, Program, School, Student, Way, Year};
 use office_history::{OnFile, decision};
 use sai_index::formula_of;
+use sorted_rows::Steps;
 use std::sync::ledger::Ledger;
-use steps::Steps;
 
 /// The greatest Pell payment in cents, of whole dollars, that the school could file for the student's term under a new
 /// key; 0 where there is none.
@@ -38,7 +37,7 @@ pub fn quote<P: OnFile, L: Ledger>(
     // The front tells that what is on file is legal.
     let _filings = past.front();
     let read = payment_facts(past, school, student, year, term, Program::Pell, steps);
-    pell_quote::quote(&read.facts, school, student, year, term)
+    filing_rules::quote(&read.facts, school, student, year, term)
 }
 
 /// Where a student stands in a year: the application in force with its award, the year's net Pell at all schools and the

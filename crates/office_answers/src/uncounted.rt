@@ -1,19 +1,18 @@
 //! What is answered on what is on file, where no looks are counted.
 ghost use Rattle.std.specs.Prelude.{◌≡◌, ℕ, ◌*◌, ◌<◌, ◌≤◌, None, IfSome, is_some};
-ghost use Rattle.aid_replies.specs.declared.reply.Verdict.TheVariants.{Admit};
+ghost use Rattle.aid_filings.specs.declared.reply.Verdict.TheVariants.{Admit};
 ghost use Rattle.filing_rules.specs.Rules.{first_broken};
 ghost use Rattle.office_history.specs.Answer.{answer_of, is_admit, quote_of, standing_of};
 ghost use Rattle.office_history.specs.Rules.{payment_rules};
 
 use crate::standings::{quote, standing};
 use crate::verdicts::answer;
-use aid_filings::Filing;
-use aid_replies::{Outcome, StandingRow, Verdict};
+use aid_filings::{Filing, Outcome, StandingRow, Verdict};
 use aid_types::{School, Student, Year};
 use office_history::OnFile;
+use sorted_rows::Steps;
 use std::marker::Brand;
 use std::sync::ledger::{Blank, Ledger};
-use steps::Steps;
 
 /// The verdict on a filing.
 pub fn verdict_on<P: OnFile>(past: &P, filing: &Filing) -> Verdict

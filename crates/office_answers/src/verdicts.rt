@@ -2,7 +2,7 @@
 ghost use Rattle.std.specs.Prelude.{◌≡◌, ◌+◌, ◌*◌, ◌≤◌, sum};
 ghost use Rattle.aid_filings.specs.Students.{student_of};
 ghost use Rattle.aid_filings.specs.declared.filing.What.TheVariants.{Apply, Pay, Withdraw};
-ghost use Rattle.aid_replies.specs.declared.reply.Outcome.TheVariants.{Returned};
+ghost use Rattle.aid_filings.specs.declared.reply.Outcome.TheVariants.{Returned};
 ghost use Rattle.aid_types.specs.Ranges.{EachIsCents, IsBetween};
 ghost use Rattle.office_history.specs.Answer.{IsLegal, answer_of, breaks, judged};
 ghost use Rattle.office_answers.specs.Brought.{IsWithPayment, paid_with};
@@ -13,14 +13,13 @@ ghost use Rattle.office_answers.specs.Walked.{walked};
 use crate::gathered::{application_facts, payment_facts, used_else, withdrawal_facts};
 use crate::noted::noted_facts;
 use crate::sheets::sheet_on_file;
-use aid_filings::{Amount, Filing, What, WithdrawFacts};
-use aid_replies::{Outcome, Verdict};
+use aid_filings::{Amount, Filing, Outcome, Verdict, What, WithdrawFacts};
 use aid_types::{Application, Program, Refusal};
 use filing_rules::broken;
 use lifetime_ledger::use_of;
 use office_history::{OnFile, StudentRow, YearRow};
+use sorted_rows::Steps;
 use std::sync::ledger::Ledger;
-use steps::Steps;
 use withdrawal_returns::Lines;
 
 /// The answer to a filing: `Again` with its position and the outcome of its admission where it stands already, refusal

@@ -4,8 +4,7 @@ ghost use Rattle.aid_types.specs.Ranges.{IsBetween};
 
 use crate::filings::Place;
 use crate::tally::Tally;
-use aid_filings::{Filing, What};
-use aid_replies::Verdict;
+use aid_filings::{Filing, Verdict, What};
 use aid_types::{Key, School, Student, Year};
 use office_core::Office;
 use std::alloc::{AllocError, Global};

@@ -1,7 +1,7 @@
 //! What came of the filings.
 ghost use Rattle.std.specs.Prelude.{◌≤◌};
 
-use aid_replies::{Outcome, Verdict};
+use aid_filings::{Outcome, Verdict};
 use std::fmt;
 
 /// How many filings were accepted and refused, and the cents of the Pell payments and of the schools' returns among the

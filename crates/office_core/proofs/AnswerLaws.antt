@@ -4,8 +4,8 @@ use Rattle.std.specs.Prelude.{is_none}
 use Rattle.aid_types.specs.declared.award.Refusal.{Refusal}
 use Rattle.aid_types.proofs.Same.{tells_key}
 use Rattle.aid_filings.specs.declared.filing.Filing.{Filing}
-use Rattle.aid_replies.specs.declared.reply.Outcome.{Outcome}
-use Rattle.aid_replies.specs.declared.reply.Verdict.TheVariants.{Again, Refused}
+use Rattle.aid_filings.specs.declared.reply.Outcome.{Outcome}
+use Rattle.aid_filings.specs.declared.reply.Verdict.TheVariants.{Again, Refused}
 use Rattle.office_history.specs.Answer.{IsLegal, answer_at, answer_new, answer_of, breaks, is_admit, judged}
 use Rattle.office_history.specs.Past.{filing_at, key_at, same_key}
 use Rattle.office_history.proofs.Cases.{answer_of-new}

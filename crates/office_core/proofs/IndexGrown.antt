@@ -3,7 +3,7 @@ use Rattle.std.proofs.Common.{◌≡◌, ℕ, ◌+◌, ◌-◌, ◌<◌, ◌≤�
 use Rattle.aid_filings.specs.declared.filing.EnrolFacts.{EnrolFacts}
 use Rattle.aid_filings.specs.declared.filing.Filing.{Filing}
 use Rattle.aid_filings.specs.declared.filing.What.TheVariants.{Enrol}
-use Rattle.aid_replies.specs.declared.reply.Outcome.{Outcome}
+use Rattle.aid_filings.specs.declared.reply.Outcome.{Outcome}
 use Rattle.sorted_rows.specs.Places.{AreStaying}
 use Rattle.std.specs.List.{slice_get}
 use Rattle.office_history.specs.Answer.{IsLegal, outcome_of}
@@ -11,8 +11,8 @@ use Rattle.office_history.specs.Positions.{school_at, term_at}
 use Rattle.office_history.proofs.Legal.{legal_is_short}
 use Rattle.office_history.specs.declared.rows.PlaceRow.{PlaceRow}
 use Rattle.office_core.specs.Index.{AreBooks, AreKeys, AreSchools, AreSchoolYears, AreStudents, AreYears, IndexRows, IsIndexed, IsWrittenBy}
-use Rattle.office_links.specs.Placed.{ArePlaces}
-use Rattle.office_links.specs.Links.{AreLinked, IsLinkable, before_in}
+use Rattle.office_walks.specs.Placed.{ArePlaces}
+use Rattle.office_walks.specs.Links.{AreLinked, IsLinkable, before_in}
 use Rattle.office_history.specs.Names.{place_name}
 use Rattle.office_history.specs.declared.names.StudentPlace.{StudentPlace}
 use Rattle.office_core.specs.declared.written.Written.{Written}

@@ -2,11 +2,11 @@
 use Rattle.std.proofs.Common.{◌≡◌, refl, subst, sym, zero-le, List, [], reverse}
 use Rattle.std.proofs.lemmas.Option.{none-some}
 use Rattle.aid_filings.specs.declared.filing.Filing.{Filing}
-use Rattle.aid_replies.specs.declared.reply.Outcome.{Outcome}
+use Rattle.aid_filings.specs.declared.reply.Outcome.{Outcome}
 use Rattle.lifetime_ledger.specs.Used.{use_of}
 use Rattle.office_history.specs.Net.{all_years}
 use Rattle.office_core.specs.Index.{IndexRows, IsIndexed}
-use Rattle.office_links.specs.Links.{AreLinked}
+use Rattle.office_walks.specs.Links.{AreLinked}
 
 abbrev pub no_rows : IndexRows
 no_rows = record { keys = []; books = []; schools = []; students = []; places = []; years = []; school_years = []; befores = []; links = [] }

@@ -4,7 +4,7 @@ use Rattle.std.proofs.lemmas.Bool.{cases_lt}
 use Rattle.std.proofs.Math.ListN.{get_or-append}
 use Rattle.std.proofs.Math.Seq.{get_or-append_seam}
 use Rattle.aid_filings.specs.declared.filing.Filing.{Filing}
-use Rattle.aid_replies.specs.declared.reply.Outcome.{Outcome}
+use Rattle.aid_filings.specs.declared.reply.Outcome.{Outcome}
 use Rattle.office_history.specs.Answer.{outcome_at, outcome_of, outcome_of_newest}
 use Rattle.office_history.proofs.Recorded.{outcome_at-stays}
 use Rattle.office_core.specs.Register.{outcomes_of}

@@ -9,7 +9,7 @@ use Rattle.office_history.specs.Answer.{breaks, indexed, outcome_in, outcome_of}
 use Rattle.office_history.specs.Award.{award_under, scheduled_of}
 use Rattle.office_history.specs.Past.{application, the_book}
 use Rattle.office_history.specs.declared.rows.YearRow.{YearRow}
-use Rattle.office_rows.proofs.YearFilings.{applied_row}
+use Rattle.office_changes.proofs.YearFilings.{applied_row}
 use Rattle.office_answers.specs.Brought.{awarded}
 
 of_indexed : (b : Option Book) (a : Option Application) → awarded (indexed b a) ≡ award_under b a

@@ -18,8 +18,8 @@ use Rattle.office_history.specs.declared.place.Place.{Place}
 use Rattle.office_history.specs.declared.rows.PlaceRow.{PlaceRow}
 use Rattle.office_history.specs.declared.rows.SchoolYearRow.{SchoolYearRow}
 use Rattle.office_history.specs.declared.rows.YearRow.{YearRow}
-use Rattle.office_links.specs.Placed.{ArePlaces, place_or}
-use Rattle.office_rows.specs.Changed.{IsPlaceBefore, IsSchoolYearBefore, IsYearBefore, place_changed, school_year_changed, student_changed, year_changed}
+use Rattle.office_walks.specs.Placed.{ArePlaces, place_or}
+use Rattle.office_changes.specs.Changed.{IsPlaceBefore, IsSchoolYearBefore, IsYearBefore, place_changed, school_year_changed, student_changed, year_changed}
 use Rattle.office_core.specs.Index.{AreSchoolYears, AreStudents, AreYears, school_year_or, student_entry, student_or, year_or}
 use Rattle.office_core.specs.declared.entries.StudentEntry.{StudentEntry}
 

@@ -16,11 +16,11 @@ use Rattle.office_history.specs.Rows.{place_row, school_year_row, year_row}
 use Rattle.office_history.specs.declared.rows.PlaceRow.{PlaceRow}
 use Rattle.office_history.specs.declared.rows.SchoolYearRow.{SchoolYearRow}
 use Rattle.office_history.specs.declared.rows.YearRow.{YearRow}
-use Rattle.office_rows.specs.After.{IsPlaceAfter, IsSchoolYearAfter, IsYearAfter, after}
+use Rattle.office_changes.specs.After.{IsPlaceAfter, IsSchoolYearAfter, IsYearAfter, after}
 use Rattle.office_history.specs.Names.{place_cmp, school_year_cmp, year_cmp}
 use Rattle.office_core.specs.Index.{AreKeys, AreSchoolYears, AreYears, filing_cmp, filing_name, position_of, position_or, school_year_or, written_or, year_or}
-use Rattle.office_links.specs.Placed.{ArePlaces, place_or}
-use Rattle.office_rows.proofs.RowNames.{at_place, place-same}
+use Rattle.office_walks.specs.Placed.{ArePlaces, place_or}
+use Rattle.office_changes.proofs.RowNames.{at_place, place-same}
 use Rattle.office_core.specs.declared.entries.FilingNumber.{FilingNumber}
 use Rattle.office_history.specs.declared.names.StudentPlace.{StudentPlace}
 use Rattle.office_history.specs.declared.names.StudentSchoolYear.{StudentSchoolYear}

@@ -4,7 +4,7 @@ use Rattle.std.specs.List.{slice_get}
 use Rattle.std.proofs.lemmas.List.{length-reverse, length-take-le, reverse-reverse}
 use Rattle.std.proofs.lemmas.Option.{get_or_from_slice_get, none-some, slice_get_within}
 use Rattle.aid_filings.specs.declared.filing.Filing.{Filing}
-use Rattle.aid_replies.specs.declared.reply.Verdict.TheVariants.{Again}
+use Rattle.aid_filings.specs.declared.reply.Verdict.TheVariants.{Again}
 use Rattle.office_history.specs.Answer.{IsLegal, answer_of, outcome_at}
 use Rattle.office_history.proofs.Oldest.{reverse-at}
 use Rattle.office_history.proofs.Recorded.{answer_of-repeated, outcome_at-stays}

@@ -8,7 +8,7 @@ use Rattle.aid_filings.specs.declared.filing.EnrolFacts.{EnrolFacts}
 use Rattle.aid_filings.specs.declared.filing.Filing.{Filing}
 use Rattle.aid_filings.specs.declared.filing.What.{What}
 use Rattle.aid_filings.specs.declared.filing.What.TheVariants.{Book as BookFiled, Enrol}
-use Rattle.aid_replies.specs.declared.reply.Outcome.{Outcome}
+use Rattle.aid_filings.specs.declared.reply.Outcome.{Outcome}
 use Rattle.aid_types.specs.Programs.{six}
 use Rattle.aid_types.specs.declared.number.Key.{Key}
 use Rattle.office_history.specs.Answer.{IsLegal}
@@ -19,20 +19,20 @@ use Rattle.office_history.specs.declared.rows.PlaceRow.{PlaceRow}
 use Rattle.office_history.specs.declared.rows.SchoolYearRow.{SchoolYearRow}
 use Rattle.office_history.specs.declared.rows.YearRow.{YearRow}
 use Rattle.office_history.specs.declared.rows.StudentRow.{StudentRow}
-use Rattle.office_rows.specs.After.{IsPlaceAfter, IsSchoolAfter, IsSchoolYearAfter, IsStudentAfter, IsYearAfter}
-use Rattle.office_rows.specs.Changed.{place_changed, school_year_changed, student_changed, year_changed}
+use Rattle.office_changes.specs.After.{IsPlaceAfter, IsSchoolAfter, IsSchoolYearAfter, IsStudentAfter, IsYearAfter}
+use Rattle.office_changes.specs.Changed.{place_changed, school_year_changed, student_changed, year_changed}
 use Rattle.office_history.specs.Names.{school_year_cmp, year_cmp, place_name}
-use Rattle.office_links.specs.Links.{AreLinked, newest_place, newest_term}
+use Rattle.office_walks.specs.Links.{AreLinked, newest_place, newest_term}
 use Rattle.office_core.specs.Register.{outcomes_of}
 use Rattle.office_core.specs.declared.entries.SchoolEntry.{SchoolEntry}
 use Rattle.office_core.specs.declared.entries.StudentEntry.{StudentEntry}
-use Rattle.office_links.specs.declared.links.Link.{Link}
+use Rattle.office_walks.specs.declared.links.Link.{Link}
 use Rattle.office_core.specs.declared.entries.FilingNumber.{FilingNumber}
 use Rattle.office_history.specs.declared.names.StudentPlace.{StudentPlace}
 use Rattle.office_history.specs.declared.names.StudentSchoolYear.{StudentSchoolYear}
 use Rattle.office_history.specs.declared.names.StudentYear.{StudentYear}
 use Rattle.office_core.specs.declared.written.Written.{Written}
-use Rattle.office_links.specs.Placed.{ArePlaces}
+use Rattle.office_walks.specs.Placed.{ArePlaces}
 
 -- the order of filings' names, and the name of a key
 abbrev pub filing_cmp : FilingNumber → FilingNumber → Ordering

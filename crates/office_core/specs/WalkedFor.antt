@@ -3,8 +3,8 @@
 use Rattle.std.specs.Prelude.{ℕ, List, Some}
 use Rattle.aid_filings.specs.Students.{student_of}
 use Rattle.aid_filings.specs.declared.filing.Filing.{Filing}
-use Rattle.aid_replies.specs.declared.reply.Ask.{Ask}
-use Rattle.aid_replies.specs.declared.reply.Ask.TheVariants.{File, Quote, Standing}
+use Rattle.aid_filings.specs.declared.reply.Ask.{Ask}
+use Rattle.aid_filings.specs.declared.reply.Ask.TheVariants.{File, Quote, Standing}
 use Rattle.office_answers.specs.Walked.{walked}
 
 abbrev pub walked_for : List Filing → Ask → ℕ

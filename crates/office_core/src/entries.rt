@@ -1,7 +1,7 @@
 //! What rows of the index tell.
 ghost use Rattle.std.specs.Prelude.{◌≡◌};
 ghost use Rattle.std.specs.Option.{option_copied};
-ghost use Rattle.office_links.specs.Placed.{place_or};
+ghost use Rattle.office_walks.specs.Placed.{place_or};
 ghost use Rattle.office_core.specs.Index.{position_or, school_or, school_year_or, student_or, year_or};
 
 use aid_types::ByProgram;

@@ -6,8 +6,8 @@ ghost use Rattle.aid_filings.specs.declared.filing.Filing.{Filing as Filed};
 ghost use Rattle.office_history.specs.Answer.{IsLegal};
 ghost use Rattle.office_history.specs.Past.{first_of_two, key_at};
 ghost use Rattle.office_history.specs.declared.rows.StudentRow.{StudentRow as OfStudent};
-ghost use Rattle.office_rows.specs.After.{IsSchoolAfter, IsStudentAfter};
-ghost use Rattle.office_rows.specs.Changed.{IsPlaceBefore, student_changed};
+ghost use Rattle.office_changes.specs.After.{IsSchoolAfter, IsStudentAfter};
+ghost use Rattle.office_changes.specs.Changed.{IsPlaceBefore, student_changed};
 ghost use Rattle.office_core.specs.Index.{AreBooks, AreKeys, AreSchools, AreStudents, filing_cmp, filing_name, position_or, school_or, student_or, written_or};
 
 use crate::entries::{FilingNumber, SchoolEntry, StudentEntry, position_told, school_told};

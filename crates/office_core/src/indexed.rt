@@ -5,10 +5,10 @@ ghost use Rattle.aid_filings.specs.declared.filing.EnrolFacts.{EnrolFacts as Enr
 ghost use Rattle.aid_filings.specs.declared.filing.What.TheVariants.{Enrol};
 ghost use Rattle.office_history.specs.Answer.{IsLegal, outcome_of};
 ghost use Rattle.office_history.specs.Positions.{school_at, term_at};
-ghost use Rattle.office_rows.specs.Changed.{IsPlaceBefore};
+ghost use Rattle.office_changes.specs.Changed.{IsPlaceBefore};
 ghost use Rattle.office_core.specs.Digits.{digits_of};
 ghost use Rattle.office_core.specs.Index.{book_filed, school_entry, student_entry};
-ghost use Rattle.office_links.specs.Links.{before_in};
+ghost use Rattle.office_walks.specs.Links.{before_in};
 
 use crate::entries::{
     FilingNumber, SchoolEntry, StudentEntry, place_told, position_told, school_told,
@@ -18,20 +18,18 @@ use crate::filed::{write, write_book, write_key, write_school, write_student};
 use crate::lookup::find;
 use crate::written::rows_after;
 use aid_books::Book;
-use aid_filings::{CalendarFacts, Filing, What};
-use aid_replies::Outcome;
+use aid_filings::{CalendarFacts, Filing, Outcome, What};
 use aid_types::{Key, Refusal, School, Student, Term, Year};
+use office_changes::{place_changed, school_year_changed, student_changed, term_of, year_changed};
 use office_history::{
     CalendarRow, OnFile, PlaceRow, SchoolRow, SchoolYearRow, StudentPlace, StudentRow,
     StudentSchoolYear, StudentYear, TermRow, YearRow,
 };
-use office_links::{Link, link_of, paid_beside, school_calendar, school_term, term_over};
-use office_rows::{place_changed, school_year_changed, student_changed, term_of, year_changed};
-use sorted_rows::{Slots, Table};
+use office_walks::{Link, link_of, paid_beside, school_calendar, school_term, term_over};
+use sorted_rows::{Slots, Steps, Table};
 use std::alloc::{AllocError, Global};
 use std::marker::Model;
 use std::sync::ledger::Ledger;
-use steps::Steps;
 
 /// The filings of an office with the outcomes of their admissions, sorted rows that tell what is on file, and room for more
 /// filings. A contract sees the history, the newest filing first, and the spare room. The history is legal.

@@ -7,10 +7,10 @@ ghost use Rattle.aid_filings.specs.declared.filing.Filing.{Filing as Filed};
 ghost use Rattle.aid_filings.specs.declared.filing.What.TheVariants.{Pay};
 ghost use Rattle.aid_types.specs.declared.award.Refusal.{Refusal as Refusing};
 ghost use Rattle.aid_types.specs.declared.number.Program.TheVariants.{Pell};
-ghost use Rattle.aid_replies.specs.declared.reply.Ask.TheVariants.{File as FileAsked, Quote as QuoteAsked, Standing as StandingAsked};
-ghost use Rattle.aid_replies.specs.declared.reply.Outcome.{Outcome as Brought};
-ghost use Rattle.aid_replies.specs.declared.reply.StandingRow.{StandingRow as Row};
-ghost use Rattle.aid_replies.specs.declared.reply.Verdict.TheVariants.{Admit, Again, Quoted, Refused, Standing};
+ghost use Rattle.aid_filings.specs.declared.reply.Ask.TheVariants.{File as FileAsked, Quote as QuoteAsked, Standing as StandingAsked};
+ghost use Rattle.aid_filings.specs.declared.reply.Outcome.{Outcome as Brought};
+ghost use Rattle.aid_filings.specs.declared.reply.StandingRow.{StandingRow as Row};
+ghost use Rattle.aid_filings.specs.declared.reply.Verdict.TheVariants.{Admit, Again, Quoted, Refused, Standing};
 ghost use Rattle.aid_types.specs.Programs.{rank as rank_of};
 ghost use Rattle.office_history.specs.Answer.{breaks, outcome_of, outcome_at, answer_of, answer_to, is_admit, quote_of, standing_of, IsLegal};
 ghost use Rattle.office_history.specs.Net.{cell_at, net_at as net_of_cell};
@@ -21,16 +21,15 @@ ghost use Rattle.office_core.specs.Register.{IsKeyUsedAt, IsPellPayment};
 ghost use Rattle.office_core.specs.WalkedFor.{walked_for};
 
 use crate::indexed::Indexed;
-use aid_filings::Filing;
-use aid_replies::{Ask, Outcome, StandingRow, Verdict};
+use aid_filings::{Ask, Filing, Outcome, StandingRow, Verdict};
 use aid_types::{Program, School, Student, Year};
 use office_answers::{answer, quote, quote_on, rule_on, standing, standing_on, verdict_on};
+use office_changes::{place_of, school_of, school_year_of};
 use office_history::{OnFile, PlaceRow, SchoolRow, SchoolYearRow};
-use office_rows::{place_of, school_of, school_year_of};
+use sorted_rows::Steps;
 use std::alloc::{AllocError, Global};
 use std::marker::Model;
 use std::sync::ledger::Ledger;
-use steps::Steps;
 
 /// An office: the filings that were admitted, each with the outcome of its admission, and room for more. A contract sees
 /// its history, the newest filing first, and its spare room. The history of every office is legal.

@@ -5,13 +5,13 @@ ghost use Rattle.aid_filings.specs.declared.filing.WithdrawFacts.{WithdrawFacts 
 ghost use Rattle.office_history.specs.Answer.{IsLegal};
 ghost use Rattle.office_history.specs.Own.{IsOwnEntry};
 ghost use Rattle.office_history.specs.Past.{the_term};
-ghost use Rattle.office_rows.specs.Changed.{IsPlaceBefore};
+ghost use Rattle.office_changes.specs.Changed.{IsPlaceBefore};
 
 use aid_filings::{Filing, What};
 use aid_types::Term;
 use office_answers::entry_of;
+use office_changes::term_of;
 use office_history::{Account, OnFile, PlaceRow};
-use office_rows::term_of;
 
 /// What a filing that comes next moves in the student's term that it is about; nothing where it moves no money. `row` is the
 /// row of that term before the filing.

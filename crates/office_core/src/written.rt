@@ -2,18 +2,17 @@
 ghost use Rattle.std.specs.Prelude.{◌≡◌, ◌∷◌};
 ghost use Rattle.office_history.specs.Answer.{IsLegal, outcome_of};
 ghost use Rattle.office_answers.specs.Brought.{awarded};
-ghost use Rattle.office_rows.specs.Changed.{IsPlaceBefore, IsSchoolYearBefore, IsStudentBefore, IsYearBefore};
+ghost use Rattle.office_changes.specs.Changed.{IsPlaceBefore, IsSchoolYearBefore, IsStudentBefore, IsYearBefore};
 ghost use Rattle.office_core.specs.Index.{IsWrittenBy};
 
 use crate::own_entry::own_entry;
-use aid_filings::Filing;
-use aid_replies::Outcome;
+use aid_filings::{Filing, Outcome};
 use office_answers::award_in;
+use office_changes::{place_after, school_after, school_year_after, student_after, year_after};
 use office_history::{
     OnFile, PlaceRow, SchoolRow, SchoolYearRow, StudentPlace, StudentRow, StudentSchoolYear,
     StudentYear, YearRow,
 };
-use office_rows::{place_after, school_after, school_year_after, student_after, year_after};
 
 /// The one row of each table that a filing changes, where it changes one.
 #[derive(Drop)]

@@ -6,16 +6,16 @@ use Rattle.aid_types.specs.declared.application.Application.{Application}
 use Rattle.aid_filings.specs.declared.filing.Filing.{Filing}
 use Rattle.aid_filings.specs.declared.filing.What.{What}
 use Rattle.aid_filings.specs.declared.filing.What.TheVariants.{Apply, Pay, Withdraw}
-use Rattle.aid_replies.specs.declared.reply.Ask.{Ask}
-use Rattle.aid_replies.specs.declared.reply.Ask.TheVariants.{File, Quote, Standing as StandingAsked}
+use Rattle.aid_filings.specs.declared.reply.Ask.{Ask}
+use Rattle.aid_filings.specs.declared.reply.Ask.TheVariants.{File, Quote, Standing as StandingAsked}
 use Rattle.aid_types.specs.declared.award.Formula.TheVariants.{A}
 use Rattle.aid_types.specs.declared.award.Way.TheVariants.{Nothing}
 use Rattle.aid_types.specs.declared.award.Refusal.{Refusal}
-use Rattle.aid_replies.specs.declared.reply.Outcome.{Outcome}
-use Rattle.aid_replies.specs.declared.reply.Outcome.TheVariants.{Noted, Indexed, Paid, Returned}
-use Rattle.aid_replies.specs.declared.reply.StandingRow.{StandingRow}
-use Rattle.aid_replies.specs.declared.reply.Verdict.{Verdict}
-use Rattle.aid_replies.specs.declared.reply.Verdict.TheVariants.{Again, Refused, Admit, Quoted, Standing}
+use Rattle.aid_filings.specs.declared.reply.Outcome.{Outcome}
+use Rattle.aid_filings.specs.declared.reply.Outcome.TheVariants.{Noted, Indexed, Paid, Returned}
+use Rattle.aid_filings.specs.declared.reply.StandingRow.{StandingRow}
+use Rattle.aid_filings.specs.declared.reply.Verdict.{Verdict}
+use Rattle.aid_filings.specs.declared.reply.Verdict.TheVariants.{Again, Refused, Admit, Quoted, Standing}
 use Rattle.sai_index.specs.Formulas.{formula}
 use Rattle.filing_rules.specs.Quote.{greatest_payment}
 use Rattle.filing_rules.specs.Rules.{first_broken}

@@ -4,7 +4,7 @@ ghost use Rattle.std.specs.Prelude.{◌≡◌, ◌≢◌, ◌↔◌, ◌+◌, �
 ghost use Rattle.aid_filings.specs.declared.filing.Filing.{Filing};
 ghost use Rattle.aid_filings.specs.declared.filing.WithdrawFacts.{WithdrawFacts};
 ghost use Rattle.aid_filings.specs.declared.filing.What.TheVariants.{Withdraw};
-ghost use Rattle.aid_replies.specs.declared.reply.Verdict.TheVariants.{Again, Admit};
+ghost use Rattle.aid_filings.specs.declared.reply.Verdict.TheVariants.{Again, Admit};
 ghost use Rattle.office_history.specs.Past.{key_at, same_filing};
 ghost use Rattle.office_history.specs.Sheets.{CanBeWorkedOut};
 ghost use Rattle.office_history.specs.Answer.{breaks, outcome_of, outcome_at, answer_of, is_admit, IsLegal};

@@ -9,11 +9,10 @@ ghost use Rattle.office_history.specs.Rows.{calendar_row, enrolments_of, filing_
 
 use crate::rows::{CalendarRow, PlaceRow, SchoolRow, SchoolYearRow, StudentRow, TermRow, YearRow};
 use aid_books::Book;
-use aid_filings::{CalendarFacts, Filing};
-use aid_replies::Outcome;
+use aid_filings::{CalendarFacts, Filing, Outcome};
 use aid_types::{Key, Refusal, School, Student, Term, Year};
+use sorted_rows::Steps;
 use std::sync::ledger::Ledger;
-use steps::Steps;
 
 /// What is on file: one question for each kind of row. A question counts each of its looks at a row of an index; a list that
 /// has none counts nothing.

@@ -2,8 +2,7 @@
 ghost use Rattle.std.specs.Prelude.{◌≤◌};
 
 use crate::office::file;
-use aid_filings::{Filing, PriorFacts, What};
-use aid_replies::{Outcome, Verdict};
+use aid_filings::{Filing, Outcome, PriorFacts, Verdict, What};
 use aid_types::{Key, Refusal, School, Student};
 use office_core::Office;
 use std::test::Fail;

@@ -1,16 +1,15 @@
 //! An office that goes through steps.
 ghost use Rattle.std.specs.Prelude.{◌≡◌, ◌<◌};
 
-use aid_filings::Filing;
-use aid_replies::{Ask, Outcome, StandingRow, Verdict};
+use aid_filings::{Ask, Filing, Outcome, StandingRow, Verdict};
 use aid_types::{Program, School as SchoolCode, Year};
 use office_core::Office;
+use sorted_rows::Steps;
 use std::alloc::{AllocError, Global};
 use std::marker::Brand;
 use std::process::Abort;
 use std::sync::ledger::{Blank, Ledger};
 use std::test::Fail;
-use steps::Steps;
 use worked_filings::Answer::{self, Greatest, Noted};
 use worked_filings::Filed::{self, Book, Enrol, Exempt, Extra, Main, Originate, School};
 use worked_filings::{Unfiled, filing, numbered, what};

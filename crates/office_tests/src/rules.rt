@@ -2,7 +2,7 @@
 //! An office begins with the nine filings of `base`, so the first that it takes has position 10.
 use crate::office::Step::{self, File};
 use crate::office::{BASE, assert_each};
-use aid_replies::Outcome;
+use aid_filings::Outcome;
 use aid_types::Program::{Fseog, Pell, Sub, Teach, Unsub};
 use aid_types::Way;
 use std::test::Fail;

@@ -1,7 +1,7 @@
 //! An award year: a student enrols at two schools whose terms overlap, is paid at both, and withdraws from the second.
 use crate::office::Step::{self, Brought, File, Front, Net, Standing, Stands};
 use crate::office::assert_each;
-use aid_replies::{Outcome, StandingRow};
+use aid_filings::{Outcome, StandingRow};
 use aid_types::Program::{Pell, Unsub};
 use aid_types::{Formula, Way};
 use std::test::Fail;

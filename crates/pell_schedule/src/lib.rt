@@ -4,7 +4,7 @@
 ghost use Rattle.std.specs.Prelude.{◌≡◌, ◌≤ℤ◌, ℤ};
 ghost use Rattle.aid_types.specs.Ranges.{IsAmount, IsIndex, IsSignedAmount};
 ghost use Rattle.aid_types.specs.declared.application.Application.{Application as AnyApplication};
-ghost use Rattle.sai_index.specs.Household.{IsRisingSchedule};
+ghost use Rattle.sai_parent.specs.Household.{IsRisingSchedule};
 ghost use Rattle.sai_index.specs.Formulas.{formula as formula_at};
 ghost use Rattle.sai_index.specs.Income.{IsRicher};
 ghost use Rattle.sai_index.specs.Index.{index_lines};

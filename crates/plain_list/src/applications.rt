@@ -1,6 +1,6 @@
 //! The application in force, the award that it gives, and with what the newest filing was admitted.
 ghost use Rattle.std.specs.Prelude.{◌≡◌, ◌∷◌, sum};
-ghost use Rattle.aid_replies.specs.declared.reply.Outcome.TheVariants.{Returned};
+ghost use Rattle.aid_filings.specs.declared.reply.Outcome.TheVariants.{Returned};
 ghost use Rattle.office_history.specs.Answer.{indexed, outcome_of};
 ghost use Rattle.office_history.specs.Award.{scheduled as scheduled_award};
 ghost use Rattle.office_history.specs.Net.{sheet as sheet_after};
@@ -10,8 +10,7 @@ ghost use Rattle.office_history.specs.Sheets.{CanBeWorkedOut};
 
 use crate::moved::{Cells, place};
 use crate::plain::Plain;
-use aid_filings::{Filing, What, WithdrawFacts};
-use aid_replies::Outcome;
+use aid_filings::{Filing, Outcome, What, WithdrawFacts};
 use aid_types::{Application, Key, Student, Year};
 use office_answers::{indexed_by_book, returned_outcome};
 use office_history::{OnFile, award};

@@ -6,16 +6,15 @@ ghost use Rattle.office_history.specs.Net.{in_year, net};
 
 use crate::moved::Cells;
 use aid_books::Book;
-use aid_filings::{CalendarFacts, Filing};
-use aid_replies::Outcome;
+use aid_filings::{CalendarFacts, Filing, Outcome};
 use aid_types::{ByProgram, Key, Program, Refusal, School, Student, Term, Year};
 use office_answers::rule_on;
 use office_history::{
     CalendarRow, OnFile, Place, PlaceRow, SchoolRow, SchoolYearRow, StudentRow, TermRow, YearRow,
 };
+use sorted_rows::Steps;
 use std::marker::Model;
 use std::sync::ledger::Ledger;
-use steps::Steps;
 
 /// The filings, the oldest first. A contract sees them newest first. Each is new and breaks no rule on those before it.
 #[derive(Drop)]

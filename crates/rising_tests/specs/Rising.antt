@@ -2,7 +2,7 @@
 use Rattle.std.specs.Prelude.{◌==◌, ⊤, ℕ, Bool, true, false, IsTrue, List, [], ◌∷◌, map, nat_lt, codes, refl, if◌then◌else◌, Option, Some, None, Result, Ok, Err}
 use Rattle.filing_journal.specs.declared.header.Header.{Header}
 use Rattle.kept_list.specs.Scheme.{Scheme, Judging}
-use Rattle.kept_session.specs.Texts.{Texts}
+use Rattle.kept_list.specs.Texts.{Texts}
 
 -- numbers, the newest first, and how many more there is room for
 pub record Numbers : Type 0 where

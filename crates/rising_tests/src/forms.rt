@@ -2,7 +2,7 @@
 ghost use Rattle.std.specs.Prelude.{◌≡◌, ◌≤◌, length};
 
 use crate::Rising;
-use kept_session::{Forms, Rows};
+use kept_list::{Forms, Rows};
 use std::alloc::{AllocError, Global};
 use std::vec::IntoIter;
 

@@ -1,6 +1,6 @@
 // The entry that a number may add.
 use crate::Rising;
-use kept_desks::OwnDocket;
+use kept_list::OwnDocket;
 
 impl OwnDocket for Rising {
     ghost use Rattle.std.specs.Prelude.{Some};

@@ -1,10 +1,10 @@
 // Numbers that rise, as a docket.
 ghost use Rattle.std.specs.Prelude.{◌≡◌};
 
+use aid_edges::Room;
 use filing_journal::Header;
 use kept_list::{Added, Docket, Judged, TakeFault};
 use kept_session::Report;
-use payload::Room;
 use std::alloc::{AllocError, Global};
 use std::marker::Model;
 

@@ -3,9 +3,8 @@
 use crate::{AllNumbers, ByteForms, BytesLeft, Rising};
 use aid_edges::MemorySink;
 use disk_model::{DiskStop, Fill, MemoryDisk};
-use kept_list::OpenError;
-use kept_rounds::file_planned;
-use kept_session::{FileStop, Forms, SessionStop, open, write_report};
+use kept_list::{Forms, OpenError};
+use kept_session::{FileStop, SessionStop, file_planned, open, write_report};
 use std::alloc::Global;
 use std::process::Abort;
 use std::test::Fail;

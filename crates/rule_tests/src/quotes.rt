@@ -1,7 +1,6 @@
 //! Worked quotes: a Scheduled Award of 7,395 dollars, and a school with two terms and 12 full-time credits.
 use aid_types::{Breaks, ByProgram, Day, Program, School, Student, Term, Year};
-use filing_rules::Facts;
-use pell_quote::quote;
+use filing_rules::{Facts, quote};
 use std::process::Abort;
 
 #[test]

@@ -3,7 +3,7 @@ use aid_edges::{MemorySink, MemorySource, Source, SteadySource};
 use disk_model::{DiskStop, Fill, MemoryDisk};
 use fund_policy::{Rule, level, quarter, standard};
 use kept_session::INPUT_LIMIT;
-use office_runs::run;
+use run_office::run;
 use std::alloc::{AllocError, Global};
 use std::test::Fail;
 

@@ -1,9 +1,8 @@
 // What many desks do at once: two that pay one student, in either order, and one that ends early.
 use crate::commands::{BOTH, disk, ran};
-use aid_edges::{MemorySink, SteadySource};
+use aid_edges::{HoldGate, MemorySink, SteadySource};
 use disk_model::MemoryDisk;
-use kept_desks::HoldGate;
-use office_desks::{DeskInput, run_desks};
+use run_office::{DeskInput, run_desks};
 use std::alloc::Global;
 use std::process::Abort;
 use std::sync::Wait;

@@ -1,19 +1,18 @@
 // What the web desk writes on connections in memory: a worked row, a port that fails, and two ports in either order.
 ghost use Rattle.std.specs.Prelude.{◌≡◌, ◌<◌, IfOk};
-ghost use Rattle.kept_web.specs.Ports.{IsUnused};
+ghost use Rattle.web_edges.specs.Ports.{IsUnused};
 
 use crate::commands::{EMPTY, disk, ran};
-use aid_edges::MemorySink;
+use aid_edges::{HoldGate, MemorySink};
 use disk_model::MemoryDisk;
-use kept_desks::HoldGate;
-use kept_web::{GatedPort, MemoryPort, Port, WebDesk};
-use office_web::{OfficeWebDesk, run_web};
+use kept_web::WebDesk;
+use run_web::{OfficeWebDesk, run_web};
 use std::alloc::Global;
 use std::process::Abort;
 use std::sync::Wait;
 use std::test::Fail;
 use std::thread::Threads;
-use web_desk::MemoryLink;
+use web_edges::{GatedPort, MemoryLink, MemoryPort, Port};
 
 const FILING: &[u8] =
     b"POST /desks/0/filings HTTP/1.1\r\nHost: localhost\r\nContent-Length: 57\r\n\r\n{\"kind\":\"prior\",\"number\":2,\"student\":5001,\"units\":550000}";

@@ -11,9 +11,9 @@ use Rattle.aid_books.specs.declared.book.Employment.{Employment}
 use Rattle.aid_books.specs.declared.book.Payroll.{Payroll}
 use Rattle.aid_types.specs.declared.award.Formula.{Formula}
 use Rattle.aid_types.specs.declared.award.Formula.TheVariants.{A, B, C}
-use Rattle.sai_index.specs.Household.{IsRisingSchedule, asset_contribution, asset_protection, business_worth, employment_allowance, medicare, oasdi, payroll_allowance, protection_allowance, tax_allowance, total_income}
-use Rattle.sai_index.specs.Lines.{household_lines, parent_lines}
-use Rattle.sai_index.specs.declared.lines.ParentLines.{ParentLines}
+use Rattle.sai_parent.specs.Household.{IsRisingSchedule, asset_contribution, asset_protection, business_worth, employment_allowance, medicare, oasdi, payroll_allowance, protection_allowance, tax_allowance, total_income}
+use Rattle.sai_parent.specs.Lines.{household_lines, parent_lines}
+use Rattle.sai_parent.specs.declared.lines.ParentLines.{ParentLines}
 use Rattle.sai_index.proofs.NearestOrder.{share-rises}
 use Rattle.sai_index.proofs.ScheduleRises.{schedule_value-rises}
 use Rattle.sai_index.specs.Formulas.{formula}

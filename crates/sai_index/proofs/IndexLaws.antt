@@ -5,10 +5,10 @@ use Rattle.aid_types.specs.declared.application.Application.{Application}
 use Rattle.aid_books.specs.declared.book.Book.{Book}
 use Rattle.aid_types.specs.declared.award.Formula.{Formula}
 use Rattle.aid_types.specs.declared.award.Formula.TheVariants.{A, B, C}
-use Rattle.sai_index.specs.Household.{employment_allowance}
-use Rattle.sai_index.specs.Lines.{parent_lines}
-use Rattle.sai_index.specs.declared.lines.ParentLines.{ParentLines}
-use Rattle.sai_index.proofs.LinesLaws.{assessed_lines-are, assessed_lines-only, household_lines-are, household_lines-only, parent_lines-are, parent_lines-only}
+use Rattle.sai_parent.specs.Household.{employment_allowance}
+use Rattle.sai_parent.specs.Lines.{parent_lines}
+use Rattle.sai_parent.specs.declared.lines.ParentLines.{ParentLines}
+use Rattle.sai_parent.proofs.LinesLaws.{assessed_lines-are, assessed_lines-only, household_lines-are, household_lines-only, parent_lines-are, parent_lines-only}
 use Rattle.sai_index.specs.Formulas.{formula}
 use Rattle.sai_index.specs.Index.{AreDependentLines, AreFamilyLines, AreIndexLines, AreLinesOf, AreSingleLines, age, bounded, dependent_lines, employment_if_married, family_lines, family_protection, income_contribution, index_lines, lines_of, shortfall, single_lines, single_or_married}
 use Rattle.sai_index.specs.Indices.{index_of, raw_index}

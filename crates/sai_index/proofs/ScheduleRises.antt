@@ -13,7 +13,7 @@ use Rattle.aid_num.specs.Nearest.{half_up, share}
 use Rattle.aid_books.specs.Marginal.{IsBracket, IsMarginal, goes_on, row_at, row_value, value_at}
 use Rattle.aid_books.specs.declared.book.Book.{Book}
 use Rattle.aid_books.specs.declared.marginal.Bracket.{Bracket}
-use Rattle.sai_index.specs.Household.{IsRisingSchedule, schedule_value}
+use Rattle.sai_parent.specs.Household.{IsRisingSchedule, schedule_value}
 use Rattle.sai_index.proofs.NearestOrder.{share-rises}
 
 lt_from_test : (x y : ℤ) → int_lt x y ≡ true → x <ℤ y

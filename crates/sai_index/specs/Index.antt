@@ -6,9 +6,9 @@ use Rattle.aid_types.specs.declared.application.Application.{Application}
 use Rattle.aid_books.specs.declared.book.Book.{Book}
 use Rattle.aid_types.specs.declared.award.Formula.{Formula}
 use Rattle.aid_types.specs.declared.award.Formula.TheVariants.{A, B, C}
-use Rattle.sai_index.specs.Household.{employment_allowance, payroll_allowance, protection_allowance, tax_allowance, total_income}
-use Rattle.sai_index.specs.Lines.{AreHouseholdLines, AreParentLines, IsAssessed, IsNotAssessed, assessed_lines, household_lines, parent_lines}
-use Rattle.sai_index.specs.declared.lines.ParentLines.{ParentLines}
+use Rattle.sai_parent.specs.Household.{employment_allowance, payroll_allowance, protection_allowance, tax_allowance, total_income}
+use Rattle.sai_parent.specs.Lines.{AreHouseholdLines, AreParentLines, IsAssessed, IsNotAssessed, assessed_lines, household_lines, parent_lines}
+use Rattle.sai_parent.specs.declared.lines.ParentLines.{ParentLines}
 use Rattle.sai_index.specs.Formulas.{formula}
 use Rattle.sai_index.specs.declared.IndexLines.{IndexLines}
 

@@ -8,7 +8,7 @@ use Rattle.aid_books.specs.declared.book.Book.{Book}
 use Rattle.aid_types.specs.declared.award.Formula.{Formula}
 use Rattle.aid_types.specs.declared.award.Formula.TheVariants.{A, B, C}
 use Rattle.sai_index.specs.Formulas.{formula}
-use Rattle.sai_index.specs.Household.{asset_contribution, asset_protection, business_worth, employment_allowance, payroll_allowance, protection_allowance, schedule_value, tax_allowance, total_income}
+use Rattle.sai_parent.specs.Household.{asset_contribution, asset_protection, business_worth, employment_allowance, payroll_allowance, protection_allowance, schedule_value, tax_allowance, total_income}
 use Rattle.sai_index.specs.Index.{age, bounded, employment_if_married, family_protection, income_contribution, single_or_married}
 
 -- a household's available income: its total income less the allowances for taxes, for living and for employment

@@ -1,29 +1,23 @@
-//! The lines of need analysis, the formula of an application, whether it fits the book, and the index (HEA 475 to 478, 480).
+//! The student's lines, the formula of an application, whether it fits the book, and the index (HEA 475 to 478, 480).
 #![tactic(auto)]
 
-ghost use Rattle.std.specs.Prelude.{◌≡◌, ◌≤ℤ◌, ◌↔◌, IsNone};
 ghost use Rattle.aid_types.specs.Ranges.{IsIndex};
 ghost use Rattle.aid_types.specs.declared.application.Application.{Application as AnyApplication};
-ghost use Rattle.sai_index.specs.Household.{IsRisingSchedule};
-ghost use Rattle.sai_index.specs.Income.{IsRicher};
+ghost use Rattle.aid_types.specs.declared.award.Formula.TheVariants.{A, B, C};
 ghost use Rattle.sai_index.specs.Fits.{FitsBook, is_size as is_size_of, size_for as size_for_of, unfit};
 ghost use Rattle.sai_index.specs.Formulas.{formula, is_independent as is_independent_of};
+ghost use Rattle.sai_index.specs.Income.{IsRicher};
 ghost use Rattle.sai_index.specs.Index.{AreIndexLines, bounded as bounded_of, index_lines, indexed as indexed_of, lines_of};
 ghost use Rattle.sai_index.specs.Indices.{index_of};
 ghost use Rattle.sai_index.specs.declared.IndexLines.{IndexLines as Lines};
-ghost use Rattle.aid_types.specs.declared.award.Formula.TheVariants.{A, B, C};
+ghost use Rattle.sai_parent.specs.Household.{IsRisingSchedule};
+ghost use Rattle.std.specs.Prelude.{◌≡◌, ◌≤ℤ◌, ◌↔◌, IsNone};
 
-mod household;
-mod lines;
 mod student;
 
 use aid_books::Book;
 use aid_types::{Application, Formula, Refusal};
-pub use household::{
-    asset_contribution, asset_protection, business_worth, employment_allowance, payroll_allowance,
-    schedule_value, tax_allowance, total_income,
-};
-pub use lines::{ParentLines, assessed, income_and_assets, parents};
+use sai_parent::{ParentLines, parents};
 use student::{dependent, family, income_contribution, no_lines, single};
 
 /// The lines of an application under its formula, in dollars. `parent` is all 0 outside formula A, and `own` has the

@@ -15,11 +15,13 @@ ghost use Rattle.sai_index.specs.Index.{
   single_or_married as single_or_married_of,
 };
 
-use crate::household::{employment_allowance, payroll_allowance, tax_allowance, total_income};
-use crate::lines::{ParentLines, assessed, income_and_assets};
 use aid_books::Book;
 use aid_num::share;
 use aid_types::Application;
+use sai_parent::{
+    ParentLines, assessed, employment_allowance, income_and_assets, payroll_allowance,
+    tax_allowance, total_income,
+};
 
 /// The contribution from a student's available income (HEA 475(g), 476(b)).
 #[tactic(auto, unfolding(crate::specs::Index::income_contribution))]

@@ -2,12 +2,12 @@
 ghost use Rattle.std.specs.Prelude.{◌≡◌, None, IfOk};
 
 use disk_model::MemoryDisk;
-use kept_desks::{RowName, SharedList};
-use kept_list::KeptList;
+use kept_desks::SharedList;
+use kept_list::{KeptList, RowName};
 use kept_office::FiledOffice;
 use kept_web::serve_desk;
 use office_lock::Turns;
-use office_web::OfficeTexts;
+use run_web::OfficeTexts;
 use std::alloc::Global;
 use std::io::{Read, Write};
 use std::net::{Ipv4Addr, Shutdown, TcpListener, TcpStream};

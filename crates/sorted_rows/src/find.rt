@@ -4,10 +4,10 @@ ghost use Rattle.std.specs.List.Sorted.{IsStrictlySortedBy};
 ghost use Rattle.std.specs.Map.{keys_of};
 ghost use Rattle.sorted_rows.specs.Places.{IsAfterSmaller, IsGap, IsHere, value_at};
 
+use crate::Steps;
 use crate::search::search;
 use std::cmp::Ordering;
 use std::sync::ledger::{Blank, Ledger};
-use steps::Steps;
 
 /// The value of the row with a key.
 pub(crate) fn find<K: Ord + Copy, V: Copy, L: Ledger>(

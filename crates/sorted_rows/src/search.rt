@@ -2,9 +2,9 @@
 ghost use Rattle.std.specs.Prelude.{◌≡◌, ◌+◌, ◌-◌, ◌*◌, ◌^◌, ◌≤◌, length, IfOk, IfErr};
 ghost use Rattle.sorted_rows.specs.Places.{IsHere, IsGap};
 
+use crate::Steps;
 use std::cmp::Ordering;
 use std::sync::ledger::Ledger;
-use steps::Steps;
 
 /// The place of the row with the key, or the place where such a row would go. Each look at a row is one step.
 pub(crate) fn search<K: Ord, V, L: Ledger>(

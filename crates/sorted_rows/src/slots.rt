@@ -4,11 +4,11 @@ ghost use Rattle.std.specs.List.{slice_get};
 ghost use Rattle.std.specs.Option.{is_none, option_copied};
 ghost use Rattle.sorted_rows.specs.Places.{AreStaying, IsHere, IsWritten, value_at};
 
+use crate::Steps;
 use crate::table::Table;
 use std::alloc::{AllocError, Global};
 use std::marker::Model;
 use std::sync::ledger::Ledger;
-use steps::Steps;
 
 /// Rows of a key and a value, no key twice, that stay where they were put: a row's slot is its number from 0 in the order
 /// in which the keys came. Only the slots are sorted by key, so a row may be long. A contract sees the list of the rows,

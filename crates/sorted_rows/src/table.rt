@@ -3,12 +3,12 @@ ghost use Rattle.std.specs.Prelude.{◌≡◌, ◌+◌, ◌*◌, ◌<◌, ◌≤
 ghost use Rattle.std.specs.Option.{is_none};
 ghost use Rattle.sorted_rows.specs.Places.{IsWritten, tail_looks, value_at};
 
+use crate::Steps;
 use crate::find::{find, find_uncounted};
 use crate::write::{add, write};
 use std::alloc::{AllocError, Global};
 use std::marker::{Brand, Model};
 use std::sync::ledger::{Blank, Ledger};
-use steps::Steps;
 
 /// The tail is merged into the main rows when it has so many rows at the latest.
 pub(crate) const TAIL_SIZE: usize = 1024;

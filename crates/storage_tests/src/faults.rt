@@ -3,7 +3,7 @@
 use crate::offices::{
     BOTH, PRIOR, SCHOOL, THIRD, THIRD_AGAIN, UNDECIDED, ask, disk, founded, opened,
 };
-use aid_replies::Reply;
+use aid_filings::Reply;
 use disk_model::{Disk, DiskStop, Fill, MemoryDisk};
 use kept_office::{KeptOffice, OpenError};
 use std::alloc::Global;

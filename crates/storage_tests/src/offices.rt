@@ -1,6 +1,5 @@
 //! What no clause says of kept offices: worked rows, the answers to named files, and stops in the middle of a turn.
-use aid_filings::{Filing, PriorFacts, SchoolFacts, What};
-use aid_replies::{Ask, Outcome, Reply};
+use aid_filings::{Ask, Filing, Outcome, PriorFacts, Reply, SchoolFacts, What};
 use aid_types::{Key, Refusal, School, Student};
 use disk_model::{Disk, DiskStop, Fill, MemoryDisk};
 use kept_office::{FoundFault, KeptOffice, OpenError};

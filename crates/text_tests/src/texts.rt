@@ -1,11 +1,9 @@
 //! What rows say and how lines are written.
-use aid_filings::Filing;
-use aid_replies::{Outcome, Verdict};
+use aid_filings::{Filing, Outcome, Verdict};
 use aid_types::{Formula, Refusal, Way};
-use desk_forms::{Cause, RowError, Rows, put_error, put_fine, put_tally};
+use desk_forms::{Cause, RowError, Rows, put_answer, put_error, put_fine, put_quote, put_tally};
 use filing_numbers::numbers_in;
 use itoa::Buffer;
-use reply_lines::{put_answer, put_quote};
 use std::alloc::{AllocError, Global};
 use std::process::Abort;
 use std::test::Fail;

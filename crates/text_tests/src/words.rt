@@ -1,6 +1,6 @@
 //! Which rows of words are commands.
 use fund_policy::{Policies, Rule, level, quarter, standard};
-use office_words::{Command, FundRequest, ReportRequest, command_of};
+use run_words::{Command, FundRequest, ReportRequest, command_of};
 use std::alloc::{AllocError, Global};
 use std::process::Abort;
 use std::test::Fail;

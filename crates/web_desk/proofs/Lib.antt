@@ -4,9 +4,7 @@ pub mod EndWalk
 pub mod HeadLines
 pub mod Joined
 pub mod LookLemmas
-pub mod PieceReads
 pub mod Reached
 pub mod RouteLemmas
-pub mod Sent
 pub mod SessionLemmas
 pub mod Steps

@@ -4,7 +4,7 @@ use Rattle.std.proofs.lemmas.List.{drop-append-le}
 use Rattle.web_desk.specs.Asks.{Request}
 use Rattle.web_desk.specs.Ends.{has_begun}
 use Rattle.web_desk.specs.Responses.{Answer}
-use Rattle.web_desk.specs.Telling.{AppendsFront}
+use Rattle.web_edges.specs.LinkTelling.{AppendsFront}
 use Rattle.web_desk.specs.Exchange.{Judge, Sized, Told, more, bad, whole, told, response_to, rejection_of, end_of, requests, requests_by, Ending, ending, ending_by, responses, written, Run, IsExchange, IsFront, Serves, IsGoing, IsAnswered, IsHalfAnswered, IsUntouched, request_at}
 use Rattle.std.specs.Prelude.{Option, MatchOption}
 use Rattle.web_desk.specs.declared.head.Head.{Head}

@@ -4,7 +4,7 @@ use Rattle.std.specs.Prelude.{◌≡◌, ◌+◌, ℕ, suc, zero, true, if◌the
 use Rattle.web_desk.specs.Ends.{has_begun, head_end}
 use Rattle.web_desk.specs.Responses.{Answer, response_of, failure_of}
 use Rattle.web_desk.specs.Asks.{Request}
-use Rattle.web_desk.specs.Telling.{IsPrefix}
+use Rattle.web_edges.specs.LinkTelling.{IsPrefix}
 use Rattle.web_desk.specs.declared.head.Head.{Head}
 use Rattle.web_desk.specs.declared.status.Status.{Status}
 use Rattle.web_desk.specs.declared.status.Status.TheVariants.{HeadTooLarge}

@@ -4,8 +4,6 @@ pub mod Ends
 pub mod Exchange
 pub mod Found
 pub mod Heads
-pub mod Kept
 pub mod Looks
 pub mod Responses
 pub mod Statuses
-pub mod Telling

@@ -1,18 +1,19 @@
 //! What the link brings of the next request.
 ghost use Rattle.std.specs.Prelude.{◌≡◌, ◌≤◌, ◌++◌, [], List, ℕ, length, take, IfOk, OnOk, IsErrOf};
 ghost use Rattle.aid_edges.specs.Faults.{Rose};
-ghost use Rattle.web_desk.specs.Telling.{IsHonest, IsPrefix};
+ghost use Rattle.web_edges.specs.LinkTelling.{IsHonest, IsPrefix};
 ghost use Rattle.web_desk.specs.Calls.{the_routes};
 ghost use Rattle.web_desk.specs.Heads.{IsJudge};
 ghost use Rattle.web_desk.specs.Exchange.{Judge, told, told_body};
 ghost use Rattle.web_desk.specs.Looks.{LookFits, IsBad, IsMore, told_of};
 
+use crate::Status;
 use crate::call::Route;
 use crate::head::{Head, read_head};
 use crate::pieces::{Found, await_bytes, find_head};
 use crate::stop::Stop;
-use crate::{Link, Status};
 use matchit::Router;
+use web_edges::Link;
 
 /// What the link brought of the next request.
 #[derive(Clone, Copy, Debug, PartialEq, Eq)]

@@ -1,12 +1,12 @@
 //! What a link brings, piece by piece.
 ghost use Rattle.std.specs.Prelude.{◌≡◌, ◌++◌, ◌<◌, ◌≤◌, [], true, false, length, take, IfOk, OnOk, IsErrOf};
 ghost use Rattle.aid_edges.specs.Faults.{Rose};
-ghost use Rattle.web_desk.specs.Telling.{IsHonest, IsPrefix};
+ghost use Rattle.web_edges.specs.LinkTelling.{IsHonest, IsPrefix};
 ghost use Rattle.web_desk.specs.Found.{HasGrown, FindsIn};
 
-use crate::Link;
 use crate::scan::Scan;
 use crate::stop::Stop;
+use web_edges::Link;
 
 const PIECE: usize = 4096;
 

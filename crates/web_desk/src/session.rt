@@ -1,7 +1,7 @@
 //! The session.
 ghost use Rattle.std.specs.Prelude.{◌≡◌, ◌⊎◌, ◌++◌, ◌+◌, ◌≤◌, ℕ, suc, length, drop, take, OnOk, OnErr, IfOk, MatchOption, Some, IsErrOf, List};
 ghost use Rattle.aid_edges.specs.Faults.{Rose};
-ghost use Rattle.web_desk.specs.Telling.{IsHonest, AppendsFront};
+ghost use Rattle.web_edges.specs.LinkTelling.{IsHonest, AppendsFront};
 ghost use Rattle.web_desk.specs.Ends.{has_begun};
 ghost use Rattle.web_desk.specs.Calls.{the_routes};
 ghost use Rattle.web_desk.specs.Heads.{IsJudge};
@@ -11,13 +11,13 @@ ghost use Rattle.web_desk.specs.Exchange.{Judge, told, whole, request_at, reject
 
 use crate::call::{Call, Route, routes};
 use crate::head::Head;
-use crate::link::write_all;
 use crate::look::{Look, next_look};
 use crate::response::{Answer, failure};
 use crate::stop::Stop;
-use crate::{Clerk, End, Forms, Link, Status};
+use crate::{Clerk, End, Forms, Status};
 use matchit::Router;
 use std::alloc::{AllocError, Global};
+use web_edges::{Link, write_all};
 
 /// A session has at most so many requests.
 const REQUEST_LIMIT: u32 = 10_000;

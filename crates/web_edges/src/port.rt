@@ -1,57 +1,37 @@
-//! The connections that come to a listener.
-ghost use Rattle.std.specs.Prelude.{◌≡◌, false};
+//! What connections come from.
+ghost use Rattle.std.specs.Prelude.{◌≡◌, ◌≤◌, ℕ, IfOk, OnOk, OnErr};
+ghost use Rattle.aid_edges.specs.Faults.{Rose};
+ghost use Rattle.web_edges.specs.Ports.{PortTelling, IsHonestPort, HandsOut, TakesBack};
 
-use crate::SocketEdge;
+use crate::Link;
 use aid_edges::Failed;
-use kept_web::Port;
-use std::io::ErrorKind;
-use std::net::TcpListener;
 
-/// So many connections in a row that their peers gave up before they were taken are passed over.
-const GIVEN_UP: u32 = 1_000;
+/// What connections come from. Each is handed out, and taken back once it was served. Where they are served one after the
+/// other, the k-th that is taken back is the k-th that was handed out.
+pub trait Port {
+    /// A connection.
+    type Link: Link;
 
-/// The connections that come to a listener, with a count of its faults. Several ports may take them from one listener.
-#[derive(Drop)]
-pub struct PortEdge<'a> {
-    listener: &'a TcpListener,
-    faults: u64,
-}
+    /// What the port tells of itself. Of one that isn't honest, nothing is known but its count of faults.
+    ghost tells: { Self → PortTelling };
 
-impl<'a> PortEdge<'a> {
-    /// The port of a listener.
-    pub fn new(listener: &'a TcpListener) -> Self
-        ensures silent { (⟦<PortEdge<'a> as Port>⟧.tells result).honest ≡ false }
-        ensures no_faults { ⟦<PortEdge<'a> as Port>⟧.faults result ≡ 0 }
-    {
-        PortEdge {
-            listener,
-            faults: 0,
-        }
-    }
-}
+    /// How often a call has failed. At the end of its type the count stands still.
+    ghost faults: { Self → ℕ };
 
-impl<'a> Port for PortEdge<'a> {
-    ghost use Rattle.kept_web.specs.Ports.{silent_port};
+    /// The next connection, on which nothing was written and no call has failed. It may wait for one.
+    fn next(&mut self) -> Result<Self::Link, Failed>
+        ensures honest { (tells self.new).honest ≡ (tells self.old).honest }
+        ensures unused { IfOk result (λ link. Self.Link.faults link ≡ 0) }
+        ensures handed { IsHonestPort (tells self.old) → IfOk result (λ link. HandsOut (tells self.old) (tells self.new) (Self.Link.tells link)) }
+        ensures failed { IsHonestPort (tells self.old) → OnErr result (tells self.new ≡ tells self.old) }
+        ensures later { faults self.old ≤ faults self.new }
+        ensures cause { OnErr result (Rose (faults self.old) (faults self.new)) }
+        ensures unmoved { OnOk result (faults self.new ≡ faults self.old) };
 
-    type Link = SocketEdge;
-
-    ghost tells = { λ _. silent_port };
-
-    ghost faults = { λ p. p.faults };
-
-    fn next(&mut self) -> Result<SocketEdge, Failed> {
-        for _ in 0..GIVEN_UP {
-            match self.listener.accept() {
-                Ok((stream, _)) => return Ok(SocketEdge::new(stream)),
-                Err(error) if error.kind() == ErrorKind::ConnectionAborted => {}
-                Err(_) => break,
-            }
-        }
-        self.faults = self.faults.saturating_add(1);
-        Err(Failed)
-    }
-
-    fn done(&mut self, link: SocketEdge) {
-        link.close();
-    }
+    /// Takes a connection back.
+    fn done(&mut self, link: Self::Link)
+        requires out { IsHonestPort (tells self.old) → 1 ≤ (tells self.old).out }
+        ensures honest { (tells self.new).honest ≡ (tells self.old).honest }
+        ensures taken { IsHonestPort (tells self.old) → TakesBack (tells self.old) (tells self.new) (record { text = (Self.Link.tells link).text; faults = Self.Link.faults link }) }
+        ensures unmoved { faults self.new ≡ faults self.old };
 }

@@ -2,12 +2,12 @@
 ghost use Rattle.std.specs.Prelude.{◌≡◌, ◌≤◌, false, length, IfOk};
 ghost use Rattle.aid_edges.specs.Faults.{Rose};
 
+use crate::Link;
 use aid_edges::Failed;
 use std::io;
 use std::io::{ErrorKind, Read, Write};
 use std::net::{Shutdown, TcpStream};
 use std::time::Duration;
-use web_desk::Link;
 
 /// So many seconds a read or a write waits for the peer.
 const SECONDS: u64 = 30;

@@ -3,12 +3,12 @@ use Rattle.std.proofs.Common.{◌≡◌, ℕ, ℤ, pos, Bool, true, false, List,
 use Rattle.std.specs.Prelude.{◌&&◌, if◌then◌else◌, option_and_then, option_map}
 use Rattle.serde_json.specs.Data.{Data}
 use Rattle.aid_filings.specs.declared.filing.Filing.{Filing}
-use Rattle.aid_replies.specs.declared.reply.Ask.TheVariants.{File}
+use Rattle.aid_filings.specs.declared.reply.Ask.TheVariants.{File}
 use Rattle.filing_kinds.specs.Kinds.{slots_of_kind}
 use Rattle.filing_kinds.specs.declared.kind.Kind.{Kind}
 use Rattle.filing_numbers.specs.Numbers.{kind_of, numbers_of}
-use Rattle.desk_bodies.specs.Filings.{are_numbers, fields_of, filing_by_fields, filing_in, filing_of_body, filing_of_kind, has_bodies, keys_of, kind_in, said, within}
-use Rattle.desk_bodies.specs.Values.{has_exactly, numbers_said, value_of}
+use Rattle.web_forms.specs.Bodies.{are_numbers, fields_of, filing_by_fields, filing_in, filing_of_body, filing_of_kind, has_bodies, keys_of, kind_in, said, within}
+use Rattle.web_forms.specs.Values.{has_exactly, numbers_said, value_of}
 use Rattle.web_forms.specs.Filings.{filing_with}
 use Rattle.web_forms.proofs.FilingLemmas.{filing_again}
 

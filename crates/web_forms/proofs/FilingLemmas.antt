@@ -22,7 +22,7 @@ use Rattle.aid_filings.specs.declared.filing.What.{What}
 use Rattle.aid_filings.specs.declared.filing.What.TheVariants.{Book, School, Calendar, Prior, Apply, Enrol, Originate, Pay, Withdraw, Repay, Adjust}
 use Rattle.aid_filings.specs.declared.filing.WithdrawFacts.{WithdrawFacts}
 use Rattle.aid_filings.proofs.SameFiling.{amount_parts, amount_whole, calendar_facts_parts, calendar_facts_whole, enrol_facts_parts, enrol_facts_whole, originate_facts_parts, originate_facts_whole, school_facts_parts, school_facts_whole, withdraw_facts_parts, withdraw_facts_whole}
-use Rattle.desk_bodies.specs.Filings.{has_bodies, said}
+use Rattle.web_forms.specs.Bodies.{has_bodies, said}
 use Rattle.filing_numbers.specs.Numbers.{amount_numbers, application_numbers, break_days, day_number, facts_of, flag_number, key_numbers, kind_of, region_number, side_numbers}
 use Rattle.filing_numbers.specs.Parts.{calendar_numbers, enrol_numbers, originate_numbers, school_numbers, withdraw_numbers}
 use Rattle.web_forms.specs.Brought.{brought_stays, capped_stays, amount_stays, signed_stays, cents_stay}

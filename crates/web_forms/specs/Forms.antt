@@ -1,14 +1,14 @@
 -- What the office is asked by a request, where a body is read for a filing alone, and how its replies are told: by a status
 -- (RFC 9110, 15; RFC 4918, 11) and a JSON body. Own format.
 use Rattle.std.specs.Prelude.{ℕ, ◌+◌, ◌-◌, ◌^◌, min, List, Option, Some, option_map, option_and_then}
-use Rattle.aid_replies.specs.declared.reply.Ask.{Ask}
-use Rattle.aid_replies.specs.declared.reply.Ask.TheVariants as asks
-use Rattle.aid_replies.specs.declared.reply.Reply.{Reply}
-use Rattle.aid_replies.specs.declared.reply.Reply.TheVariants.{Accepted, Again, Refused, Quoted, Standing, DiskFault, NoMemory}
-use Rattle.aid_replies.specs.declared.reply.Verdict.{Verdict}
-use Rattle.aid_replies.specs.declared.reply.Verdict.TheVariants as verdicts
-use Rattle.desk_bodies.specs.Filings.{filing_of_body}
-use Rattle.desk_bodies.specs.Replies.{reply_body}
+use Rattle.aid_filings.specs.declared.reply.Ask.{Ask}
+use Rattle.aid_filings.specs.declared.reply.Ask.TheVariants as asks
+use Rattle.aid_filings.specs.declared.reply.Reply.{Reply}
+use Rattle.aid_filings.specs.declared.reply.Reply.TheVariants.{Accepted, Again, Refused, Quoted, Standing, DiskFault, NoMemory}
+use Rattle.aid_filings.specs.declared.reply.Verdict.{Verdict}
+use Rattle.aid_filings.specs.declared.reply.Verdict.TheVariants as verdicts
+use Rattle.web_forms.specs.Bodies.{filing_of_body}
+use Rattle.web_forms.specs.Replies.{reply_body}
 use Rattle.kept_list.specs.declared.reply.ListReply.{ListReply}
 use Rattle.kept_list.specs.declared.reply.ListReply.TheVariants as replies
 use Rattle.web_desk.specs.declared.call.Call.{Call}

@@ -1,13 +1,13 @@
 //! What a request asks of the office.
 ghost use Rattle.std.specs.Prelude.{◌≡◌, IfOk, option_and_then, option_map};
-ghost use Rattle.aid_replies.specs.declared.reply.Ask.{Ask as AskData};
-ghost use Rattle.desk_bodies.specs.Filings.{filing_of_body};
+ghost use Rattle.aid_filings.specs.declared.reply.Ask.{Ask as AskData};
+ghost use Rattle.web_forms.specs.Bodies.{filing_of_body};
 ghost use Rattle.web_forms.specs.Filings.{filing_with};
 ghost use Rattle.web_forms.specs.Forms.{ask_in};
 
-use aid_replies::Ask;
+use crate::{BodyError, filing_of};
+use aid_filings::Ask;
 use aid_types::School;
-use desk_bodies::{BodyError, filing_of};
 use std::alloc::{AllocError, Global};
 use web_desk::Call;
 

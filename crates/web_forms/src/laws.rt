@@ -1,9 +1,9 @@
 //! What follows from the definitions alone, said of no call. The functions do nothing.
 ghost use Rattle.std.specs.Prelude.{◌≡◌, ◌+◌, ◌<◌, ◌^◌, ℕ, true, Option, Some};
 ghost use Rattle.aid_filings.specs.declared.filing.Filing.{Filing};
-ghost use Rattle.aid_replies.specs.declared.reply.Outcome.{Outcome};
-ghost use Rattle.aid_replies.specs.declared.reply.Verdict.{Verdict};
-ghost use Rattle.desk_bodies.specs.Filings.{has_bodies, said};
+ghost use Rattle.aid_filings.specs.declared.reply.Outcome.{Outcome};
+ghost use Rattle.aid_filings.specs.declared.reply.Verdict.{Verdict};
+ghost use Rattle.web_forms.specs.Bodies.{has_bodies, said};
 ghost use Rattle.filing_numbers.specs.Numbers.{kind_of};
 ghost use Rattle.kept_list.specs.declared.reply.ListReply.{ListReply};
 ghost use Rattle.web_desk.specs.declared.status.Status.{Status};

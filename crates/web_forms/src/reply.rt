@@ -2,8 +2,8 @@
 ghost use Rattle.std.specs.Prelude.{◌≡◌, IfOk};
 ghost use Rattle.web_forms.specs.Forms.{answer_status as answer_status_for, place_behind as place_behind_in, reply_for, status_for, text_for, verdict_reply as verdict_reply_for};
 
-use aid_replies::{Reply, Verdict};
-use desk_bodies::body_of;
+use crate::body_of;
+use aid_filings::{Reply, Verdict};
 use kept_list::ListReply;
 use std::alloc::{AllocError, Global};
 use web_desk::Status;

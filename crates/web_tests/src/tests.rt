@@ -4,7 +4,8 @@ use aid_edges::Failed;
 use std::alloc::Global;
 use std::process::Abort;
 use std::test::Fail;
-use web_desk::{End, Link, MemoryLink, serve};
+use web_desk::{End, serve};
+use web_edges::{Link, MemoryLink};
 
 const FILING: &[u8] =
     b"POST /desks/0/filings HTTP/1.1\r\nHost: localhost\r\nContent-Length: 57\r\n\r\n{\"kind\":\"prior\",\"number\":2,\"student\":5001,\"units\":550000}";

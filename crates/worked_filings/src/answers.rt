@@ -1,5 +1,5 @@
 //! The answers that rows want.
-use aid_replies::{Outcome, Verdict};
+use aid_filings::{Outcome, Verdict};
 use aid_types::{Formula, Refusal, Way};
 
 /// What a row is answered, amounts in cents and awards in dollars.

@@ -1,7 +1,7 @@
 use Rattle.std.proofs.Common.{refl, arith, lit≤, ap, ◌∙◌}
 use Rattle.std.proofs.lemmas.Int.{ints}
 use Rattle.aid_types.specs.declared.award.Formula.TheVariants.{A}
-use Rattle.sai_index.proofs.Sums.{answer, plus}
+use Rattle.sai_parent.proofs.Sums.{answer, plus}
 use Rattle.sai_index.specs.Index.{dependent_lines, income_contribution, indexed}
 use Rattle.sai_index.proofs.dependent_index.Goals as goal
 

@@ -1,6 +1,6 @@
 use Rattle.std.proofs.Common.{rules, ◌≡◌, ◌<◌, ◌^◌, ◌∙◌, w32, to_z, of_z, arith}
 use Rattle.std.specs.Int.Signed.{mag}
-use Rattle.reply_lines.proofs.LinesLemmas.{signed_decimal-whole_text}
+use Rattle.aid_num.proofs.SignedText.{signed_decimal-whole_text}
 use Rattle.aid_reports.proofs.columns.put_whole.Goals as goal
 
 pub returns : goal.returns

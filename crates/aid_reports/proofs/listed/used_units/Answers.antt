@@ -1,5 +1,5 @@
 use Rattle.std.proofs.Common.{ap, ◌∙◌}
-use Rattle.aid_replies.specs.declared.reply.StandingRow.{StandingRow}
+use Rattle.aid_filings.specs.declared.reply.StandingRow.{StandingRow}
 use Rattle.aid_reports.proofs.Standing.{standing_used}
 use Rattle.aid_reports.proofs.listed.used_units.Goals as goal
 

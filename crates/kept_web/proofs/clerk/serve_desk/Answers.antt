@@ -1,6 +1,6 @@
 use Rattle.std.proofs.Common.{◌∙◌, ap, subst}
 use Rattle.web_desk.specs.Exchange.{Serves}
-use Rattle.kept_desks.specs.declared.names.Filed.{Filed}
+use Rattle.kept_list.specs.declared.names.Filed.{Filed}
 use Rattle.office_lock.specs.Passes.{Known}
 use Rattle.kept_web.specs.Clerks.{PassAnswers, PassReaches}
 use Rattle.kept_web.proofs.Reached.{clerk_is, same_pass}

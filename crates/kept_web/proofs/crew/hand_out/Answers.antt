@@ -1,7 +1,7 @@
 use Rattle.std.proofs.Common.{ap}
 use Rattle.office_lock.specs.Passes.{Known}
 use Rattle.kept_desks.proofs.Gathering.{fresh_part}
-use Rattle.kept_desks.specs.declared.names.Filed.{Filed}
+use Rattle.kept_list.specs.declared.names.Filed.{Filed}
 use Rattle.kept_web.proofs.crew.hand_out.Goals as goal
 
 pub returns-clause-ready : goal.returns-clause-ready

@@ -2,7 +2,7 @@ use Rattle.std.proofs.Common.{sym, ap, ◌∙◌, Some}
 use Rattle.std.specs.Option.{option_copied}
 use Rattle.aid_filings.specs.declared.filing.Filing.{Filing}
 use Rattle.aid_filings.proofs.SameFiling.{tells_filing}
-use Rattle.aid_replies.specs.declared.reply.Verdict.TheVariants.{Again}
+use Rattle.aid_filings.specs.declared.reply.Verdict.TheVariants.{Again}
 use Rattle.office_answers.proofs.Judged.{answer_again, position_within}
 use Rattle.office_answers.proofs.verdicts.answer.Goals as goal
 

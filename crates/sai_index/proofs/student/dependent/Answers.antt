@@ -2,7 +2,7 @@ use Rattle.std.proofs.Common.{◌≡◌, pos, refl, sym, subst, arith, lit<, lit
 use Rattle.std.proofs.lemmas.Int.{ints}
 use Rattle.aid_num.specs.Nearest.{share}
 use Rattle.aid_num.proofs.Machine.{machine}
-use Rattle.sai_index.proofs.Sums.{amount, answer, minus, minus_fits, no_greater, plus}
+use Rattle.sai_parent.proofs.Sums.{amount, answer, minus, minus_fits, no_greater, plus}
 use Rattle.sai_index.specs.Index.{AreDependentLines, dependent_lines}
 use Rattle.sai_index.proofs.IndexLaws.{dependent_lines-are}
 use Rattle.sai_index.proofs.student.dependent.Goals as goal

@@ -1,7 +1,7 @@
 use Rattle.std.proofs.Common.{w64, arith, lit<, ap, ◌∙◌}
 use Rattle.std.proofs.lemmas.Int.{ints, to_z-of_z}
 use Rattle.aid_num.proofs.Machine.{machine}
-use Rattle.sai_index.specs.Lines.{assessed_lines, household_lines}
+use Rattle.sai_parent.specs.Lines.{assessed_lines, household_lines}
 use Rattle.sai_index.proofs.student.family.Goals as goal
 
 pub returns-clause-value : goal.returns-clause-value

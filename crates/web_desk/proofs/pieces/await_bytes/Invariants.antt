@@ -1,5 +1,5 @@
 use Rattle.std.proofs.Common.{◌≡◌, ◌≤◌, ◌-◌, ◌++◌, length}
-use Rattle.web_desk.specs.Telling.{IsHonest, IsPrefix}
+use Rattle.web_edges.specs.LinkTelling.{IsHonest, IsPrefix}
 use Rattle.web_desk.proofs.pieces.await_bytes.Given as goal
 
 abbrev pub invariant-loop-link : goal.invariant-loop-link

@@ -1,5 +1,5 @@
 use Rattle.std.proofs.Common.{◌≡◌, ◌≤◌, ◌-◌, ◌++◌, length, take}
-use Rattle.web_desk.specs.Telling.{IsHonest}
+use Rattle.web_edges.specs.LinkTelling.{IsHonest}
 use Rattle.web_desk.specs.Ends.{IsScanned}
 use Rattle.web_desk.proofs.pieces.find_head.Given as goal
 

@@ -1,7 +1,7 @@
 use Rattle.std.proofs.Common.{◌∙◌, ◌++◌, sym, ap, subst, refl, true, false}
 use Rattle.web_desk.specs.Asks.{Answers, IsAsked}
 use Rattle.web_desk.specs.Looks.{IsMore, told_of}
-use Rattle.web_desk.specs.Telling.{AppendsFront}
+use Rattle.web_edges.specs.LinkTelling.{AppendsFront}
 use Rattle.web_desk.specs.Ends.{has_begun}
 use Rattle.web_desk.specs.Exchange.{rejection_of}
 use Rattle.web_desk.proofs.Reached.{reach_none}

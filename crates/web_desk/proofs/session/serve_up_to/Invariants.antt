@@ -1,7 +1,7 @@
 use Rattle.std.proofs.Common.{◌≡◌, ◌≤◌, ◌++◌}
 use Rattle.web_desk.specs.Asks.{Answers, IsAsked, Reaches}
 use Rattle.web_desk.specs.Heads.{IsJudge}
-use Rattle.web_desk.specs.Telling.{IsHonest}
+use Rattle.web_edges.specs.LinkTelling.{IsHonest}
 use Rattle.web_desk.specs.Exchange.{Judge, IsGoing}
 use Rattle.web_desk.proofs.session.serve_up_to.Given as goal
 

@@ -3,17 +3,17 @@ use Rattle.std.proofs.lemmas.List.{reverse-append}
 use Rattle.std.specs.Option.{option_copied}
 use Rattle.aid_filings.specs.declared.filing.Filing.{Filing}
 use Rattle.office_core.specs.Index.{IndexRows, IsIndexed}
-use Rattle.office_links.specs.Links.{AreLinked}
+use Rattle.office_walks.specs.Links.{AreLinked}
 use Rattle.office_core.specs.Register.{Register}
-use Rattle.office_links.specs.declared.links.Link.{Link}
+use Rattle.office_walks.specs.declared.links.Link.{Link}
 use Rattle.office_core.proofs.IndexGrown.{AreRows, HaveOneMore, few_left, index_grown, linkable, places_left, room_left}
 use Rattle.office_core.proofs.RowsWritten.{placed_there, places_after, school_years_after, years_after}
 use Rattle.office_core.proofs.RowsFound.{place_before, school_year_before, student_before, year_before}
 use Rattle.office_core.specs.Index.{AreSchoolYears, AreStudents, AreYears, position_of, student_or}
 use Rattle.office_history.specs.Past.{key_at}
 use Rattle.office_core.specs.declared.entries.StudentEntry.{StudentEntry}
-use Rattle.office_links.specs.Placed.{ArePlaces}
-use Rattle.office_rows.specs.Changed.{IsPlaceBefore, student_changed}
+use Rattle.office_walks.specs.Placed.{ArePlaces}
+use Rattle.office_changes.specs.Changed.{IsPlaceBefore, student_changed}
 use Rattle.office_core.proofs.indexed.Indexed.admit.Goals as goal
 
 pub rows_after-written-requires-clause-place : goal.rows_after-written-requires-clause-place

@@ -1,6 +1,6 @@
 use Rattle.std.proofs.Common.{◌≡◌, ◌+◌, ◌-◌, ◌<◌, List, length, get_or, ap, ◌∙◌, arith}
-use Rattle.aid_replies.specs.declared.reply.Outcome.{Outcome}
-use Rattle.aid_replies.specs.declared.reply.Outcome.TheVariants.{Noted}
+use Rattle.aid_filings.specs.declared.reply.Outcome.{Outcome}
+use Rattle.aid_filings.specs.declared.reply.Outcome.TheVariants.{Noted}
 use Rattle.office_history.specs.Answer.{outcome_at}
 use Rattle.office_core.specs.Register.{Register, outcomes_of}
 use Rattle.office_core.proofs.OnRecord.{as_many, on_record}

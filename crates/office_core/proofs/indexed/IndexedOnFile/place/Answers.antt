@@ -3,7 +3,7 @@ use Rattle.office_core.specs.Digits.{digits_of}
 use Rattle.office_core.specs.Register.{Register}
 use Rattle.office_core.proofs.Digits.{few_looks}
 use Rattle.office_history.specs.Rows.{place_row}
-use Rattle.office_links.specs.Placed.{place_or}
+use Rattle.office_walks.specs.Placed.{place_or}
 use Rattle.office_core.proofs.indexed.IndexedOnFile.place.Goals as goal
 
 pub returns-clause-cost : goal.returns-clause-cost

@@ -1,6 +1,6 @@
 use Rattle.std.proofs.Common.{◌≡◌, List, subst, sym, ap, ◌∙◌, true}
 use Rattle.aid_filings.specs.declared.filing.Filing.{Filing}
-use Rattle.aid_replies.specs.declared.reply.Verdict.TheVariants.{Admit}
+use Rattle.aid_filings.specs.declared.reply.Verdict.TheVariants.{Admit}
 use Rattle.office_history.specs.Answer.{answer_of, is_admit, outcome_of}
 use Rattle.office_history.proofs.Admitted.{admitted_is, admitted_legal}
 use Rattle.office_core.specs.Register.{Register}

@@ -1,6 +1,6 @@
 use Rattle.std.proofs.Common.{◌≡◌, List, sym, subst, ap, ◌∙◌}
 use Rattle.aid_filings.specs.declared.filing.Filing.{Filing}
-use Rattle.aid_replies.specs.declared.reply.StandingRow.{StandingRow}
+use Rattle.aid_filings.specs.declared.reply.StandingRow.{StandingRow}
 use Rattle.office_history.specs.Answer.{IsLegal, standing_of}
 use Rattle.office_core.specs.Register.{Register}
 use Rattle.office_core.proofs.Unpaid.{unpaid}

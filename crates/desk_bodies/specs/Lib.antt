@@ -1,4 +1,0 @@
-pub mod Drafts
-pub mod Filings
-pub mod Replies
-pub mod Values

@@ -1,4 +1,0 @@
-pub mod Asks
-pub mod Planned
-pub mod Counted
-pub mod Fronts

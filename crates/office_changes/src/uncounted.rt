@@ -1,0 +1,114 @@
+//! What is on file, asked where no looks are counted.
+ghost use Rattle.std.specs.Prelude.{◌≡◌, ◌<◌};
+ghost use Rattle.office_history.specs.Rows.{place_row, school_row, school_year_row, term_row};
+
+use aid_types::{School, Student, Year};
+use office_history::{OnFile, PlaceRow, SchoolRow, SchoolYearRow, TermRow};
+use sorted_rows::Steps;
+use std::marker::Brand;
+use std::sync::ledger::{Blank, Ledger};
+
+// A count of looks that nobody reads.
+fn blank_steps<L: Ledger>(blank: Blank) -> Steps<L>
+    requires name { blank.name ≡ L.name }
+    requires parts { blank.parts ≡ L.parts }
+    requires some { 0 < blank.parts }
+{
+    Steps::<L>::new(blank)
+}
+
+fn term_on<P: OnFile, L: Ledger>(
+    past: &P,
+    school: School,
+    year: Year,
+    number: u8,
+    blank: Blank,
+) -> (SchoolRow, TermRow)
+    requires name { blank.name ≡ L.name }
+    requires parts { blank.parts ≡ L.parts }
+    requires some { 0 < blank.parts }
+    ensures school { result.0 ≡ school_row (P.history past.now) school }
+    ensures term { result.1 ≡ term_row (P.history past.now) school year number }
+{
+    past.term(school, year, number, &mut blank_steps::<L>(blank))
+}
+
+/// A school with its term of a year and a number.
+pub fn term_of<P: OnFile>(past: &P, school: School, year: Year, number: u8) -> (SchoolRow, TermRow)
+    ensures school { result.0 ≡ school_row (P.history past.now) school }
+    ensures term { result.1 ≡ term_row (P.history past.now) school year number }
+{
+    term_on::<P, Brand>(past, school, year, number, Blank::new(1))
+}
+
+fn place_on<P: OnFile, L: Ledger>(
+    past: &P,
+    school: School,
+    student: Student,
+    year: Year,
+    number: u8,
+    blank: Blank,
+) -> PlaceRow
+    requires name { blank.name ≡ L.name }
+    requires parts { blank.parts ≡ L.parts }
+    requires some { 0 < blank.parts }
+    ensures { result ≡ place_row (P.history past.now) school student year number }
+{
+    past.place(school, student, year, number, &mut blank_steps::<L>(blank))
+}
+
+/// A student's term at a school.
+pub fn place_of<P: OnFile>(
+    past: &P,
+    school: School,
+    student: Student,
+    year: Year,
+    number: u8,
+) -> PlaceRow
+    ensures { result ≡ place_row (P.history past.now) school student year number }
+{
+    place_on::<P, Brand>(past, school, student, year, number, Blank::new(1))
+}
+
+fn school_on<P: OnFile, L: Ledger>(past: &P, code: u32, blank: Blank) -> SchoolRow
+    requires name { blank.name ≡ L.name }
+    requires parts { blank.parts ≡ L.parts }
+    requires some { 0 < blank.parts }
+    ensures { result ≡ school_row (P.history past.now) code }
+{
+    past.school(code, &mut blank_steps::<L>(blank))
+}
+
+/// The school with a code.
+pub fn school_of<P: OnFile>(past: &P, code: u32) -> SchoolRow
+    ensures { result ≡ school_row (P.history past.now) code }
+{
+    school_on::<P, Brand>(past, code, Blank::new(1))
+}
+
+fn school_year_on<P: OnFile, L: Ledger>(
+    past: &P,
+    school: School,
+    student: Student,
+    year: Year,
+    blank: Blank,
+) -> SchoolYearRow
+    requires name { blank.name ≡ L.name }
+    requires parts { blank.parts ≡ L.parts }
+    requires some { 0 < blank.parts }
+    ensures { result ≡ school_year_row (P.history past.now) school student year }
+{
+    past.school_year(school, student, year, &mut blank_steps::<L>(blank))
+}
+
+/// A student's year at a school.
+pub fn school_year_of<P: OnFile>(
+    past: &P,
+    school: School,
+    student: Student,
+    year: Year,
+) -> SchoolYearRow
+    ensures { result ≡ school_year_row (P.history past.now) school student year }
+{
+    school_year_on::<P, Brand>(past, school, student, year, Blank::new(1))
+}

@@ -1,7 +1,0 @@
-use Rattle.std.proofs.Common.{take, ◌+◌}
-use Rattle.office_desks.specs.DeskTexts.{admitted_text}
-use Rattle.run_ends.specs.Puts.{HasPut}
-use Rattle.office_desks.proofs.desk_lines.put_filings.Given as goal
-
-abbrev pub invariant-loop-i : goal.invariant-loop-i
-invariant-loop-i g l = HasPut g.K.Sink (admitted_text (l.front + 1) (take l.i l.rows)) l.fn.out l.out

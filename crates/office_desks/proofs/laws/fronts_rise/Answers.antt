@@ -1,5 +1,0 @@
-use Rattle.office_desks.proofs.Named.{fronts_rising}
-use Rattle.office_desks.proofs.laws.fronts_rise.Goals as goal
-
-pub returns : goal.returns
-returns c opening before after own i j a le lt = fronts_rising opening before after own i j a le lt

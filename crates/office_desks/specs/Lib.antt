@@ -1,3 +1,0 @@
-pub mod DeskTexts
-pub mod DesksDone
-pub mod RanDesks

@@ -1,6 +1,0 @@
-use Rattle.office_runs.specs.Ran as run
-use Rattle.office_runs.specs.Ran.{ChecksBook}
-use Rattle.office_runs.proofs.checks.check_book.Goals as goal
-
-pub returns-clause-checks : goal.returns-clause-checks
-returns-clause-checks g c = rw c.ended_checking.ensures (run.looked_at c.check.result c.check.ensures.checks)

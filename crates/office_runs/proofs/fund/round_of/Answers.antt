@@ -1,9 +1,0 @@
-use Rattle.office_runs.proofs.Awarding.{same_round}
-use Rattle.office_runs.specs.Rounds.{round_of}
-use Rattle.std.proofs.Common.{refl}
-use Rattle.office_runs.proofs.fund.round_of.Goals as goal
-
-pub returns : goal.returns
-returns c =
-    same_round (record { school = c.args.fund.school; year = c.args.fund.year; term = c.args.fund.term; amount = c.args.fund.amount; number = c.args.fund.number; in_range = _ })
-    (round_of c.args.fund) refl refl refl refl refl

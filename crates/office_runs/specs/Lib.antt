@@ -1,4 +1,0 @@
-pub mod Moments
-pub mod Ran
-pub mod Rounds
-pub mod Texts

@@ -1,0 +1,105 @@
+-- Of each term of a school, and of each first enrolment of a student in a term, where the one before it stands; and the links of
+-- enrolments.
+use Rattle.std.specs.Prelude.{◌≡◌, ℕ, ◌+◌, ◌==◌, ◌&&◌, Bool, true, false, List, [], ◌∷◌, ◌++◌, length, reverse, Some, is_some, not, if◌then◌else◌}
+use Rattle.std.specs.List.{list_any, slice_get}
+use Rattle.aid_filings.specs.declared.filing.EnrolFacts.{EnrolFacts}
+use Rattle.aid_filings.specs.declared.filing.Filing.{Filing}
+use Rattle.aid_filings.specs.declared.filing.What.{What}
+use Rattle.aid_filings.specs.declared.filing.What.TheVariants.{Calendar, Enrol}
+use Rattle.office_history.specs.Answer.{IsLegal}
+use Rattle.office_history.specs.Positions.{school_at, term_at}
+use Rattle.office_history.specs.Past.{at_school, credits_in}
+use Rattle.office_history.specs.Rows.{is_enrolment}
+use Rattle.office_history.specs.declared.rows.PlaceRow.{PlaceRow}
+use Rattle.office_walks.specs.declared.links.Link.{Link}
+use Rattle.office_history.specs.declared.names.StudentPlace.{StudentPlace}
+use Rattle.office_history.specs.Names.{place_name}
+
+-- what is filed is a term
+abbrev pub is_calendar : What → Bool
+is_calendar (Calendar c) = true
+is_calendar _ = false
+
+-- a term of a school, and an enrolment of a student
+abbrev pub is_term_of : ℕ → Filing → Bool
+is_term_of school f = if f.key.school == school then is_calendar f.what else false
+
+abbrev pub is_enrolled : ℕ → Filing → Bool
+is_enrolled student f = is_enrolment student f.what
+
+-- a filing enrols the student in the term at the school
+abbrev pub enrols_in : ℕ → ℕ → ℕ → ℕ → Filing → Bool
+enrols_in school student year term f = is_some (at_school school (credits_in student year term) f)
+
+-- an enrolment after these filings is the student's first in its term at the school
+abbrev pub is_first : List Filing → ℕ → EnrolFacts → Bool
+is_first past school e = not (list_any (enrols_in school e.student e.year e.term) past)
+
+abbrev pub is_first_in : ℕ → List Filing → ℕ → What → Bool
+is_first_in student past school (Enrol e) = e.student == student && is_first past school e
+is_first_in student past school _ = false
+
+abbrev pub is_first_of : ℕ → List Filing → Filing → Bool
+is_first_of student past f = is_first_in student past f.key.school f.what
+
+-- the position of the newest filing that passes after those before it, 0 where there is none
+abbrev pub last_at : (List Filing → Filing → Bool) → List Filing → ℕ
+last_at p [] = 0
+last_at p (f ∷ past) = if p past f then length past + 1 else last_at p past
+
+-- that of a school's newest term, and that of the newest of a student's first enrolments
+abbrev pub newest_term : List Filing → ℕ → ℕ
+newest_term past school = last_at (λ older. is_term_of school) past
+
+abbrev pub newest_place : List Filing → ℕ → ℕ
+newest_place past student = last_at (is_first_of student) past
+
+-- the filings that pass, the newest first
+abbrev pub passing : (List Filing → Filing → Bool) → List Filing → List Filing
+passing p [] = []
+passing p (f ∷ past) = if p past f then f ∷ passing p past else passing p past
+
+-- the first enrolments of a student, and how many there are: in so many terms at schools the student is enrolled
+abbrev pub first_enrolments : List Filing → ℕ → List Filing
+first_enrolments past student = passing (is_first_of student) past
+
+abbrev pub places_of : List Filing → ℕ → ℕ
+places_of past student = length (first_enrolments past student)
+
+-- where the one before a filing stands: the term before it of the same school, and of the first enrolment in a term the one
+-- before it of the same student
+abbrev pub before_in : List Filing → ℕ → What → ℕ
+before_in past school (Calendar c) = newest_term past school
+before_in past school (Enrol e) = if is_first past school e then newest_place past e.student else 0
+before_in past school _ = 0
+
+-- the same of each filing, the oldest first
+abbrev pub befores_of : List Filing → List ℕ
+befores_of [] = []
+befores_of (f ∷ past) = befores_of past ++ before_in past f.key.school f.what ∷ []
+
+-- an enrolment's link tells the slot of its place, and the positions of its school and of its term
+pub record IsPlaced (past : List Filing) (rows : List (StudentPlace × PlaceRow)) (f : Filing) (e : EnrolFacts) (l : Link) : Type 0 where
+  pub row : PlaceRow
+  pub slot : slice_get rows l.slot ≡ Some (place_name f.key.school e, row)
+  pub school : l.school_at ≡ school_at past f.key.school
+  pub term : l.term_at ≡ term_at past f.key.school e.year e.term
+
+-- of a history's filings, the oldest first: where the one before each stands, and the link of each
+pub record AreLinked (past : List Filing) (rows : List (StudentPlace × PlaceRow)) (befores : List ℕ) (links : List Link) : Type 0 where
+  pub befores_are : befores ≡ befores_of past
+  pub count : length links ≡ length past
+  pub places : (i : ℕ) (f : Filing) (e : EnrolFacts) (l : Link) → slice_get (reverse past) i ≡ Some f → f.what ≡ Enrol e →
+      slice_get links i ≡ Some l → IsPlaced past rows f e l
+
+-- the link of a filing, where its place's slot, and its school's and its term's positions are these
+abbrev pub link_told : What → ℕ → ℕ → ℕ → Link
+link_told (Enrol e) slot school term = record { slot = slot; school_at = school; term_at = term }
+link_told _ slot school term = record { slot = 0; school_at = 0; term_at = 0 }
+
+-- what is told of a filing that comes legally after others is true of it, and each row has stayed at its slot
+pub record IsLinkable (past : List Filing) (old new : List (StudentPlace × PlaceRow)) (f : Filing) (newest slot school term : ℕ) : Type 0 where
+  pub legal : IsLegal (f ∷ past)
+  pub stays : (i : ℕ) (row : StudentPlace × PlaceRow) → slice_get old i ≡ Some row → (v : PlaceRow) × (slice_get new i ≡ Some (row.0, v))
+  pub before : newest ≡ before_in past f.key.school f.what
+  pub placed : (e : EnrolFacts) → f.what ≡ Enrol e → IsPlaced past new f e (record { slot = slot; school_at = school; term_at = term })

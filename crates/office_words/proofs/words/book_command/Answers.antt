@@ -1,7 +1,0 @@
-use Rattle.std.proofs.Common.{◌∷◌, [], ap, codes}
-use Rattle.office_words.specs.declared.command.Command.TheVariants.{Book}
-use Rattle.office_words.proofs.WordsLemmas.{reads_some}
-use Rattle.office_words.proofs.words.book_command.Goals as goal
-
-pub returns : goal.returns
-returns c = reads_some (codes "book" ∷ c.args.number.now ∷ []) (Book (record { number = c.in_ok-number.number; in_range = _ })) (λ names. (ap (λ w. codes "book" ∷ w ∷ []) c.in_ok-number.ensures.spelled, tt))

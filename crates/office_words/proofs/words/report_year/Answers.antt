@@ -1,5 +1,0 @@
-use Rattle.office_words.proofs.WordsLemmas.{reads_year}
-use Rattle.office_words.proofs.words.report_year.Goals as goal
-
-pub returns : goal.returns
-returns c = reads_year c.args.year.now (record { year = c.in_ok-number_in.field-0; in_range = _ }) c.in_ok-number_in.ensures.spelled

@@ -1,4 +1,0 @@
-pub mod Amounts
-pub mod Greatest
-pub mod LimitLaws
-pub mod Payable

@@ -1,5 +1,0 @@
-use Rattle.plain_filings.proofs.RowLaws.{error_named}
-use Rattle.plain_filings.proofs.rows.row_named.Goals as goal
-
-pub returns : goal.returns
-returns c number row e h = error_named number row e h

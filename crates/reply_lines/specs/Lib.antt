@@ -1,2 +1,0 @@
-pub mod Lines
-pub use Rattle.aid_num.specs.Whole

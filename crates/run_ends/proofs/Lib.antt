@@ -1,2 +1,0 @@
-pub mod EndLaws
-pub mod Putting

@@ -1,8 +1,0 @@
-//! How a run of the program ends: why it stopped, its status, and its last line.
-#![tactic(auto)]
-
-mod ending;
-mod stop;
-
-pub use ending::{WRITE_FAILED, end, end_with, put};
-pub use stop::{RunStop, ended_checking, ended_filing, ended_founding, number_line};

@@ -1,0 +1,79 @@
+-- Rounds of awards: their requests, and what their policies give.
+use Rattle.std.proofs.Common.{◌≡◌, ℕ, ℤ, ◌-◌, List, [], ◌∷◌, Some, Result, sym, subst}
+use Rattle.std.specs.Coded.{le_prop}
+use Rattle.std.specs.List.{slice_get}
+use Rattle.aid_types.proofs.Same.{same_with_fact}
+use Rattle.aid_types.specs.Ranges.{IsBetween}
+use Rattle.aid_filings.specs.declared.filing.Filing.{Filing}
+use Rattle.aid_filings.specs.declared.reply.Ask.{Ask}
+use Rattle.award_rounds.specs.Planned.{IsPlanned}
+use Rattle.award_rounds.specs.declared.request.RoundRequest.{RoundRequest}
+use Rattle.disk_model.specs.declared.disk.Disk.{Ghosts}
+use Rattle.fund_policy.specs.Rounds.{IsRound}
+use Rattle.fund_policy.specs.declared.candidate.Candidate.{Candidate}
+use Rattle.kept_list.specs.Scheme.{Judging, Scheme}
+use Rattle.kept_session.specs.Planned.{Closes, Planned, filed, unopened, unplanned}
+use Rattle.kept_session.specs.Edges.{Output}
+use Rattle.kept_list.specs.Texts.{Texts}
+use Rattle.kept_session.specs.declared.stop.FileStop.{FileStop}
+use Rattle.kept_session.specs.declared.stop.SessionStop.{SessionStop}
+use Rattle.kept_office.specs.Scheme.{office_scheme}
+use Rattle.kept_office.specs.Turns.{office_judging}
+use Rattle.run_office.specs.Rounds.{gives_at, round_plans, round_texts}
+
+-- rounds with the same fields are the same
+pub same_round : (x y : RoundRequest) → x.school ≡ y.school → x.year ≡ y.year → x.term ≡ y.term → x.amount ≡ y.amount → x.number ≡ y.number → x ≡ y
+same_round x y school year term amount number =
+    let P : ℕ × (ℕ × (ℕ × (ℕ × ℕ))) → Type 0 = λ b. IsBetween 1 8 b.1.1.0 × IsBetween 1 999999000000 b.1.1.1.1 in
+    let make : (b : ℕ × (ℕ × (ℕ × (ℕ × ℕ)))) → P b → RoundRequest = λ b p. record { school = b.0; year = b.1.0; term = b.1.1.0; amount = b.1.1.1.0; number = b.1.1.1.1; in_range = p } in
+    same_with_fact P make (λ b. hlevel (le_prop)) (x.school, (x.year, (x.term, (x.amount, x.number)))) (y.school, (y.year, (y.term, (y.amount, y.number)))) x.in_range y.in_range
+    (λ i. (school i, (year i, (term i, (amount i, number i)))))
+
+module _ (gives other : ℕ → ℤ → ℕ → ℕ → Type 0) (also : (need : ℕ) (sai : ℤ) (intensity award : ℕ) → gives need sai intensity award → other need sai intensity award) where
+  -- a round by a policy is one by any that may give as much
+  round_also : (fund : ℕ) (cs : List Candidate) (awards : List ℕ) (left : ℕ) → IsRound gives fund cs awards left → IsRound other fund cs awards left
+  round_also fund [] awards left is = is
+  round_also fund (c ∷ cs) awards left (award, rest, same, (answer, gave, cut), others) =
+      (award, rest, same, (answer, also c.need c.sai c.intensity answer gave, cut), round_also (fund - award) cs rest left others)
+
+  planned_also : (past : List Filing) (r : RoundRequest) (filings : List Filing) (left : ℕ) → IsPlanned gives past r filings left → IsPlanned other past r filings left
+  planned_also past r filings left is = record {
+    candidates = is.candidates;
+    awards = is.awards;
+    are_candidates = is.are_candidates;
+    round = round_also _ is.candidates is.awards left is.round;
+    payments = is.payments;
+  }
+
+  plans_also : (r : RoundRequest) (past : List Filing) (asks : List Ask) (closing : List ℕ) → round_plans gives r past asks closing → round_plans other r past asks closing
+  plans_also r past asks closing (filings, left, is, asked, closed) = (filings, left, planned_also past r filings left is, asked, closed)
+
+-- the same plan, of the same round and history
+pub plans_as : (gives : ℕ → ℤ → ℕ → ℕ → Type 0) (r same : RoundRequest) (past list : List Filing) (asks : List Ask) (closing : List ℕ) → r ≡ same → past ≡ list
+    → round_plans gives r past asks closing → round_plans gives same list asks closing
+plans_as gives r same past list asks closing is at plans =
+    subst (λ (h : List Filing). round_plans gives same h asks closing) at (subst (λ (k : RoundRequest). round_plans gives k past asks closing) is plans)
+
+-- the disk was given back, and the closing text is known by other words
+pub closes_as : {D Entry Ask Verdict Error : Type 0} (disk : Ghosts D) (scheme : Scheme Entry) (judging : Judging Entry Ask Verdict) (texts : Texts Ask Verdict Error) (past : List Entry) (at new given : D) (output : Output)
+    (left : List texts.Meaning) (closing same : List ℕ) (ended : Result Unit FileStop) → given ≡ new → closing ≡ same
+    → Closes disk scheme judging texts past at new output left closing ended → Closes disk scheme judging texts past at given output left same ended
+closes_as disk scheme judging texts past at new given output left closing same ended back is closes =
+    subst (λ (d : _). Closes disk scheme judging texts past at d output left same ended) (sym back)
+    (subst (λ (t : List ℕ). Closes disk scheme judging texts past at new output left t ended) is closes)
+
+-- rows that were planned by one relation were by any that follows from it
+pub planned_by : {D Entry Ask Verdict Error : Type 0} (disk : Ghosts D) (scheme : Scheme Entry) (judging : Judging Entry Ask Verdict) (texts : Texts Ask Verdict Error) (plans other : List Entry → List Ask → List ℕ → Type 0)
+    → ((past : List Entry) (asks : List Ask) (closing : List ℕ) → plans past asks closing → other past asks closing)
+    → (old new : D) (output : Output) (ended : Result Unit SessionStop) → Planned disk scheme judging texts plans old new output ended → Planned disk scheme judging texts other old new output ended
+planned_by disk scheme judging texts plans other also old new output ended (unopened error not same) = unopened error not same
+planned_by disk scheme judging texts plans other also old new output ended (unplanned past is same) = unplanned past is same
+planned_by disk scheme judging texts plans other also old new output ended (filed past at asks closing inner is planned closes) = filed past at asks closing inner is (also past asks closing planned) closes
+
+-- a round by the policy that stands at a place is one by what the policies give
+pub planned_at : {D Policy : Type 0} (disk : Ghosts D) (policies : List Policy) (policy : Policy) (place : ℕ) (gives : Policy → ℕ → ℤ → ℕ → ℕ → Type 0) (r : RoundRequest) (old new : D) (output : Output) (ended : Result Unit SessionStop)
+    → slice_get policies place ≡ Some policy → Planned disk office_scheme office_judging round_texts (round_plans (gives policy) r) old new output ended
+    → Planned disk office_scheme office_judging round_texts (round_plans (gives_at policies gives place) r) old new output ended
+planned_at disk policies policy place gives r old new output ended stands planned =
+    planned_by disk office_scheme office_judging round_texts (round_plans (gives policy) r) (round_plans (gives_at policies gives place) r)
+    (plans_also (gives policy) (gives_at policies gives place) (λ need sai intensity award gave. (policy, stands, gave)) r) old new output ended planned

@@ -1,0 +1,205 @@
+-- Why a command that can be done ends early: an edge failed, or there was no memory.
+use Rattle.std.proofs.Common.{◌≡◌, ◌⊎◌, inl, inr, ℕ, ◌≤◌, List, length, Result, Ok, Err, IsTrue, refl, arith}
+use Rattle.std.proofs.lemmas.Bool.{eq-eqb}
+use Rattle.std.specs.Prelude.{IfErr}
+use Rattle.aid_edges.specs.Faults.{Rose}
+use Rattle.disk_model.specs.Telling.{IsHonest}
+use Rattle.disk_model.specs.declared.disk.Disk.{Ghosts}
+use Rattle.filing_journal.specs.Head.{IsBorn}
+use Rattle.filing_journal.specs.Stands.{IsUnborn}
+use Rattle.filing_journal.specs.declared.opening.OpenError.{OpenError}
+use Rattle.filing_journal.specs.declared.opening.OpenError.TheVariants as opening
+use Rattle.filing_journal.proofs.Unique.{not_unborn}
+use Rattle.kept_list.specs.Faulty.{IsFaultyAt}
+use Rattle.kept_list.specs.Scheme.{Judging, Scheme}
+use Rattle.kept_list.specs.declared.kept.FoundFault.{FoundFault}
+use Rattle.kept_list.specs.declared.kept.FoundFault.TheVariants as fault_of
+use Rattle.kept_office.specs.Scheme.{office_scheme}
+use Rattle.kept_office.specs.Turns.{office_judging}
+use Rattle.desk_forms.specs.Lines.{fine_line}
+use Rattle.kept_session.specs.Counted.{Counted, CountedSession}
+use Rattle.kept_session.specs.Counted as counting
+use Rattle.kept_session.specs.Planned.{Planned}
+use Rattle.kept_session.specs.Planned as planning
+use Rattle.kept_session.specs.Checks.{Checks, LooksAt, Looks}
+use Rattle.kept_session.specs.Checks as looking
+use Rattle.kept_session.specs.Edges.{Input, Output}
+use Rattle.kept_session.specs.Reports.{Reports}
+use Rattle.kept_session.specs.Reports as telling
+use Rattle.kept_session.specs.Sessions.{FoundSession, founded, unsaid, refused, IsNotFounded, IsUnopened, IsUnread, Opens, unopened, opened, Session, unread, read, ended_filing}
+use Rattle.kept_list.specs.Texts.{Texts}
+use Rattle.kept_session.specs.declared.checking.CheckStop.{CheckStop}
+use Rattle.kept_session.specs.declared.checking.CheckTally.{CheckTally}
+use Rattle.kept_session.specs.declared.stop.FileStop.{FileStop}
+use Rattle.kept_session.specs.declared.stop.FileStop.TheVariants as filing_stop
+use Rattle.kept_session.specs.declared.stop.FoundStop.{FoundStop}
+use Rattle.kept_session.specs.declared.stop.FoundStop.TheVariants.{Founding}
+use Rattle.kept_session.specs.declared.stop.ReadStop.{ReadStop}
+use Rattle.kept_session.specs.declared.stop.ReadStop.TheVariants as reading
+use Rattle.kept_session.specs.declared.stop.SessionStop.{SessionStop}
+use Rattle.run_words.specs.declared.command.Command.{Command}
+use Rattle.generated_year.specs.Texts.{rows_of_text, year_texts}
+use Rattle.generated_year.specs.Counted.{year_counted, year_ending}
+use Rattle.generated_year.specs.Payments.{year_judging}
+use Rattle.run_rows.specs.Asks.{book_rows, book_texts, desk_rows, desk_texts, quote_rows, quote_texts}
+use Rattle.run_office.specs.Texts.{no_verdicts, report_text}
+use Rattle.run_office.specs.Rounds.{PolicyAnswers, fund_plans, round_texts}
+use Rattle.run_office.specs.Ran.{CanBeDone, ChecksBook, ChecksRows, Counts, HasCause, Does, founding, filing, booking, quoting, reporting, funding, generating, checking_rows, checking_book, Tallies, tallied, unwritten, starved, stopped, from, up_to}
+use Rattle.aid_edges.specs.declared.sink.Sink.{Ghosts as SinkGhosts}
+use Rattle.kept_runs.specs.Ends.{Ends}
+use Rattle.kept_runs.specs.Ends as ending
+use Rattle.run_office.specs.Ran as run
+use Rattle.kept_runs.specs.Statuses.{check_status, ended_check, ended_file, ended_found, found_status, open_status, read_status, status_of}
+use Rattle.kept_runs.specs.declared.stop.RunStop.{RunStop}
+use Rattle.kept_runs.proofs.EndLaws.{disk_cause, read_cause}
+
+-- the statuses of a fault of an edge, and of want of memory
+abbrev pub IsExcused : ℕ → Type 0
+IsExcused status = (status ≡ 3) ⊎ ((status ≡ 4) ⊎ ((status ≡ 5) ⊎ (status ≡ 9)))
+
+-- a founding in an unborn file
+not_founded_by : {D Entry : Type 0} (disk : Ghosts D) (scheme : Scheme Entry) (old new : D) (fault : FoundFault) → IsNotFounded disk scheme fault old new → IsHonest (disk.tells old)
+    → IsUnborn (disk.tells old).reads → IsExcused (found_status (Founding fault))
+not_founded_by disk scheme old new fault_of.Exists n honest unborn = absurd (not_unborn scheme.header (disk.tells old).reads (n.exists honest refl).0 unborn)
+not_founded_by disk scheme old new fault_of.NotJournal n honest unborn = absurd ((n.foreign honest refl).0.not_unborn unborn)
+not_founded_by disk scheme old new fault_of.DiskFault n honest unborn = inr (inr (inl refl))
+not_founded_by disk scheme old new fault_of.NoMemory n honest unborn = inr (inr (inr refl))
+
+founded_by : {D Entry : Type 0} (disk : Ghosts D) (scheme : Scheme Entry) (old new : D) (line : List ℕ) (output : Output) (ended : Result Unit FoundStop) → FoundSession disk scheme old new line output ended
+    → IsHonest (disk.tells old) → IsUnborn (disk.tells old).reads → IfErr (ended_found ended) (λ stop. IsExcused (status_of stop))
+founded_by disk scheme old new line output ended (founded is wrote) honest unborn = tt
+founded_by disk scheme old new line output ended (unsaid is wrote) honest unborn = inr (inl refl)
+founded_by disk scheme old new line output ended (refused fault n same) honest unborn = not_founded_by disk scheme old new fault n honest unborn
+
+-- the reading of an input that isn't too long
+unread_by : (stop : ReadStop) (limit : ℕ) (input : Input) → IsUnread stop limit input → IsTrue input.honest → length input.before ≤ limit → IsExcused (read_status stop)
+unread_by reading.Read limit input is honest short = inl refl
+unread_by reading.TooLong limit input is honest short = absurd (omega (arith, is honest, short))
+unread_by reading.NoMemory limit input is honest short = inr (inr (inr refl))
+
+-- a session over a born file that isn't damaged
+module _ {D Entry : Type 0} (disk : Ghosts D) (scheme : Scheme Entry) (old new : D) (honest : IsHonest (disk.tells old)) (born : IsBorn scheme.header (disk.tells old).reads) (whole : (place : ℕ) → IsFaultyAt scheme (disk.tells old).reads place → ⊥) where
+  unopened_by : (error : OpenError) → IsUnopened disk scheme error old new → IsExcused (open_status error)
+  unopened_by opening.NoOffice u = absurd (not_unborn scheme.header (disk.tells old).reads born (u.unborn honest refl))
+  unopened_by opening.NotJournal u = absurd ((u.foreign honest refl).not_born born)
+  unopened_by (opening.Damaged place) u = absurd (whole place (u.damaged honest place refl).1)
+  unopened_by opening.DiskFault u = inr (inr (inl refl))
+  unopened_by opening.NoMemory u = inr (inr (inr refl))
+
+  filed_by : (ended : Result Unit FileStop) → IfErr (ended_file (ended_filing ended)) (λ stop. IsExcused (status_of stop))
+  filed_by (Ok done) = tt
+  filed_by (Err filing_stop.Write) = inr (inl refl)
+  filed_by (Err (filing_stop.DiskFault undecided)) = inr (inr (inl refl))
+  filed_by (Err filing_stop.NoMemory) = inr (inr (inr refl))
+
+  reported_by : (text : List Entry → List ℕ) (output : Output) (ended : Result Unit SessionStop) → Reports disk scheme text old new output ended → IfErr (ended_file ended) (λ stop. IsExcused (status_of stop))
+  reported_by text output ended (telling.unopened error u same) = unopened_by error u
+  reported_by text output ended (telling.told past is wrote) = tt
+  reported_by text output ended (telling.unwritten past is cut) = inr (inl refl)
+  reported_by text output ended (telling.starved past is same) = inr (inr (inr refl))
+
+  module _ {Ask Verdict Error : Type 0} (judging : Judging Entry Ask Verdict) (texts : Texts Ask Verdict Error) (output : Output) where
+    module _ {Tally : Type 0} (counts : Tally → Verdict → Tally) (ending : Tally → List ℕ) (start : Tally) where
+      counted_by : (left : List texts.Meaning) (ended : Result Unit SessionStop) → Counted disk scheme judging texts counts ending start old new output left ended
+          → IfErr (ended_file ended) (λ stop. IsExcused (status_of stop))
+      counted_by left ended (counting.unopened error u same) = unopened_by error u
+      counted_by left ended (counting.ended past at final error is counts wrote) = tt
+      counted_by left ended (counting.unwritten past at final error is counts cut) = inr (inl refl)
+      counted_by left ended (counting.untold past at final error is counts same) = inr (inr (inr refl))
+      counted_by left ended (counting.stopped past at final stop is counts same) = filed_by (Err stop)
+
+      counted_session_by : (rows_of : List ℕ → List texts.Meaning) (limit : ℕ) (input : Input) (ended : Result Unit SessionStop)
+          → CountedSession disk scheme judging texts counts ending start rows_of limit old new input output ended
+          → IsTrue input.honest → length input.before ≤ limit → IfErr (ended_file ended) (λ stop. IsExcused (status_of stop))
+      counted_session_by rows_of limit input ended (counting.unread stop is same silent) source short = unread_by stop limit input is source short
+      counted_session_by rows_of limit input ended (counting.read left inner is are counts) source short = counted_by left inner counts
+
+    planned_by : (plans : List Entry → List Ask → List ℕ → Type 0) (ended : Result Unit SessionStop) → Planned disk scheme judging texts plans old new output ended
+        → IfErr (ended_file ended) (λ stop. IsExcused (status_of stop))
+    planned_by plans ended (planning.unopened error u same) = unopened_by error u
+    planned_by plans ended (planning.unplanned past is same) = inr (inr (inr refl))
+    planned_by plans ended (planning.filed past at asks closing inner is planned closes) = filed_by inner
+
+    opened_by : (left : List texts.Meaning) (ended : Result Unit SessionStop) → Opens disk scheme judging texts old new output left ended
+        → IfErr (ended_file ended) (λ stop. IsExcused (status_of stop))
+    opened_by left ended (unopened error u same) = unopened_by error u
+    opened_by left ended (opened past now at inner is takes) = filed_by inner
+
+    session_by : (rows_of : List ℕ → List texts.Meaning) (limit : ℕ) (input : Input) (ended : Result Unit SessionStop) → Session disk scheme judging texts rows_of limit old new input output ended
+        → IsTrue input.honest → length input.before ≤ limit → IfErr (ended_file ended) (λ stop. IsExcused (status_of stop))
+    session_by rows_of limit input ended (unread stop is same silent) source short = unread_by stop limit input is source short
+    session_by rows_of limit input ended (read left inner is are opens) source short = opened_by left inner opens
+
+-- rows that are looked at
+looked_by : {Ask Verdict Error : Type 0} (texts : Texts Ask Verdict Error) (fine : ℕ → List ℕ) (output : Output) (rows : List (Result Ask Error)) (ended : Result CheckTally CheckStop)
+    → Looks texts fine output rows ended → IfErr ended (λ stop. IsExcused (check_status stop))
+looked_by texts fine output rows ended (looking.all _ tally wrote counts errors) = tt
+looked_by texts fine output rows ended (looking.unwritten front row wrote) = inr (inl refl)
+looked_by texts fine output rows ended (looking.starved front wrote) = inr (inr (inr refl))
+
+checked_by : {Ask Verdict Error : Type 0} (texts : Texts Ask Verdict Error) (rows_of : List ℕ → List texts.Meaning) (fine : ℕ → List ℕ) (limit : ℕ) (input : Input) (output : Output) (ended : Result CheckTally CheckStop)
+    → Checks texts rows_of fine limit input output ended → IsTrue input.honest → length input.before ≤ limit → IfErr ended (λ stop. IsExcused (check_status stop))
+checked_by texts rows_of fine limit input output ended (looking.unread stop is same) source short = unread_by stop limit input is source short
+checked_by texts rows_of fine limit input output ended (looking.read left inner is are looks) source short = looked_by texts fine output looks.rows inner looks.looks
+
+tallied_by : (output : Output) (checked : Result CheckTally CheckStop) (ended : Result Unit RunStop) → Tallies output checked ended
+    → IfErr checked (λ stop. IsExcused (check_status stop)) → IfErr ended (λ stop. IsExcused (status_of stop))
+tallied_by output checked ended (tallied tally wrote) by = tt
+tallied_by output checked ended (unwritten tally cut) by = inr (inl refl)
+tallied_by output checked ended (starved tally same) by = inr (inr (inr refl))
+tallied_by output checked ended (stopped stop same) by = by
+
+check_ended_by : (checked : Result CheckTally CheckStop) → IfErr checked (λ stop. IsExcused (check_status stop)) → IfErr (ended_check checked) (λ stop. IsExcused (status_of stop))
+check_ended_by (Ok tally) by = tt
+check_ended_by (Err stop) by = by
+
+rows_by : (input : Input) (output : Output) (ended : Result Unit RunStop) → ChecksRows input output ended → IsTrue input.honest → length input.before ≤ 16777216 → IfErr ended (λ stop. IsExcused (status_of stop))
+rows_by input output ended (run.looked_at text checked _ checks tallies) source short =
+    tallied_by (from text output) checked ended tallies (checked_by desk_texts desk_rows fine_line 16777216 input (up_to text output) checked checks source short)
+
+book_by : (input : Input) (output : Output) (ended : Result Unit RunStop) → ChecksBook input output ended → IsTrue input.honest → length input.before ≤ 16777216 → IfErr ended (λ stop. IsExcused (status_of stop))
+book_by input output ended (run.looked_at checked checks) source short = check_ended_by checked (checked_by book_texts (book_rows 1) fine_line 16777216 input output checked checks source short)
+
+-- a command that can be done
+done_by : {D : Type 0} (gives : PolicyAnswers) (disk : Ghosts D) (old new : D) (input : Input) (output : Output) (command : Command) (ended : Result Unit RunStop) → Does gives disk old new input output command ended
+    → CanBeDone command input.honest (length input.before) (disk.tells old) → IfErr ended (λ stop. IsExcused (status_of stop))
+done_by gives disk old new input output command ended (founding inner session) can = founded_by disk office_scheme old new _ output inner session can.0 can.1
+done_by gives disk old new input output command ended (filing inner session) can =
+    session_by disk office_scheme old new can.1.0 can.1.1 can.1.2 office_judging desk_texts output desk_rows 16777216 input inner session can.0.0 can.0.1
+done_by gives disk old new input output command ended (booking book inner session) can =
+    session_by disk office_scheme old new can.1.0 can.1.1 can.1.2 office_judging book_texts output (book_rows book.number) 16777216 input inner session can.0.0 can.0.1
+done_by gives disk old new input output command ended (quoting quote inner opens) can =
+    opened_by disk office_scheme old new can.0 can.1 can.2 office_judging quote_texts output (quote_rows quote) inner opens
+done_by gives disk old new input output command ended (reporting report inner reports) can =
+    reported_by disk office_scheme old new can.0 can.1 can.2 (report_text report) output inner reports
+done_by gives disk old new input output command ended (funding fund inner planned) can =
+    planned_by disk office_scheme old new can.0 can.1 can.2 office_judging round_texts output (fund_plans gives fund) inner planned
+done_by gives disk old new input output command ended (generating generate inner session) can =
+    counted_session_by disk office_scheme old new can.1.0 can.1.1 can.1.2 (year_judging office_judging) year_texts output year_counted year_ending no_verdicts
+    (rows_of_text generate.students generate.seed) 16777216 input inner session can.0.0 can.0.1
+done_by gives disk old new input output command ended (checking_rows _ same checks) can = rows_by input output ended checks can.0 can.1
+done_by gives disk old new input output command ended (checking_book _ same checks) can = book_by input output ended checks can.0 can.1
+
+ends_by : {K : Type 0} (sink : SinkGhosts K) (old new : K) (ended : Result Unit RunStop) (status : ℕ) → Ends sink old new ended status → IfErr ended (λ stop. IsExcused (status_of stop))
+    → (status ≡ 0) ⊎ IsExcused status
+ends_by sink old new ended status (ending.well same) by = inl refl
+ends_by sink old new ended status (ending.stopped stop _ (ending.told put)) by = inr by
+ends_by sink old new ended status (ending.stopped stop _ (ending.untold cut)) by = inr (inr (inl refl))
+
+unfailed : (status : ℕ) (A B C : Type 0) → (status ≡ 0) ⊎ IsExcused status → (status ≡ 3 → A) → (status ≡ 4 → B) → (status ≡ 5 → C) → (A → ⊥) → (B → ⊥) → (C → ⊥) → (status ≡ 0) ⊎ (status ≡ 9)
+unfailed status A B C (inl good) a b c no_a no_b no_c = inl good
+unfailed status A B C (inr (inl three)) a b c no_a no_b no_c = absurd (no_a (a three))
+unfailed status A B C (inr (inr (inl four))) a b c no_a no_b no_c = absurd (no_b (b four))
+unfailed status A B C (inr (inr (inr (inl five)))) a b c no_a no_b no_c = absurd (no_c (c five))
+unfailed status A B C (inr (inr (inr (inr nine)))) a b c no_a no_b no_c = inr nine
+
+-- where no edge failed, a command that can be done is done, or there was no memory
+pub complete : {D K : Type 0} (gives : PolicyAnswers) (disk : Ghosts D) (sink : SinkGhosts K) (counts : Counts) (old new : D) (input : Input) (before : Output) (at out : K) (command : Command) (ended : Result Unit RunStop) (status : ℕ)
+    → Does gives disk old new input before command ended → HasCause counts ended status → Ends sink at out ended status → CanBeDone command input.honest (length input.before) (disk.tells old)
+    → (Rose counts.source.0 counts.source.1 → ⊥) → (Rose counts.sink.0 counts.sink.1 → ⊥) → (Rose counts.disk.0 counts.disk.1 → ⊥) → (status ≡ 0) ⊎ (status ≡ 9)
+complete gives disk sink counts old new input before at out command ended status does cause ends can =
+    unfailed status (Rose counts.source.0 counts.source.1) (Rose counts.sink.0 counts.sink.1) (Rose counts.disk.0 counts.disk.1)
+    (ends_by sink at out ended status ends (done_by gives disk old new input before command ended does can))
+    (λ three. cause.source.rose (read_cause sink at out ended status ends three))
+    (λ four. cause.sink.rose (eq-eqb status 4 four))
+    (λ five. cause.disk.rose (disk_cause sink at out ended status ends five))

@@ -1,0 +1,107 @@
+-- Why a run of desks that can file ends early: an edge failed, or there was no memory.
+use Rattle.std.proofs.Common.{◌≡◌, ◌⊎◌, inl, inr, ℕ, ◌<◌, ◌≤◌, List, length, get_or, refl, sym, ap, ◌∙◌, subst, arith}
+use Rattle.std.specs.Prelude.{codes, sum_by}
+use Rattle.aid_edges.specs.Faults.{Rose}
+use Rattle.aid_edges.specs.declared.source.Source.{Ghosts as SourceGhosts}
+use Rattle.aid_edges.specs.declared.sink.Sink.{Ghosts as SinkGhosts}
+use Rattle.aid_filings.specs.declared.filing.Filing.{Filing}
+use Rattle.disk_model.specs.Telling.{IsHonest}
+use Rattle.disk_model.specs.declared.disk.Disk.{Ghosts}
+use Rattle.filing_journal.proofs.Unique.{not_unborn}
+use Rattle.filing_journal.specs.declared.opening.OpenError.{OpenError}
+use Rattle.filing_journal.specs.declared.opening.OpenError.TheVariants as opening
+use Rattle.kept_desks.specs.Desks.{faults_in}
+use Rattle.kept_list.specs.declared.names.Filed.{Filed}
+use Rattle.kept_office.specs.Scheme.{office_header, office_scheme}
+use Rattle.kept_office.specs.Turns.{asked as filing_asked}
+use Rattle.kept_session.specs.Sessions.{IsUnopened}
+use Rattle.kept_session.specs.declared.stop.ReadStop.{ReadStop}
+use Rattle.kept_session.specs.declared.stop.ReadStop.TheVariants as reading
+use Rattle.office_lock.specs.Turning.{RoseBy}
+use Rattle.office_lock.specs.declared.turned.Stand.{Stand}
+use Rattle.run_office.specs.DeskTexts.{desks_status}
+use Rattle.run_office.specs.DesksDone.{CanFile, NoneRose, disk_faults, faulted_in}
+use Rattle.kept_runs.specs.Ends.{EndsWith, told, untold}
+use Rattle.run_office.specs.RanDesks.{FilesAll, unopened, starved, worked, HasFiled, IsUnreadAt, RanDesks, unasked, unread, read, View}
+use Rattle.kept_runs.specs.Statuses.{open_line, open_status, read_line, read_status}
+use Rattle.run_office.specs.declared.desks.DeskInput.{DeskInput}
+use Rattle.run_office.proofs.Following.{faulted_shown, faults_told, fewer_rose, rose_once, same_sums, status_by_faults}
+use Rattle.run_office.proofs.Reading.{some_of}
+
+-- the disk's count rose by at least the number of desks that ended in a fault of the disk
+pub counted : (start end : Stand (Filed Filing)) (before after : List View) → HasFiled start end before after → RoseBy (faulted_in after) start.faults end.faults
+counted start end before after filed = subst (λ (n : ℕ). RoseBy n start.faults end.faults) (sums ∙ sym (faulted_shown after filed.desks filed.shown)) filed.ran.faults
+  where
+    one : (k : ℕ) (d : View) → k < length filed.desks → faults_in (get_or filed.desks k d).pass ≡ disk_faults (get_or filed.desks k d).ended
+    one k d lt =
+        let own = filed.each k d (omega (arith, lt, filed.count)) in
+        ap faults_in own.has ∙ faults_told filing_asked _ (get_or filed.desks k d).ended own.files.taken own.files.rest own.known own.files.ends
+
+    sums : sum_by (λ (d : View). faults_in d.pass) filed.desks ≡ faulted_in filed.desks
+    sums = same_sums (λ (d : View). faults_in d.pass) (λ (d : View). disk_faults d.ended) filed.desks one
+
+module _ {D S K : Type 0} (disk : Ghosts D) (source : SourceGhosts S) (sink : SinkGhosts K) (old new : D) (inputs inputs' : List (DeskInput S)) (out out' : K)
+    (can : CanFile source inputs (disk.tells old)) (none : NoneRose source inputs inputs') (sink_still : Rose (sink.faults out) (sink.faults out') → ⊥) (disk_still : RoseBy 1 (disk.faults old) (disk.faults new) → ⊥) where
+  honest : IsHonest (disk.tells old)
+  honest = can.office.0
+
+  -- the end before a desk filed, for want of memory
+  ended_early : (line : List ℕ) (shown status : ℕ) → shown ≡ 9 → EndsWith sink line shown out out' status → (status ≡ 0) ⊎ (status ≡ 9)
+  ended_early line shown status nine (told put) = inr nine
+  ended_early line shown status nine (untold cut) = absurd (sink_still cut.rose)
+
+  unread_by : (stop : ReadStop) → IsUnreadAt source stop inputs inputs' → read_status stop ≡ 9
+  unread_by reading.Read at = let i = some_of inputs at.place at.inside in absurd (none at.place i at.inside (at.fault i refl))
+  unread_by reading.TooLong at =
+      let i = some_of inputs at.place at.inside in
+      let (is_honest, short) = can.short at.place i at.inside in
+      let past = at.here i is_honest in
+      absurd (omega (arith, past, short))
+  unread_by reading.NoMemory at = refl
+
+  unopened_by : (error : OpenError) → IsUnopened disk office_scheme error old new → (error ≡ opening.DiskFault → Rose (disk.faults old) (disk.faults new)) → open_status error ≡ 9
+  unopened_by opening.NoOffice u rose = absurd (not_unborn office_header (disk.tells old).reads can.office.1 (u.unborn honest refl))
+  unopened_by opening.NotJournal u rose = absurd ((u.foreign honest refl).not_born can.office.1)
+  unopened_by (opening.Damaged place) u rose = absurd (can.office.2 place (u.damaged honest place refl).1)
+  unopened_by opening.DiskFault u rose = absurd (disk_still (rose_once (disk.faults old) (disk.faults new) (rose refl)))
+  unopened_by opening.NoMemory u rose = refl
+
+  filed_by : (start end : Stand (Filed Filing)) (before after : List View) (text : List ℕ) (status : ℕ) → HasFiled start end before after
+      → start.faults ≡ disk.faults old → end.faults ≡ disk.faults new → EndsWith sink text (desks_status after) out out' status → (status ≡ 0) ⊎ (status ≡ 9)
+  filed_by start end before after text status filed from to (untold cut) = absurd (sink_still cut.rose)
+  filed_by start end before after text status filed from to (told put) = go (status_by_faults after)
+    where
+      rose : RoseBy (faulted_in after) (disk.faults old) (disk.faults new)
+      rose = subst (λ (n : ℕ). RoseBy (faulted_in after) n (disk.faults new)) from (subst (λ (n : ℕ). RoseBy (faulted_in after) start.faults n) to (counted start end before after filed))
+
+      go : ((status ≡ 0) ⊎ (status ≡ 9)) ⊎ (1 ≤ faulted_in after) → (status ≡ 0) ⊎ (status ≡ 9)
+      go (inl done) = done
+      go (inr some) = absurd (disk_still (fewer_rose (faulted_in after) 1 (disk.faults old) (disk.faults new) some rose))
+
+  all_filed : (before : List View) (status : ℕ) → FilesAll disk sink old new before out out' status → (status ≡ 0) ⊎ (status ≡ 9)
+  all_filed before status (unopened error _ u rose ends) = ended_early (open_line error) (open_status error) status (unopened_by error u rose) ends
+  all_filed before status (starved past _ opened ends) = ended_early (codes "fault memory\n") 9 status refl ends
+  all_filed before status (worked after past history pending log waiting at _ opened filed sound ends) = filed_by _ _ before after _ status filed refl refl ends
+
+  pub desks_done : (status : ℕ) → RanDesks disk source sink old new inputs inputs' out out' status → (status ≡ 0) ⊎ (status ≡ 9)
+  desks_done status (unasked _ wrong same unmoved ends) = absurd (go wrong)
+    where
+      go : (length inputs ≡ 0) ⊎ (16 < length inputs) → ⊥
+      go (inl nobody) = let some = can.some in omega (arith, nobody, some)
+      go (inr many) = let few = can.few in omega (arith, many, few)
+  desks_done status (unread stop _ at same ends) = ended_early (read_line stop) (read_status stop) status (unread_by stop at) ends
+  desks_done status (read before _ are files) = all_filed before status files
+
+-- ---- the disk
+files_honest : {D K : Type 0} (disk : Ghosts D) (sink : SinkGhosts K) (old new : D) (before : List View) (out out' : K) (status : ℕ) → FilesAll disk sink old new before out out' status
+    → (disk.tells new).honest ≡ (disk.tells old).honest
+files_honest disk sink old new before out out' status (unopened error _ u rose ends) = u.honest
+files_honest disk sink old new before out out' status (starved past _ opened ends) = opened.honest
+files_honest disk sink old new before out out' status (worked after past history pending log waiting at _ opened filed sound ends) = filed.ran.fixed ∙ opened.honest
+
+-- a run makes no disk honest, and none dishonest
+pub desks_honest : {D S K : Type 0} (disk : Ghosts D) (source : SourceGhosts S) (sink : SinkGhosts K) (old new : D) (inputs inputs' : List (DeskInput S)) (out out' : K) (status : ℕ)
+    → RanDesks disk source sink old new inputs inputs' out out' status → (disk.tells new).honest ≡ (disk.tells old).honest
+desks_honest disk source sink old new inputs inputs' out out' status (unasked _ wrong same unmoved ends) = ap (λ d. (disk.tells d).honest) same
+desks_honest disk source sink old new inputs inputs' out out' status (unread stop _ at same ends) = ap (λ d. (disk.tells d).honest) same
+desks_honest disk source sink old new inputs inputs' out out' status (read before _ are files) = files_honest disk sink old new before out out' status files

@@ -1,0 +1,218 @@
+-- The lines of desks, as replies to their rows.
+use Rattle.std.proofs.Common.{◌≡◌, ◌≢◌, ◌⊎◌, inl, inr, ℕ, suc, ◌+◌, ◌<◌, Bool, true, false, List, [], ◌∷◌, ◌++◌, Some, None, Result, length, map, get_or, append_assoc, append-nil, refl, sym, ap, ap₂, ◌∙◌, subst, arith}
+use Rattle.std.specs.Prelude.{◌||◌, codes, decimal, if◌then◌else◌}
+use Rattle.std.specs.List.{list_any}
+use Rattle.std.proofs.lemmas.Bool.{false≢true}
+use Rattle.std.proofs.lemmas.List.Folds.{list_any_at}
+use Rattle.aid_filings.specs.declared.filing.Filing.{Filing}
+use Rattle.aid_filings.specs.declared.reply.Ask.{Ask}
+use Rattle.desk_forms.specs.Rows.{meanings_from, row_meaning}
+use Rattle.desk_forms.specs.declared.error.RowError.{RowError}
+use Rattle.headline.specs.AtOnce.{DeskText, DeskTexts, Replies}
+use Rattle.headline.specs.AtOnce as many
+use Rattle.headline.specs.Filed.{IsFault, Row}
+use Rattle.headline.proofs.Office.{answered as row_answered}
+use Rattle.kept_desks.specs.Answered.{Answer, Ends, Follows, answer_lines}
+use Rattle.kept_desks.specs.DeskTexts.{desk_text, stop_at, stop_text}
+use Rattle.kept_desks.specs.Desks.{all_shown, shown_of}
+use Rattle.kept_list.specs.Names.{entries_of}
+use Rattle.kept_list.specs.declared.names.Filed.{Filed}
+use Rattle.kept_desks.specs.declared.stop.DeskEnd.{DeskEnd}
+use Rattle.kept_desks.specs.declared.stop.DeskEnd.TheVariants.{Open, Done, Stopped}
+use Rattle.kept_desks.specs.declared.stop.DeskStop.{DeskStop}
+use Rattle.kept_desks.specs.declared.stop.DeskStop.TheVariants.{DiskFault, NoMemory}
+use Rattle.kept_office.specs.Turns.{asked as filing_asked, office_judging}
+use Rattle.kept_list.specs.Texts.{after_row, row_line}
+use Rattle.run_rows.specs.Asks.{asked, desk_texts, said_by}
+use Rattle.office_history.specs.Answer.{IsLegal}
+use Rattle.office_history.proofs.Legal.{older_legal}
+use Rattle.office_lock.specs.Passes.{IsOlder}
+use Rattle.office_lock.specs.declared.turned.Stand.{Stand}
+use Rattle.run_office.specs.DeskTexts.{desk_prefix, desks_status, desks_text, had_disk_fault, had_no_memory, stop_line, stop_words}
+use Rattle.run_office.specs.RanDesks.{FilesOwn, View, left_of}
+use Rattle.run_office.proofs.Following.{follows_older, older_refl, older_trans}
+
+-- a part of a legal history is legal
+legal_part : (old new : List Filing) → IsOlder old new → IsLegal new → IsLegal old
+legal_part old new (added, is) legal = older_legal added old (subst IsLegal is legal)
+
+-- what rows that mean nothing leave
+none_meant : (number : ℕ) (rows : List Row) → map asked (meanings_from number rows) ≡ [] → rows ≡ []
+none_meant number [] is = refl
+none_meant number (row ∷ rows) is = absurd (let bad : ⊥ = cc in bad)
+
+-- rows in front were answered by these lines; none is left where what is left says nothing
+record Replied (desk : ℕ) (closed : List Filing) (number : ℕ) (rows : List Row) (seen : List Filing) (count : ℕ) (left : List desk_texts.Meaning) (lines : List ℕ) : Type 0 where
+  pub front : List Row
+  pub behind : List Row
+  pub whole : rows ≡ front ++ behind
+  pub counted : length front ≡ count
+  pub last : left ≡ [] → behind ≡ []
+  pub replies : Replies desk closed number front seen lines
+
+-- why a desk stopped, behind the row's number
+abbrev pub fault_of : DeskStop → List ℕ
+fault_of (DiskFault None) = codes "fault disk none\n"
+fault_of (DiskFault (Some position)) = codes "fault disk " ++ decimal position ++ codes "\n"
+fault_of NoMemory = codes "fault memory\n"
+
+fault_said : (stop : DeskStop) → IsFault (fault_of stop) []
+fault_said (DiskFault None) = (codes "disk none", [], refl, refl)
+fault_said (DiskFault (Some position)) = (codes "disk ", position ∷ [], refl, append-nil _ ∙ ap (λ (digits : List ℕ). codes "fault disk " ++ digits ++ codes "\n") (sym (append-nil (decimal position))))
+fault_said NoMemory = (codes "memory", [], refl, refl)
+
+-- the line of a stop
+pub stop_begins : (prefix : List ℕ) (row : ℕ) (stop : DeskStop) → prefix ++ stop_words row stop ≡ prefix ++ decimal row ++ codes " " ++ fault_of stop
+stop_begins prefix row stop = ap (λ l. prefix ++ l) (words stop) ∙ (sym (append_assoc prefix (decimal row) (codes " " ++ fault_of stop)) ∙ sym (append_assoc (prefix ++ decimal row) (codes " ") (fault_of stop)))
+  where
+    words : (s : DeskStop) → stop_words row s ≡ decimal row ++ (codes " " ++ fault_of s)
+    words (DiskFault None) = refl
+    words (DiskFault (Some position)) = append_assoc (decimal row ++ codes " fault disk ") (decimal position) (codes "\n") ∙ append_assoc (decimal row) (codes " fault disk ") (decimal position ++ codes "\n")
+    words NoMemory = refl
+
+-- one row more, in front
+reply : (desk number : ℕ) (closed seen now : List Filing) (a : Answer Filing Ask RowError) (answers : List (Answer Filing Ask RowError)) (row : Row) (rows : List Row) (left : List desk_texts.Meaning)
+    → IsLegal closed → IsOlder now closed → Follows office_judging seen (a ∷ answers) now → said_by a.row ≡ asked (row_meaning number row)
+    → Replied desk closed (number + 1) rows (after_row office_judging a.past a.row) (length answers) left (answer_lines office_judging desk_texts (desk_prefix desk) (number + 1) answers)
+    → Replied desk closed number (row ∷ rows) seen (length (a ∷ answers)) left (answer_lines office_judging desk_texts (desk_prefix desk) number (a ∷ answers))
+reply desk number closed seen now a answers row rows left legal older follows means more = record {
+  front = row ∷ more.front;
+  behind = more.behind;
+  whole = ap (λ l. row ∷ l) more.whole;
+  counted = ap suc more.counted;
+  last = more.last;
+  replies = many.more number row more.front seen a.past (after_row office_judging a.past a.row) (row_line office_judging desk_texts a.past number a.row)
+      (answer_lines office_judging desk_texts (desk_prefix desk) (number + 1) answers) follows.0
+      (row_answered a.past number row a.row (legal_part a.past closed (older_trans a.past now closed before older) legal) means)
+      (older_trans (after_row office_judging a.past a.row) now closed (follows_older office_judging (after_row office_judging a.past a.row) now answers follows.1) older) more.replies;
+}
+  where
+    before : IsOlder a.past now
+    before = follows_older office_judging a.past now (a ∷ answers) (older_refl a.past, follows.1)
+
+-- the answers of a desk are replies to its rows in front
+replied : (desk number : ℕ) (closed seen now : List Filing) (answers : List (Answer Filing Ask RowError)) (taken : List (Result Ask RowError)) (rest : List desk_texts.Meaning) (rows : List Row)
+    → IsLegal closed → IsOlder now closed → Follows office_judging seen answers now
+    → map asked (meanings_from number rows) ≡ map said_by (map (λ (a : Answer Filing Ask RowError). a.row) answers ++ taken) ++ rest
+    → Replied desk closed number rows seen (length answers) (map said_by taken ++ rest) (answer_lines office_judging desk_texts (desk_prefix desk) number answers)
+replied desk number closed seen now [] taken rest rows legal older follows is = record {
+  front = [];
+  behind = rows;
+  whole = refl;
+  counted = refl;
+  last = λ none. none_meant number rows (is ∙ none);
+  replies = many.none number seen;
+}
+replied desk number closed seen now (a ∷ answers) taken rest [] legal older follows is = absurd (let bad : ⊥ = cc in bad)
+replied desk number closed seen now (a ∷ answers) taken rest (row ∷ rows) legal older follows is =
+    let means : said_by a.row ≡ asked (row_meaning number row) = cc in
+    let others : map asked (meanings_from (suc number) rows) ≡ map said_by (map (λ (x : Answer Filing Ask RowError). x.row) answers ++ taken) ++ rest = cc in
+    reply desk number closed seen now a answers row rows (map said_by taken ++ rest) legal older follows means
+    (replied desk (number + 1) closed (after_row office_judging a.past a.row) now answers taken rest rows legal older follows.1
+    (subst (λ (n : ℕ). map asked (meanings_from n rows) ≡ map said_by (map (λ (x : Answer Filing Ask RowError). x.row) answers ++ taken) ++ rest) (omega arith) others))
+
+-- the desk has this number, and files these rows
+pub record IsOf (number : ℕ) (rows : List Row) (desk : View) : Type 0 where
+  pub numbered : desk.number ≡ number
+  pub prefix : desk.prefix ≡ desk_prefix number
+  pub rows_are : left_of desk.rows ≡ map asked (meanings_from 1 rows)
+
+module _ (opening : Stand (Filed Filing)) (past closed : List Filing) (status : ℕ) (opens : entries_of opening.list ≡ past) (legal : IsLegal closed) where
+  -- what a desk writes
+  one_desk : (number : ℕ) (rows : List Row) (before after : View) (own : FilesOwn opening before after) → IsOf number rows before → IsOlder (entries_of own.known.seen) closed
+      → ((stop : DeskStop) → after.ended ≡ Stopped stop → status ≢ 0) → DeskText number rows past closed status (desk_text (stop_line after.prefix) after)
+  one_desk number rows before after own of older stopped = record {
+    answered = replies.front;
+    left = replies.behind;
+    whole = replies.whole;
+    lines = answer_lines office_judging desk_texts (desk_prefix number) 1 own.files.answers;
+    stop = stop_text (stop_line after.prefix) (stop_at after.number after.answered after.ended);
+    written = ap (λ t. t ++ stop_text (stop_line after.prefix) (stop_at after.number after.answered after.ended))
+        (own.files.text ∙ ap (λ p. answer_lines office_judging desk_texts p 1 own.files.answers) of.prefix);
+    replies = replies.replies;
+    stops = ends after.ended refl own.files.ends;
+  }
+    where
+      replies : Replied number closed 1 rows past (length own.files.answers) (map said_by own.files.taken ++ own.files.rest)
+          (answer_lines office_judging desk_texts (desk_prefix number) 1 own.files.answers)
+      replies = replied number 1 closed past (entries_of own.known.seen) own.files.answers own.files.taken own.files.rest rows legal older
+          (subst (λ l. Follows office_judging l own.files.answers (entries_of own.known.seen)) (ap (λ (s : Stand (Filed Filing)). entries_of s.list) own.opening_is ∙ opens) own.files.follows)
+          (sym of.rows_are ∙ own.files.split)
+
+      stop_is : (stop : DeskStop) → stop_line after.prefix (record { desk = after.number; row = after.answered + 1 }) stop
+          ≡ codes "desk " ++ decimal number ++ codes " " ++ decimal (length replies.front + 1) ++ codes " " ++ fault_of stop
+      stop_is stop = ap₂ (λ p (n : ℕ). p ++ stop_words (n + 1) stop) (own.prefix ∙ of.prefix) (own.files.counted ∙ sym replies.counted) ∙ stop_begins (desk_prefix number) (length replies.front + 1) stop
+
+      ends : (end : DeskEnd) → after.ended ≡ end → Ends filing_asked (record { desk = before.number; row = after.answered + 1 }) end own.files.taken own.files.rest own.known
+          → ((replies.behind ≡ []) × (stop_text (stop_line after.prefix) (stop_at after.number after.answered end) ≡ []))
+          ⊎ ((status ≢ 0) × (line : List ℕ) × IsFault line [] × (stop_text (stop_line after.prefix) (stop_at after.number after.answered end)
+          ≡ codes "desk " ++ decimal number ++ codes " " ++ decimal (length replies.front + 1) ++ codes " " ++ line))
+      ends Open is clean = absurd (own.ended is)
+      ends Done is done = inl (replies.last (ap₂ (λ t r. map said_by t ++ r) done.0 done.1), refl)
+      ends (Stopped stop) is at = inr (stopped stop is, fault_of stop, fault_said stop, stop_is stop)
+
+  -- what all desks write, the first of them with this number
+  pub all_desks : (number : ℕ) (inputs : List (List Row)) (before desks : List View) → length before ≡ length inputs → length desks ≡ length before
+      → (each : (k : ℕ) (d : View) → k < length before → FilesOwn opening (get_or before k d) (get_or desks k d))
+      → ((k : ℕ) (d : View) → k < length before → IsOf (number + k) (get_or inputs k []) (get_or before k d))
+      → ((k : ℕ) (d : View) (lt : k < length before) → IsOlder (entries_of (each k d lt).known.seen) closed)
+      → ((k : ℕ) (d : View) (stop : DeskStop) → k < length before → (get_or desks k d).ended ≡ Stopped stop → status ≢ 0) → DeskTexts past closed status number inputs (desks_text desks)
+  all_desks number [] [] [] one two each of older stopped = many.none number
+  all_desks number [] [] (d ∷ desks) one two each of older stopped = absurd (omega (arith, two))
+  all_desks number [] (b ∷ before) desks one two each of older stopped = absurd (omega (arith, one))
+  all_desks number (rows ∷ inputs) [] desks one two each of older stopped = absurd (omega (arith, one))
+  all_desks number (rows ∷ inputs) (b ∷ before) [] one two each of older stopped = absurd (omega (arith, two))
+  all_desks number (rows ∷ inputs) (b ∷ before) (d ∷ desks) one two each of older stopped =
+      many.more number rows inputs (desk_text (stop_line d.prefix) d) (desks_text desks)
+      (one_desk number rows b d (each 0 b (omega arith)) (subst (λ (n : ℕ). IsOf n rows b) (omega arith) (of 0 b (omega arith))) (older 0 b (omega arith)) (λ stop is. stopped 0 b stop (omega arith) is))
+      (all_desks (number + 1) inputs before desks (omega (arith, one)) (omega (arith, two)) (λ k x lt. each (suc k) x (omega (arith, lt)))
+      (λ k x lt. subst (λ (n : ℕ). IsOf n (get_or inputs k []) (get_or before k x)) (omega arith) (of (suc k) x (omega (arith, lt))))
+      (λ k x lt. older (suc k) x (omega (arith, lt))) (λ k x stop lt is. stopped (suc k) x stop (omega (arith, lt)) is))
+
+-- ---- what is shown of desks
+-- their texts are
+pub text_shown : (one other : List View) → all_shown one ≡ all_shown other → desks_text one ≡ desks_text other
+text_shown [] [] same = refl
+text_shown [] (y ∷ other) same = absurd (let bad : ⊥ = cc in bad)
+text_shown (x ∷ one) [] same = absurd (let bad : ⊥ = cc in bad)
+text_shown (x ∷ one) (y ∷ other) same =
+    let first : shown_of x ≡ shown_of y = cc in
+    let more : all_shown one ≡ all_shown other = cc in
+    ap₂ (λ l r. l ++ r) (ap (λ s. s.3 ++ stop_text (stop_line s.1) (stop_at s.0 s.4 s.5)) first) (text_shown one other more)
+
+any_shown : (test : DeskEnd → Bool) (one other : List View) → all_shown one ≡ all_shown other → list_any (λ (d : View). test d.ended) one ≡ list_any (λ (d : View). test d.ended) other
+any_shown test [] [] same = refl
+any_shown test [] (y ∷ other) same = absurd (let bad : ⊥ = cc in bad)
+any_shown test (x ∷ one) [] same = absurd (let bad : ⊥ = cc in bad)
+any_shown test (x ∷ one) (y ∷ other) same =
+    let first : shown_of x ≡ shown_of y = cc in
+    let more : all_shown one ≡ all_shown other = cc in
+    ap₂ (λ (a b : Bool). a || b) (ap (λ s. test s.5) first) (any_shown test one other more)
+
+abbrev status_by : Bool → Bool → ℕ
+status_by faulted starved = if faulted then 5 else if starved then 9 else 0
+
+pub status_shown : (one other : List View) → all_shown one ≡ all_shown other → desks_status one ≡ desks_status other
+status_shown one other same = ap₂ status_by (any_shown had_disk_fault one other same) (any_shown had_no_memory one other same)
+
+-- ---- the status
+status_some : (faulted starved : Bool) → (faulted ≡ true) ⊎ (starved ≡ true) → status_by faulted starved ≢ 0
+status_some true starved some zero_is = omega (arith, zero_is)
+status_some false true some zero_is = omega (arith, zero_is)
+status_some false false (inl is) zero_is = false≢true is
+status_some false false (inr is) zero_is = false≢true is
+
+status_few : (faulted starved : Bool) (n : ℕ) → 0 < n → n ≢ 5 → n ≢ 9 → status_by faulted starved ≢ n
+status_few true starved n some five nine is = five (sym is)
+status_few false true n some five nine is = nine (sym is)
+status_few false false n some five nine is = omega (arith, some, is)
+
+pub stopped_status : (desks : List View) (k : ℕ) (d : View) (stop : DeskStop) → k < length desks → (get_or desks k d).ended ≡ Stopped stop → desks_status desks ≢ 0
+stopped_status desks k d stop lt is = status_some (list_any (λ (x : View). had_disk_fault x.ended) desks) (list_any (λ (x : View). had_no_memory x.ended) desks) (some stop is)
+  where
+    some : (s : DeskStop) → (get_or desks k d).ended ≡ Stopped s → (list_any (λ (x : View). had_disk_fault x.ended) desks ≡ true) ⊎ (list_any (λ (x : View). had_no_memory x.ended) desks ≡ true)
+    some (DiskFault undecided) at = inl (list_any_at (λ (x : View). had_disk_fault x.ended) desks k d lt (ap had_disk_fault at))
+    some NoMemory at = inr (list_any_at (λ (x : View). had_no_memory x.ended) desks k d lt (ap had_no_memory at))
+
+pub few_statuses : (desks : List View) (n : ℕ) → 0 < n → n ≢ 5 → n ≢ 9 → desks_status desks ≢ n
+few_statuses desks = status_few (list_any (λ (x : View). had_disk_fault x.ended) desks) (list_any (λ (x : View). had_no_memory x.ended) desks)

@@ -1,0 +1,57 @@
+-- What the status of a run shows.
+use Rattle.std.proofs.Common.{◌≡◌, ℕ, Bool, List, Result, Ok, Err, refl, subst}
+use Rattle.std.proofs.lemmas.Bool.{true≢false}
+use Rattle.aid_edges.specs.declared.sink.Sink.{Ghosts as SinkGhosts}
+use Rattle.disk_model.specs.declared.disk.Disk.{Ghosts}
+use Rattle.kept_session.specs.Edges.{Input}
+use Rattle.run_office.specs.Rounds.{PolicyAnswers}
+use Rattle.run_office.specs.Ran.{Counts, Does, FileRan, HasCause, Ran, Shows, booking, checking_book, checking_rows, did, filing, founding, funding, generating, no_row, quoting, reporting, written}
+use Rattle.run_words.specs.declared.command.Command.{Command}
+use Rattle.run_words.specs.declared.command.Command.TheVariants as commands
+use Rattle.kept_runs.specs.Ends.{Ends, EndsWith, Moved, stopped, told, untold, well}
+use Rattle.kept_runs.specs.Statuses.{ended_file, fault_line, status_of}
+use Rattle.kept_session.specs.declared.stop.SessionStop.{SessionStop}
+use Rattle.kept_runs.specs.declared.stop.RunStop.{RunStop}
+use Rattle.kept_runs.specs.declared.stop.RunStop.TheVariants.{File, Usage}
+use Rattle.kept_runs.proofs.EndLaws.{shown}
+
+ends_show : {K : Type 0} (sink : SinkGhosts K) (old new : K) (counts : Counts) (ended : Result Unit RunStop) (status : ℕ) → HasCause counts ended status → Ends sink old new ended status → Shows counts status
+ends_show sink old new counts ended status cause (well same) = record { sink = cause.sink; source = λ other. cause.source; disk = λ other. cause.disk }
+ends_show sink old new counts ended status cause (stopped stop _ (told put)) = record {
+  sink = cause.sink;
+  source = λ other. subst (λ (b : Bool). Moved b counts.source) (shown stop).read cause.source;
+  disk = λ other. subst (λ (b : Bool). Moved b counts.disk) (shown stop).disk cause.disk;
+}
+ends_show sink old new counts ended status cause (stopped stop _ (untold cut)) = record { sink = cause.sink; source = λ other. absurd (true≢false other); disk = λ other. absurd (true≢false other) }
+
+-- of a whole run
+pub run_shows : {D K : Type 0} (names : List (List ℕ)) (gives : PolicyAnswers) (disk : Ghosts D) (sink : SinkGhosts K) (counts : Counts) (words : List (List ℕ)) (old new : D) (input : Input) (out out' : K) (status : ℕ)
+    → Ran names gives disk sink counts words old new input out out' status → Shows counts status
+run_shows names gives disk sink counts words old new input out out' status (no_row _ none same unread cause ends) = ends_show sink out out' counts (Err Usage) status cause ends
+run_shows names gives disk sink counts words old new input out out' status (did command at ended _ is does same cause ends) = ends_show sink at out' counts ended status cause ends
+
+ends_well : {K : Type 0} (sink : SinkGhosts K) (old new : K) (status : ℕ) → Ends sink old new (Ok tt) status → (new ≡ old) × (status ≡ 0)
+ends_well sink old new _ (well same) = (same, refl)
+
+ends_stopped : {K : Type 0} (sink : SinkGhosts K) (old new : K) (stop : RunStop) (status : ℕ) → Ends sink old new (Err stop) status → EndsWith sink (fault_line stop) (status_of stop) old new status
+ends_stopped sink old new stop status (stopped _ _ is) = is
+
+-- what `file` did is a run of it
+pub file_ran : {D K : Type 0} {gives : PolicyAnswers} (disk : Ghosts D) (sink : SinkGhosts K) (old new : D) (input : Input) (out at out' : K) (command : Command) (ended : Result Unit RunStop) (status : ℕ) → command ≡ commands.File
+    → Does gives disk old new input (written sink out at) command ended → sink.honest at ≡ sink.honest out → Ends sink at out' ended status → FileRan disk sink old new input out out' status
+file_ran disk sink old new input out at out' command ended status is (filing inner session) honest ends = record {
+  at = at;
+  ended = inner;
+  session = session;
+  honest = honest;
+  done = λ ok. ends_well sink at out' status (subst (λ (e : Result Unit SessionStop). Ends sink at out' (ended_file e) status) ok ends);
+  early = λ stop err. ends_stopped sink at out' (File stop) status (subst (λ (e : Result Unit SessionStop). Ends sink at out' (ended_file e) status) err ends);
+}
+file_ran disk sink old new input out at out' command ended status is (founding inner session) honest ends = absurd (let bad : ⊥ = cc in bad)
+file_ran disk sink old new input out at out' command ended status is (booking book inner session) honest ends = absurd (let bad : ⊥ = cc in bad)
+file_ran disk sink old new input out at out' command ended status is (quoting quote inner opens) honest ends = absurd (let bad : ⊥ = cc in bad)
+file_ran disk sink old new input out at out' command ended status is (reporting report inner reports) honest ends = absurd (let bad : ⊥ = cc in bad)
+file_ran disk sink old new input out at out' command ended status is (funding fund inner planned) honest ends = absurd (let bad : ⊥ = cc in bad)
+file_ran disk sink old new input out at out' command ended status is (generating generate inner session) honest ends = absurd (let bad : ⊥ = cc in bad)
+file_ran disk sink old new input out at out' command ended status is (checking_rows _ same checks) honest ends = absurd (let bad : ⊥ = cc in bad)
+file_ran disk sink old new input out at out' command ended status is (checking_book _ same checks) honest ends = absurd (let bad : ⊥ = cc in bad)

@@ -1,0 +1,17 @@
+use Rattle.std.proofs.Common.{rules, ◌<◌, ◌+◌, length, arith}
+use Rattle.kept_runs.proofs.Puts.{put_none}
+use Rattle.run_office.proofs.Putting.{rows_cut, rows_put}
+use Rattle.run_office.proofs.desk_lines.put_filings.Goals as goal
+
+pub loop-i-init : goal.loop-i-init
+loop-i-init g c = put_none g.K.Sink c.args.out.now
+
+pub returns-in-Err : goal.returns-in-Err
+returns-in-Err g c =
+    let inside : c.loop-i.i < length c.args.rows.now = search rules in
+    rows_cut g.K.Sink (c.args.front + 1) c.args.rows.now c.loop-i.i c.args.out.now c.loop-i.out c.put_filing.new.out _ _ inside (search rules) (omega arith) c.loop-i.invariant c.in-Err.ensures
+
+pub loop-i-preserved : goal.loop-i-preserved
+loop-i-preserved g c =
+    let inside : c.loop-i.i < length c.args.rows.now = search rules in
+    rows_put g.K.Sink (c.args.front + 1) c.args.rows.now c.loop-i.i c.args.out.now c.loop-i.out c.put_filing.new.out _ _ inside (search rules) (omega arith) c.loop-i.invariant c.in-Ok.ensures

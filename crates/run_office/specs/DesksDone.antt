@@ -1,0 +1,47 @@
+-- When the rows of many desks can all be filed, which counts of faults rose, and which rows filed what was added.
+use Rattle.std.specs.Prelude.{◌≡◌, ◌+◌, ◌<◌, ◌≤◌, ℕ, List, [], ◌∷◌, length, get_or, sum_by, Contains, Some, Ok}
+use Rattle.std.specs.List.{All}
+use Rattle.aid_edges.specs.Faults.{Rose}
+use Rattle.aid_edges.specs.declared.source.Source.{Ghosts as SourceGhosts}
+use Rattle.aid_filings.specs.declared.filing.Filing.{Filing}
+use Rattle.aid_filings.specs.declared.reply.Ask.{Ask}
+use Rattle.disk_model.specs.Telling.{Telling}
+use Rattle.kept_desks.specs.Answered.{admitted_of}
+use Rattle.kept_desks.specs.Desks.{DeskView}
+use Rattle.kept_list.specs.declared.names.Filed.{Filed}
+use Rattle.kept_desks.specs.declared.stop.DeskEnd.{DeskEnd}
+use Rattle.kept_desks.specs.declared.stop.DeskEnd.TheVariants.{Stopped}
+use Rattle.kept_desks.specs.declared.stop.DeskStop.TheVariants.{DiskFault}
+use Rattle.kept_office.specs.Turns.{asked as filing_asked, office_judging}
+use Rattle.office_lock.specs.declared.turned.Stand.{Stand}
+use Rattle.kept_office.specs.Openable.{IsOffice}
+use Rattle.kept_runs.specs.Ends.{IsShort}
+use Rattle.run_office.specs.RanDesks.{FilesOwn, View}
+use Rattle.run_office.specs.declared.desks.DeskInput.{DeskInput}
+
+-- the desks can file: there are 1 to 16, each source is honest and has not too many bytes, and the disk has an office that isn't damaged
+pub record CanFile {S : Type 0} (source : SourceGhosts S) (inputs : List (DeskInput S)) (disk : Telling) : Type 0 where
+  pub some : 1 ≤ length inputs
+  pub few : length inputs ≤ 16
+  pub short : All (λ (i : DeskInput S). IsShort (source.honest i.input) (length (source.left i.input))) inputs
+  pub office : IsOffice disk
+
+-- no source's count of faults rose
+abbrev pub NoneRose : {S : Type 0} → SourceGhosts S → List (DeskInput S) → List (DeskInput S) → Type 0
+NoneRose {S} source old new = (k : ℕ) (i : DeskInput S) → k < length old → Rose (source.faults (get_or old k i).input) (source.faults (get_or new k i).input) → ⊥
+
+-- a desk that ended in a fault of the disk was told of one, and any other of none
+abbrev pub disk_faults : DeskEnd → ℕ
+disk_faults (Stopped (DiskFault undecided)) = 1
+disk_faults _ = 0
+
+-- how many of these desks ended in a fault of the disk
+abbrev pub faulted_in : {Entry Lines : Type 0} → List (DeskView Entry Lines) → ℕ
+faulted_in {Entry} {Lines} desks = sum_by (λ (d : DeskView Entry Lines). disk_faults d.ended) desks
+
+-- A desk's row filed this entry, which stands at a position: an answer of the desk admits it there, or the desk ended at the
+-- row in a fault of the disk that named the position.
+pub data HasNamed {opening : Stand (Filed Filing)} {old new : View} (own : FilesOwn opening old new) (entry : ℕ × Filed Filing) : Type 0 where
+  by_answer : Contains (admitted_of office_judging old.number 1 own.files.answers) entry → HasNamed own entry
+  by_stop : (ask : Ask) → own.files.taken ≡ Ok ask ∷ [] → filing_asked ask ≡ Some entry.1.entry → entry.1.by ≡ record { desk = old.number; row = new.answered + 1 }
+      → new.ended ≡ Stopped (DiskFault (Some entry.0)) → HasNamed own entry

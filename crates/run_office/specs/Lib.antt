@@ -1,0 +1,7 @@
+pub mod DeskTexts
+pub mod DesksDone
+pub mod RanDesks
+pub mod Moments
+pub mod Ran
+pub mod Rounds
+pub mod Texts

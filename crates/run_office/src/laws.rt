@@ -1,0 +1,52 @@
+// What follows of what desks filed, said of no call. Each of these functions does nothing.
+ghost use Rattle.std.specs.Prelude.{◌≡◌, ◌+◌, ◌<◌, ◌≤◌, ℕ, List, Some, Contains, get_or, length};
+ghost use Rattle.aid_filings.specs.declared.filing.Filing.{Filing};
+ghost use Rattle.aid_filings.specs.declared.reply.Ask.{Ask};
+ghost use Rattle.desk_forms.specs.declared.error.RowError.{RowError};
+ghost use Rattle.kept_desks.specs.Answered.{Answer};
+ghost use Rattle.kept_list.specs.Names.{entries_of};
+ghost use Rattle.kept_list.specs.declared.names.Filed.{Filed};
+ghost use Rattle.kept_desks.specs.declared.stop.DeskEnd.TheVariants.{Stopped};
+ghost use Rattle.kept_desks.specs.declared.stop.DeskStop.TheVariants.{DiskFault};
+ghost use Rattle.office_lock.specs.Passes.{IsOlder, numbered};
+ghost use Rattle.office_lock.specs.Turning.{RoseBy};
+ghost use Rattle.office_lock.specs.declared.turned.Stand.{Stand};
+ghost use Rattle.run_office.specs.DesksDone.{HasNamed, faulted_in};
+ghost use Rattle.run_office.specs.RanDesks.{FilesOwn, HasFiled, View};
+
+/// The disk's count of faults rose by at least the number of desks that ended in a fault of the disk, or stands at its
+/// last value.
+pub fn faults_are_counted()
+    ensures { (opening closed : Stand (Filed Filing)) (before after : List View) → HasFiled opening closed before after
+        → RoseBy (faulted_in after) opening.faults closed.faults }
+{}
+
+/// The position that the last line of a desk names is past the list before the desks filed, and at most one past the
+/// list at the end.
+pub fn undecided_is_next()
+    ensures { (opening closed : Stand (Filed Filing)) (before after : List View) → HasFiled opening closed before after
+        → (k : ℕ) (d : View) (position : ℕ) → k < length after → (get_or after k d).ended ≡ Stopped (DiskFault (Some position))
+        → (length opening.list < position) × (position ≤ length closed.list + 1) }
+{}
+
+/// Each row of a desk was answered on an older part of the list at the end.
+pub fn answered_on_closed()
+    ensures { (opening closed : Stand (Filed Filing)) (before after : List View) (filed : HasFiled opening closed before after)
+        (k : ℕ) (d : View) (lt : k < length before) (i : ℕ) (a : Answer Filing Ask RowError) → i < length (filed.each k d lt).files.answers
+        → IsOlder (get_or (filed.each k d lt).files.answers i a).past (entries_of closed.list) }
+{}
+
+/// No row of a desk was answered on fewer filings than one before it.
+pub fn fronts_rise()
+    ensures { (opening : Stand (Filed Filing)) (before after : View) (own : FilesOwn opening before after) (i j : ℕ) (a : Answer Filing Ask RowError)
+        → i ≤ j → j < length own.files.answers
+        → length (get_or own.files.answers i a).past ≤ length (get_or own.files.answers j a).past }
+{}
+
+/// Each filing that was added is that of a row which was answered as admitted at its position, or at which a desk ended in
+/// a fault of the disk that named the position.
+pub fn added_are_named()
+    ensures { (opening closed : Stand (Filed Filing)) (before after : List View) (filed : HasFiled opening closed before after) (entry : ℕ × Filed Filing)
+        → Contains (numbered (length opening.list) filed.ran.added) entry
+        → (k : ℕ) × (d : View) × (lt : k < length before) × HasNamed (filed.each k d lt) entry }
+{}

@@ -1,0 +1,90 @@
+-- What the desks ask of the office by a row, a book or a quote's words, and the lines that answer. Own.
+use Rattle.std.specs.Prelude.{ℕ, ℤ, List, [], ◌∷◌, map, Option, Some, None, Result, Ok, Err}
+use Rattle.aid_filings.specs.declared.reply.Ask.{Ask}
+use Rattle.aid_filings.specs.declared.reply.Ask.TheVariants.{File, Quote, Standing}
+use Rattle.aid_filings.specs.declared.reply.Verdict.{Verdict}
+use Rattle.aid_filings.specs.declared.reply.Verdict.TheVariants as verdicts
+use Rattle.aid_filings.specs.declared.filing.Filing.{Filing}
+use Rattle.desk_forms.specs.BookLines.{book_error_line}
+use Rattle.desk_forms.specs.BookRows.{book_meaning, book_said}
+use Rattle.desk_forms.specs.Lines.{error_line}
+use Rattle.desk_forms.specs.Rows.{meanings}
+use Rattle.desk_forms.specs.declared.error.RowError.{RowError}
+use Rattle.filing_kinds.specs.declared.kind.Kind.{Kind}
+use Rattle.filing_numbers.specs.Numbers.{kind_of, numbers_of}
+use Rattle.kept_list.specs.Texts.{Texts}
+use Rattle.run_words.specs.declared.command.QuoteRequest.{QuoteRequest}
+use Rattle.desk_forms.specs.Replies.{line_of, quote_line}
+use Rattle.year_books.specs.declared.error.BookError.{BookError}
+
+-- what an ask files, by its kind and its numbers, if it files anything
+abbrev pub filed_by : Ask → Option (Kind × List ℤ)
+filed_by (File filing) = Some (kind_of filing.what, numbers_of filing)
+filed_by (Quote school student year term) = None
+filed_by (Standing student year) = None
+
+-- what a row says that is an ask, or why it is none
+abbrev pub said_by : {E : Type 0} → Result Ask E → Result (Option (Kind × List ℤ)) E
+said_by (Ok ask) = Ok (filed_by ask)
+said_by (Err e) = Err e
+
+-- a text that means a filing says that it is filed
+abbrev pub asked : {E : Type 0} → Result (Kind × List ℤ) E → Result (Option (Kind × List ℤ)) E
+asked (Ok meaning) = Ok (Some meaning)
+asked (Err e) = Err e
+
+-- ---- rows of ten kinds
+abbrev pub desk_texts : Texts Ask Verdict RowError
+desk_texts = record {
+  Meaning = Result (Option (Kind × List ℤ)) RowError;
+  said = said_by;
+  answer_line = line_of;
+  error_line = error_line;
+}
+
+abbrev pub desk_rows : List ℕ → List (Result (Option (Kind × List ℤ)) RowError)
+desk_rows text = map asked (meanings text)
+
+-- ---- a text that is one book
+abbrev pub book_texts : Texts Ask Verdict BookError
+book_texts = record {
+  Meaning = Result (Option (Kind × List ℤ)) BookError;
+  said = said_by;
+  answer_line = line_of;
+  error_line = book_error_line;
+}
+
+-- the book of a text, filed by the office's own desk under a number
+abbrev pub book_rows : ℕ → List ℕ → List (Result (Option (Kind × List ℤ)) BookError)
+book_rows number text = asked (book_meaning number text) ∷ []
+
+-- ---- a quote
+-- the line of a verdict on a quote; there is no other
+abbrev pub quote_answer : Verdict → List ℕ
+quote_answer (verdicts.Quoted cents) = quote_line cents
+quote_answer _ = []
+
+abbrev pub quote_texts : Texts Ask Verdict RowError
+quote_texts = record {
+  Meaning = Result Ask RowError;
+  said = λ row. row;
+  answer_line = λ number front verdict. quote_answer verdict;
+  error_line = error_line;
+}
+
+abbrev pub quote_ask : QuoteRequest → Ask
+quote_ask quote = Quote quote.school quote.student quote.year quote.term
+
+abbrev pub quote_rows : QuoteRequest → List (Result Ask RowError)
+quote_rows quote = Ok (quote_ask quote) ∷ []
+
+-- ---- what is left to be taken
+-- of a book, where it wasn't taken
+abbrev pub book_left : Option (Result Filing BookError) → List (Result (Option (Kind × List ℤ)) BookError)
+book_left None = []
+book_left (Some book) = asked (book_said book) ∷ []
+
+-- of a quote, where it wasn't
+abbrev pub quote_left : Option QuoteRequest → List (Result Ask RowError)
+quote_left None = []
+quote_left (Some quote) = quote_rows quote

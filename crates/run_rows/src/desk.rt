@@ -1,0 +1,77 @@
+// The rows that the desks file.
+use aid_filings::{Ask, Filing, Verdict};
+use desk_forms::{RowError, put_answer, put_error, put_fine};
+use filing_rules::MOST_FILINGS;
+use kept_list::{Docket, Forms, Rows};
+use std::alloc::{AllocError, Global};
+
+/// The rows of a text that weren't filed yet.
+#[derive(Drop)]
+pub struct DeskRows {
+    rows: desk_forms::Rows,
+}
+
+impl<R: Docket<Ask = Ask, Verdict = Verdict>> Rows<R> for DeskRows {
+    ghost use Rattle.std.specs.Prelude.{map};
+    ghost use Rattle.run_rows.specs.Asks.{asked, desk_rows, desk_texts};
+
+    type Forms = DeskForms;
+
+    type Error = RowError;
+
+    ghost texts = { desk_texts };
+
+    ghost rows_of = { λ forms text. desk_rows text };
+
+    ghost left = { λ r. map asked r.rows };
+
+    fn at_most(&self) -> u32 {
+        self.rows.at_most()
+    }
+
+    fn most() -> u32 {
+        MOST_FILINGS
+    }
+
+    fn next(&mut self) -> Result<Option<Result<Ask, RowError>>, AllocError> {
+        match self.rows.next()? {
+            Some(Ok(filing)) => Ok(Some(Ok(Ask::File(filing)))),
+            Some(Err(error)) => Ok(Some(Err(error))),
+            None => Ok(None),
+        }
+    }
+
+    fn put_answer(
+        number: u32,
+        front: u32,
+        verdict: &Verdict,
+        out: &mut Vec<u8>,
+    ) -> Result<(), AllocError> {
+        put_answer(number, front, verdict, out)
+    }
+
+    fn put_error(error: &RowError, out: &mut Vec<u8>) -> Result<(), AllocError> {
+        put_error(error, out)
+    }
+}
+
+/// The forms of rows of all kinds but books.
+pub struct DeskForms;
+
+impl<R: Docket<Ask = Ask, Verdict = Verdict>> Forms<R> for DeskForms {
+    ghost use Rattle.desk_forms.specs.Lines.{fine_line};
+
+    type Rows = DeskRows;
+
+    ghost fine_line = { fine_line };
+
+    fn read(&self, alloc: Global, text: Vec<u8>) -> Result<DeskRows, AllocError> {
+        Ok(DeskRows {
+            rows: desk_forms::Rows::new(alloc, text),
+        })
+    }
+
+    fn put_fine(number: u32, out: &mut Vec<u8>) -> Result<(), AllocError> {
+        put_fine(number, out)
+    }
+}

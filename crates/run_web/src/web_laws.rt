@@ -1,0 +1,28 @@
+// What a run of the web desk shows of its causes. It follows from the definitions alone; the function does nothing.
+ghost use Rattle.std.specs.Prelude.{◌≡◌, ◌⊎◌, ◌<◌, ℕ, List, get_or, length};
+ghost use Rattle.aid_filings.specs.declared.filing.Filing.{Filing};
+ghost use Rattle.disk_model.specs.Telling.{IsHonest};
+ghost use Rattle.kept_list.specs.Recovers.{Recovers};
+ghost use Rattle.kept_office.specs.Scheme.{office_scheme};
+ghost use Rattle.kept_web.specs.Workers.{WebView};
+ghost use Rattle.run_web.specs.RanWeb.{CanServe, HasPortFault, HasServedAll, IsUnrisen, RanWeb};
+
+use aid_edges::Sink;
+use disk_model::Disk;
+use web_edges::Port;
+
+/// The causes of a status: 2 comes only for numbers out of range, 10 only where a port failed, and 0 only where each port has
+/// back as many connections as it was to hand out. Over an honest disk whose file isn't damaged, where no count rose, the
+/// status is 0 or 9.
+pub fn web_causes<D: Disk, P: Port, K: Sink>()
+    ensures usage { (sessions : ℕ) (old new : D) (before after : List (WebView Filing P)) (out out' : K) (status : ℕ) → RanWeb D.Disk K.Sink P.tells P.faults sessions old new before after out out' status
+        → status ≡ 2 → CanServe (length before) sessions → ⊥ }
+    ensures socket { (sessions : ℕ) (old new : D) (before after : List (WebView Filing P)) (out out' : K) (status : ℕ) → RanWeb D.Disk K.Sink P.tells P.faults sessions old new before after out out' status
+        → status ≡ 10 → HasPortFault P.faults before after }
+    ensures all { (sessions : ℕ) (old new : D) (before after : List (WebView Filing P)) (out out' : K) (status : ℕ) → RanWeb D.Disk K.Sink P.tells P.faults sessions old new before after out out' status
+        → status ≡ 0 → (k : ℕ) (d : WebView Filing P) → k < length before → HasServedAll P.tells sessions (get_or before k d) (get_or after k d) }
+    ensures complete { (sessions : ℕ) (old new : D) (before after : List (WebView Filing P)) (out out' : K) (status : ℕ) → RanWeb D.Disk K.Sink P.tells P.faults sessions old new before after out out' status
+        → CanServe (length before) sessions → IsHonest (D.tells old) → (past : List Filing) → Recovers office_scheme (D.tells old).reads past
+        → IsUnrisen (D.faults old) (D.faults new) → IsUnrisen (K.faults out) (K.faults out') → (HasPortFault P.faults before after → ⊥)
+        → (status ≡ 0) ⊎ (status ≡ 9) }
+{}

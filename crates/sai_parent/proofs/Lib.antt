@@ -1,0 +1,2 @@
+pub mod LinesLaws
+pub mod Sums

@@ -1,0 +1,2 @@
+pub mod Household
+pub mod Lines
