@@ -14,7 +14,7 @@ use Rattle.office_history.specs.Positions.{cost_at, full_of, school_at}
 use Rattle.office_history.specs.Rules.{rules_of}
 use Rattle.office_history.specs.Past.{at_school, cost_in, first_of_two, given, if_here, school_in, the_school}
 use Rattle.office_history.proofs.Among.{among_reverse}
-use Rattle.office_history.proofs.Checks.{all_hold, lacks_holds}
+use Rattle.rule_lines.proofs.Holds.{all_hold, lacks_holds}
 use Rattle.office_history.proofs.FactsInRange.{school_in_range}
 use Rattle.office_history.proofs.FirstFilings.{first_found, skipped}
 use Rattle.award_rounds.specs.Candidates.{originated}

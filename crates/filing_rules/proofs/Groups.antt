@@ -10,27 +10,11 @@ use Rattle.aid_filings.specs.declared.filing.What.TheVariants.{Calendar, Pay, Wi
 use Rattle.aid_types.specs.declared.award.Refusal.{Refusal}
 use Rattle.aid_types.specs.declared.term.Term.{Term}
 use Rattle.filing_rules.specs.declared.facts.Facts.{Facts}
-use Rattle.filing_rules.specs.Rules.{Check, first_broken, told_by, lacks, stands, rule_21, rule_23, rule_24, rule_53, rule_62, rule_90, too_early}
+use Rattle.rule_lines.specs.declared.line.RuleLine.{RuleLine}
+use Rattle.rule_lines.specs.RuleLines.{first_broken, told_by, lacks, stands, too_early}
+use Rattle.filing_rules.specs.Rules.{rule_21, rule_23, rule_24, rule_53, rule_62, rule_90}
+use Rattle.rule_lines.proofs.FirstBroken.{first_broken_append, first_of, three_groups}
 use Rattle.filing_rules.specs.Lines.{amount_lines, lines_of, past_cost, past_lifetime, past_payment, past_year, pell_lines, rule_52, rule_63, standing_lines}
-
--- the first refusal, or else the second
-abbrev pub first_of : Option Refusal → Option Refusal → Option Refusal
-first_of None r = r
-first_of (Some r) s = Some r
-
-pub first_broken_append : (xs ys : List Check) → first_broken (xs ++ ys) ≡ first_of (first_broken xs) (first_broken ys)
-first_broken_append [] ys = refl
-first_broken_append (x ∷ xs) ys = go x.is_broken (first_broken_append xs ys)
-  where
-    go : (b : Bool) → first_broken (xs ++ ys) ≡ first_of (first_broken xs) (first_broken ys) →
-        cond b (Some (told_by x)) (first_broken (xs ++ ys)) ≡ first_of (cond b (Some (told_by x)) (first_broken xs)) (first_broken ys)
-    go true e = refl
-    go false e = e
-
--- the same of three lists
-pub three_groups : (xs ys zs : List Check) →
-    first_broken (xs ++ (ys ++ zs)) ≡ first_of (first_broken xs) (first_of (first_broken ys) (first_broken zs))
-three_groups xs ys zs = first_broken_append xs (ys ++ zs) ∙ ap (first_of (first_broken xs)) (first_broken_append ys zs)
 
 -- a term that is filed: where it stands, its days, its breaks, and the other terms of its school
 pub calendar_groups : (f : Facts) (school : ℕ) (c : CalendarFacts) →
@@ -40,7 +24,7 @@ pub calendar_groups : (f : Facts) (school : ℕ) (c : CalendarFacts) →
     (first_of (first_broken (rule_23 (term_of c))) (first_broken (stands 22 f.overlap_at c.term ∷ rule_24 (term_of c) f.main_terms f.terms))))
 calendar_groups f school c =
     let t : Term = term_of c in
-    let standing : List Check = rule_90 f.filings ∷ lacks 12 f.school_at school 0 ∷ stands 20 f.term_at c.term ∷ [] in
+    let standing : List RuleLine = rule_90 f.filings ∷ lacks 12 f.school_at school 0 ∷ stands 20 f.term_at c.term ∷ [] in
     first_broken_append standing (rule_21 t ++ (rule_23 t ++ (stands 22 f.overlap_at c.term ∷ rule_24 t f.main_terms f.terms)))
     ∙ ap (first_of (first_broken standing)) (three_groups (rule_21 t) (rule_23 t) (stands 22 f.overlap_at c.term ∷ rule_24 t f.main_terms f.terms))
 
@@ -70,14 +54,14 @@ pub withdrawal_groups : (f : Facts) (school : ℕ) (w : WithdrawFacts) →
     (first_of (first_broken (lacks 60 f.credits w.student w.term ∷ stands 61 f.withdrawn_at w.term ∷ []))
     (first_of (first_broken (rule_62 w.last f.term ++ (too_early 21 w.determined w.last ∷ []))) (first_broken (rule_63 f w.could))))
 withdrawal_groups f school w =
-    let standing : List Check = standing_lines f school w.student w.year w.term in
-    let enrolled : List Check = lacks 60 f.credits w.student w.term ∷ stands 61 f.withdrawn_at w.term ∷ [] in
-    let days : List Check = rule_62 w.last f.term ++ (too_early 21 w.determined w.last ∷ []) in
-    let could : List Check = rule_63 f w.could in
-    ap (λ (lines : List Check). first_broken (standing ++ (enrolled ++ lines))) (joined f.term could)
+    let standing : List RuleLine = standing_lines f school w.student w.year w.term in
+    let enrolled : List RuleLine = lacks 60 f.credits w.student w.term ∷ stands 61 f.withdrawn_at w.term ∷ [] in
+    let days : List RuleLine = rule_62 w.last f.term ++ (too_early 21 w.determined w.last ∷ []) in
+    let could : List RuleLine = rule_63 f w.could in
+    ap (λ (lines : List RuleLine). first_broken (standing ++ (enrolled ++ lines))) (joined f.term could)
     ∙ (first_broken_append standing (enrolled ++ (days ++ could)) ∙ ap (first_of (first_broken standing)) (three_groups enrolled days could))
   where
-    joined : (t : Option Term) (could : List Check) →
+    joined : (t : Option Term) (could : List RuleLine) →
         rule_62 w.last t ++ (too_early 21 w.determined w.last ∷ could) ≡ (rule_62 w.last t ++ (too_early 21 w.determined w.last ∷ [])) ++ could
     joined None could = refl
     joined (Some t) could = refl

@@ -3,7 +3,7 @@ use Rattle.std.proofs.Common.{◌≡◌, ℕ, ◌*◌, ◌≤◌, ◌<◌, min, 
 use Rattle.std.proofs.lemmas.Grind.{common_steps}
 use Rattle.aid_types.specs.declared.award.Refusal.{Refusal}
 use Rattle.filing_rules.specs.declared.facts.Facts.{Facts}
-use Rattle.filing_rules.specs.Rules.{first_broken}
+use Rattle.rule_lines.specs.RuleLines.{first_broken}
 use Rattle.filing_rules.specs.Lines.{payment_lines}
 use Rattle.filing_rules.specs.Quote.{is_payable, greatest_payment}
 use Rattle.filing_rules.specs.QuoteLimits.{MayBePaid, IsAffordable, IsMostDollars}

@@ -9,7 +9,9 @@ use Rattle.aid_types.specs.declared.award.Refusal.{Refusal}
 use Rattle.enrolment.specs.Terms.{intensity_of, payment_of}
 use Rattle.lifetime_ledger.specs.Used.{use_of}
 use Rattle.filing_rules.specs.declared.facts.Facts.{Facts}
-use Rattle.filing_rules.specs.Rules.{Check, over, stands, lacks, where_true, too_early, only, first_broken, told, rule_90, rule_21, rule_23, rule_24, rule_53, rule_62, rule_91, limit_of}
+use Rattle.rule_lines.specs.declared.line.RuleLine.{RuleLine}
+use Rattle.rule_lines.specs.RuleLines.{over, stands, lacks, where_true, too_early, only, first_broken, told}
+use Rattle.filing_rules.specs.Rules.{rule_90, rule_21, rule_23, rule_24, rule_53, rule_62, rule_91, limit_of}
 
 -- the payment of this term in cents, at the credits in force
 abbrev pub payment_here : Facts → ℕ
@@ -19,33 +21,33 @@ abbrev pub year_limit : Facts → ℕ
 year_limit f = limit_of f.term (intensity_of f.credits f.full) f.scheduled
 
 -- 54 to 57, told under a number: past the term's payment, the year's limits, the lifetime limit, the cost
-abbrev pub past_payment : ℕ → Facts → ℕ → Check
+abbrev pub past_payment : ℕ → Facts → ℕ → RuleLine
 past_payment rule f cents = over rule (f.pell_term + cents) (payment_here f)
 
-abbrev pub past_year : ℕ → Facts → ℕ → Check
+abbrev pub past_year : ℕ → Facts → ℕ → RuleLine
 past_year rule f cents = over rule (f.pell_year + cents) (year_limit f)
 
-abbrev pub past_fseog : ℕ → Facts → ℕ → Check
+abbrev pub past_fseog : ℕ → Facts → ℕ → RuleLine
 past_fseog rule f cents = over rule (f.fseog_year + cents) 400000
 
-abbrev pub past_lifetime : ℕ → Facts → ℕ → Check
+abbrev pub past_lifetime : ℕ → Facts → ℕ → RuleLine
 past_lifetime rule f cents = over rule (f.used_else + use_of (f.pell_year + cents) f.scheduled) 600000
 
-abbrev pub past_cost : ℕ → Facts → ℕ → Check
+abbrev pub past_cost : ℕ → Facts → ℕ → RuleLine
 past_cost rule f cents = over rule (f.net_all + cents) (100 * f.cost)
 
 -- 40, 58: no Pell for this student; a term of another school that shares a day is paid
-abbrev pub pell_lines : Facts → ℕ → List Check
+abbrev pub pell_lines : Facts → ℕ → List RuleLine
 pell_lines f school = where_true 40 (f.scheduled == 0) f.transaction 0 ∷ stands 58 f.other_school school ∷ []
 
 -- 52: past the post-withdrawal amounts
-abbrev pub rule_52 : Facts → ℕ → ℕ → List Check
+abbrev pub rule_52 : Facts → ℕ → ℕ → List RuleLine
 rule_52 f program cents =
     only (nat_lt 0 f.withdrawn_at)
     (over 52 (f.after + cents) (slice_index f.could program) ∷ over 52 (f.after_all + cents) f.post ∷ [])
 
 -- 63: what could have been disbursed is past a limit
-abbrev pub rule_63 : Facts → List ℕ → List Check
+abbrev pub rule_63 : Facts → List ℕ → List RuleLine
 rule_63 f could =
     let pell = slice_index could 3 in
     let fseog = slice_index could 4 in
@@ -54,14 +56,14 @@ rule_63 f could =
     ++ only (nat_lt 0 (sum could)) (past_cost 63 f (sum could) ∷ []))
 
 -- 93: a correction would leave a limit exceeded
-abbrev pub rule_93 : Facts → List Check
+abbrev pub rule_93 : Facts → List RuleLine
 rule_93 f =
     told f.term_over
     ++ (over 93 f.pell_main (100 * f.next_scheduled) ∷ over 93 f.pell_year (150 * f.next_scheduled)
     ∷ over 93 (f.used_else + use_of f.pell_year f.next_scheduled) 600000 ∷ [])
 
 -- what a payment of so many cents of a program by a school tries after where the student stands and the amount alone
-abbrev pub amount_lines : Facts → ℕ → ℕ → ℕ → List Check
+abbrev pub amount_lines : Facts → ℕ → ℕ → ℕ → List RuleLine
 amount_lines f school program cents =
     let is_pell = program == 3 in
     only is_pell (pell_lines f school)
@@ -70,19 +72,19 @@ amount_lines f school program cents =
     ++ (only (program == 4) (past_fseog 55 f cents ∷ []) ++ (past_cost 57 f cents ∷ []))))
 
 -- what a payment and a withdrawal begin with: the school, the term, and the student there
-abbrev pub standing_lines : Facts → ℕ → ℕ → ℕ → ℕ → List Check
+abbrev pub standing_lines : Facts → ℕ → ℕ → ℕ → ℕ → List RuleLine
 standing_lines f school student year term =
     rule_90 f.filings ∷ lacks 12 f.school_at school 0 ∷ lacks 30 f.term_at term 0 ∷ lacks 31 f.transaction student year
     ∷ lacks 50 f.cost_at student school ∷ []
 
 -- a payment of so many cents of a program by a school to a student in a year's term: its lines in their order
-abbrev pub payment_lines : Facts → ℕ → ℕ → ℕ → ℕ → ℕ → ℕ → List Check
+abbrev pub payment_lines : Facts → ℕ → ℕ → ℕ → ℕ → ℕ → ℕ → List RuleLine
 payment_lines f school student year term program cents =
     standing_lines f school student year term
     ++ (lacks 51 f.credits student term ∷ rule_53 (program == 3) cents ∷ amount_lines f school program cents)
 
 -- the lines of a filing by a school, in the order of its kind
-abbrev pub lines_of : Facts → ℕ → What → List Check
+abbrev pub lines_of : Facts → ℕ → What → List RuleLine
 lines_of f school (BookFiled b) = rule_90 f.filings ∷ over 14 school 0 ∷ stands 11 f.book_at b.year ∷ []
 lines_of f school (School s) = rule_90 f.filings ∷ over 14 school 0 ∷ stands 13 f.code_at s.code ∷ []
 lines_of f school (Calendar c) =

@@ -1,9 +1,10 @@
 -- The greatest Pell payment that breaks no rule.
 use Rattle.std.specs.Prelude.{ℕ, zero, suc, ◌*◌, Bool, List, is_none, if◌then◌else◌}
-use Rattle.filing_rules.specs.Rules.{Check, first_broken}
+use Rattle.rule_lines.specs.declared.line.RuleLine.{RuleLine}
+use Rattle.rule_lines.specs.RuleLines.{first_broken}
 
 -- whether so many whole dollars of Pell break no rule of a payment of so many cents
-abbrev pub is_payable : (ℕ → List Check) → ℕ → Bool
+abbrev pub is_payable : (ℕ → List RuleLine) → ℕ → Bool
 is_payable rules dollars = is_none (first_broken (rules (100 * dollars)))
 
 -- the greatest number up to a bound that passes, and 0 where none does
@@ -12,5 +13,5 @@ greatest p zero = 0
 greatest p (suc n) = if p (suc n) then suc n else greatest p n
 
 -- the greatest payable amount in cents among all whole dollars that a filing may hold, and 0 where none is payable
-unfoldable pub greatest_payment : (ℕ → List Check) → ℕ
+unfoldable pub greatest_payment : (ℕ → List RuleLine) → ℕ
 greatest_payment rules = 100 * greatest (is_payable rules) 999999

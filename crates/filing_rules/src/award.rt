@@ -2,13 +2,13 @@
 ghost use Rattle.std.specs.Prelude.{◌≡◌};
 ghost use Rattle.aid_filings.specs.declared.filing.What.TheVariants.{Apply};
 ghost use Rattle.filing_rules.specs.Lines.{lines_of, rule_93};
-ghost use Rattle.filing_rules.specs.Rules.{first_broken as first_broken_of};
+ghost use Rattle.rule_lines.specs.RuleLines.{first_broken as first_broken_of};
 
-use crate::check::{first_broken, lacks, over, where_true};
 use crate::facts::Facts;
 use crate::limits::{MOST_UNITS, units_used};
 use crate::rules::{rule_12, rule_90};
 use aid_types::{Application, Refusal, School};
+use rule_lines::{first_broken, lacks, over, where_true};
 
 /// The first broken rule of an application or a correction.
 pub(crate) fn broken_application(f: &Facts, school: School, filed: &Application) -> Option<Refusal>

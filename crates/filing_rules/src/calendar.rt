@@ -2,13 +2,14 @@
 ghost use Rattle.std.specs.Prelude.{◌≡◌};
 ghost use Rattle.aid_filings.specs.declared.filing.What.TheVariants.{Calendar};
 ghost use Rattle.filing_rules.specs.Lines.{lines_of};
-ghost use Rattle.filing_rules.specs.Rules.{breaks_in_order, first_broken as first_broken_of, rule_21, rule_23};
+ghost use Rattle.rule_lines.specs.RuleLines.{first_broken as first_broken_of};
+ghost use Rattle.filing_rules.specs.Rules.{breaks_in_order, rule_21, rule_23};
 
-use crate::check::{first_broken, stands, too_early, where_true};
 use crate::facts::Facts;
 use crate::rules::{rule_12, rule_90};
 use aid_filings::CalendarFacts;
 use aid_types::{Day, Refusal, School, Term};
+use rule_lines::{first_broken, stands, too_early, where_true};
 
 /// The first broken rule of a term that a school files.
 #[tactic(auto, using(crate::proofs::Groups::calendar_groups))]

@@ -1,16 +1,16 @@
 //! The rules on what the office's own desk files: books, schools and prior use.
 ghost use Rattle.std.specs.Prelude.{◌≡◌};
 ghost use Rattle.filing_rules.specs.Lines.{lines_of};
-ghost use Rattle.filing_rules.specs.Rules.{first_broken as first_broken_of};
+ghost use Rattle.rule_lines.specs.RuleLines.{first_broken as first_broken_of};
 ghost use Rattle.aid_filings.specs.declared.filing.What.TheVariants.{Book as BookFiled, School as SchoolFiled, Prior as PriorFiled};
 
-use crate::check::{first_broken, over, stands};
 use crate::facts::Facts;
 use crate::limits::MOST_UNITS;
 use crate::rules::{rule_14, rule_90};
 use aid_books::BoxedBook;
 use aid_filings::{PriorFacts, SchoolFacts};
 use aid_types::{Refusal, School};
+use rule_lines::{first_broken, over, stands};
 
 /// The first broken rule of an award year's tables.
 pub(crate) fn broken_book(f: &Facts, school: School, book: &BoxedBook) -> Option<Refusal>

@@ -8,7 +8,6 @@ ghost use Rattle.std.specs.Prelude.{◌≡◌};
 
 mod award;
 mod calendar;
-mod check;
 mod desk;
 mod facts;
 mod limits;

@@ -4,10 +4,8 @@ ghost use Rattle.aid_types.specs.Ranges.{IsBetween};
 ghost use Rattle.enrolment.specs.Terms.{intensity_of, payment_of};
 ghost use Rattle.filing_rules.specs.InRange.{AreFactsInRange};
 ghost use Rattle.lifetime_ledger.specs.Used.{use_of as use_in_units};
-ghost use Rattle.filing_rules.specs.Rules.{
-  first_broken as first_broken_of,
-  is_half_time_extra,
-};
+ghost use Rattle.rule_lines.specs.RuleLines.{first_broken as first_broken_of};
+ghost use Rattle.filing_rules.specs.Rules.{is_half_time_extra};
 ghost use Rattle.filing_rules.specs.Lines.{
   past_cost as past_cost_of,
   past_fseog as past_fseog_of,
@@ -17,11 +15,11 @@ ghost use Rattle.filing_rules.specs.Lines.{
   year_limit,
 };
 
-use crate::check::{Check, first_broken, over};
 use crate::facts::Facts;
 use aid_types::Refusal;
 use enrolment::{intensity, period_pay};
 use lifetime_ledger::use_of;
+use rule_lines::{RuleLine, first_broken, over};
 
 /// The lifetime limit of Pell Grants in units of a thousandth of a percent: six Scheduled Awards (HEA 401(d)(5)).
 pub const MOST_UNITS: u64 = 600_000;
@@ -108,7 +106,7 @@ pub(crate) fn broken_by_pell(f: &Facts, rules: PellRules, cents: u64) -> Option<
 }
 
 /// So many cents of FSEOG more pass the year's limit (HEA 413B(a)(2)), one over all schools, told under this rule.
-pub(crate) fn past_fseog(rule: u16, f: &Facts, cents: u64) -> Check
+pub(crate) fn past_fseog(rule: u16, f: &Facts, cents: u64) -> RuleLine
     requires facts { AreFactsInRange f.now }
     requires amount { cents ≤ 99999999 }
     ensures { result ≡ past_fseog_of rule f.now cents }
@@ -118,7 +116,7 @@ pub(crate) fn past_fseog(rule: u16, f: &Facts, cents: u64) -> Check
 
 /// So many cents more of any program pass the cost of attendance (HEA 401(b)(3) for Pell; own for all programs together),
 /// told under this rule.
-pub(crate) fn past_cost(rule: u16, f: &Facts, cents: u64) -> Check
+pub(crate) fn past_cost(rule: u16, f: &Facts, cents: u64) -> RuleLine
     requires facts { AreFactsInRange f.now }
     requires amount { cents ≤ 599999994 }
     ensures { result ≡ past_cost_of rule f.now cents }

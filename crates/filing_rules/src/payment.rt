@@ -4,14 +4,15 @@ ghost use Rattle.aid_types.specs.Programs.{rank};
 ghost use Rattle.aid_filings.specs.declared.filing.What.TheVariants.{Pay};
 ghost use Rattle.filing_rules.specs.InRange.{AreFactsInRange};
 ghost use Rattle.filing_rules.specs.Lines.{amount_lines, lines_of};
-ghost use Rattle.filing_rules.specs.Rules.{first_broken as first_broken_of, rule_53 as rule_53_of};
+ghost use Rattle.rule_lines.specs.RuleLines.{first_broken as first_broken_of};
+ghost use Rattle.filing_rules.specs.Rules.{rule_53 as rule_53_of};
 
-use crate::check::{Check, first_broken, over, stands, where_true};
 use crate::facts::Facts;
 use crate::limits::{PellRules, broken_by_pell, past_cost, past_fseog};
 use crate::rules::{broken_by_standing, not_enrolled};
 use aid_filings::Amount;
 use aid_types::{Program, Refusal, School};
+use rule_lines::{RuleLine, first_broken, over, stands, where_true};
 
 /// The rules on a payment of Pell past a limit.
 const PAYMENT_RULES: PellRules = PellRules {
@@ -34,7 +35,7 @@ pub(crate) fn broken_payment(f: &Facts, school: School, payment: &Amount) -> Opt
 }
 
 /// There is no amount, or it is one of Pell and not in whole dollars.
-fn rule_53(is_pell: bool, cents: u64) -> Check
+fn rule_53(is_pell: bool, cents: u64) -> RuleLine
     ensures { result ≡ rule_53_of is_pell cents }
 {
     where_true(53, cents == 0 || is_pell && cents % 100 != 0, cents, 100)

@@ -1,17 +1,13 @@
 //! The quote: the greatest Pell payment that breaks no rule.
-#![tactic(auto)]
-
-mod limits;
-
 ghost use Rattle.std.specs.Prelude.{◌≡◌, ◌≤◌, ◌<◌, ◌*◌, ℕ, None};
 ghost use Rattle.filing_rules.specs.InRange.{AreFactsInRange};
 ghost use Rattle.filing_rules.specs.Quote.{greatest_payment};
-ghost use Rattle.filing_rules.specs.Rules.{first_broken};
+ghost use Rattle.rule_lines.specs.RuleLines.{first_broken};
 ghost use Rattle.filing_rules.specs.Lines.{payment_lines};
 
 use crate::Facts;
+use crate::quote_limits::{may_be_paid, most_dollars};
 use aid_types::{School, Student, Year};
-use limits::{may_be_paid, most_dollars};
 
 /// The greatest amount of a filing in whole dollars.
 const MOST_DOLLARS: u64 = 999_999;

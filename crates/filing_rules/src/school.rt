@@ -5,14 +5,14 @@ ghost use Rattle.aid_filings.specs.declared.filing.What.TheVariants.{Enrol, Orig
 ghost use Rattle.filing_rules.specs.InRange.{AreFactsInRange};
 ghost use Rattle.enrolment.specs.Terms.{intensity_of, payment_of};
 ghost use Rattle.filing_rules.specs.Lines.{lines_of};
-ghost use Rattle.filing_rules.specs.Rules.{first_broken as first_broken_of, over as over_of};
+ghost use Rattle.rule_lines.specs.RuleLines.{first_broken as first_broken_of, over as over_of};
 
-use crate::check::{Check, first_broken, over, stands, where_true};
 use crate::facts::Facts;
 use crate::limits::payment_at;
 use crate::rules::{rule_12, rule_30, rule_31, rule_34, rule_71, rule_90};
 use aid_filings::{Amount, EnrolFacts, OriginateFacts};
 use aid_types::{Refusal, School};
+use rule_lines::{RuleLine, first_broken, over, stands, where_true};
 
 /// The most credits of a student in a term: the office's own.
 const MOST_CREDITS: u8 = 40;
@@ -41,7 +41,7 @@ pub(crate) fn broken_enrolment(f: &Facts, school: School, enrolment: &EnrolFacts
 }
 
 /// More Pell is paid than the new credits give.
-fn rule_33(f: &Facts, credits: u8) -> Check
+fn rule_33(f: &Facts, credits: u8) -> RuleLine
     requires facts { AreFactsInRange f.now }
     requires on_file { f.now.school_at ≡ 0 → ⊥ }
     requires credits { IsBetween 1 40 credits }

@@ -4,14 +4,15 @@ ghost use Rattle.aid_types.specs.Ranges.{EachIsCents};
 ghost use Rattle.aid_filings.specs.declared.filing.What.TheVariants.{Withdraw};
 ghost use Rattle.filing_rules.specs.InRange.{AreFactsInRange};
 ghost use Rattle.filing_rules.specs.Lines.{lines_of, rule_63};
-ghost use Rattle.filing_rules.specs.Rules.{first_broken as first_broken_of, rule_62, too_early as too_early_of};
+ghost use Rattle.rule_lines.specs.RuleLines.{first_broken as first_broken_of, too_early as too_early_of};
+ghost use Rattle.filing_rules.specs.Rules.{rule_62};
 
-use crate::check::{first_broken, over, stands, too_early};
 use crate::facts::Facts;
 use crate::limits::{PellRules, broken_by_pell, past_cost, past_fseog};
 use crate::rules::{broken_by_standing, not_enrolled};
 use aid_filings::WithdrawFacts;
 use aid_types::{ByProgram, Program, Refusal, School};
+use rule_lines::{first_broken, over, stands, too_early};
 
 /// The rule on a withdrawal after which what could have been disbursed of Pell is past a limit.
 const WITHDRAWAL_RULES: PellRules = PellRules {

@@ -19,7 +19,9 @@ use Rattle.aid_filings.specs.declared.filing.What.TheVariants.{Book as BookFiled
 use Rattle.aid_types.specs.declared.award.Refusal.{Refusal}
 use Rattle.enrolment.specs.Terms.{intensity_of}
 use Rattle.lifetime_ledger.specs.Used.{use_of}
-use Rattle.filing_rules.specs.Rules.{Check, limit_of, rule_53, rule_62, rule_91, told, too_early, lacks, over, only, rule_21, rule_23, rule_24, stands, where_true}
+use Rattle.rule_lines.specs.declared.line.RuleLine.{RuleLine}
+use Rattle.rule_lines.specs.RuleLines.{told, too_early, lacks, over, only, stands, where_true}
+use Rattle.filing_rules.specs.Rules.{limit_of, rule_53, rule_62, rule_91, rule_21, rule_23, rule_24}
 use Rattle.office_history.specs.Award.{award_under, scheduled, unfit_under}
 use Rattle.office_history.specs.Net.{at_school_in_year, in_year, net, pell_main, pell_term, pell_year, used_else, cell_at, in_term, is_cell, paid_after, post}
 use Rattle.office_history.specs.Past.{application, at_school, book_in, cost, cost_in, credits, pell_payment_in, prior_in, school_in, term_in, terms_on_file, the_book, the_school, the_term, the_withdrawal, withdrawal_in}
@@ -88,7 +90,7 @@ calendar_is past key c =
     ∙ and_both refl (and_both refl (and_turn (all_keep (rule_21 (term_of c))) (all_keep (rule_23 (term_of c))) (all_keep others)
     ∙ sym (keep_both (rule_21 (term_of c)) (rule_23 (term_of c) ++ others) ∙ and_both refl (keep_both (rule_23 (term_of c)) others)))))
   where
-    others : List Check
+    others : List RuleLine
     others = stands 22 (overlap_at past key.school (term_of c)) c.term
         ∷ rule_24 (term_of c) (main_term_count past key.school c.year) (terms_of (the_school past key.school))
 
@@ -142,7 +144,7 @@ module _ (past : List Filing) (school student year term : ℕ) where
       (tried fseog (past_fseog past school student year term 63 fseog ∷ []) (fseog_kept 63 fseog))
       (tried all (past_cost past school student year term 63 all ∷ []) (cost_kept 63 all))
     where
-      tried : (n : ℕ) (lines : List Check) {x : Bool} → x ≡ all_keep lines → (n == 0 || x) ≡ all_keep (only (nat_lt 0 n) lines)
+      tried : (n : ℕ) (lines : List RuleLine) {x : Bool} → x ≡ all_keep lines → (n == 0 || x) ≡ all_keep (only (nat_lt 0 n) lines)
       tried n lines {x} h = limit_or n h ∙ sym (keep_only (nat_lt 0 n) lines)
 
   -- limits on an amount of one program
@@ -157,16 +159,16 @@ module _ (past : List Filing) (school student year term : ℕ) where
       (tried fseog (λ n. nat_le (net past (in_year student year 4) + n) 400000) (past_fseog past school student year term 55 cents ∷ []) (fseog_kept 55 cents))
       (limit_if true cents (λ n. nat_le (net past (at_school_in_year school student year) + n) (100 * cost past school student year)) some ∙ cost_kept 57 cents)
     where
-      tried : (p : Bool) (keeps : ℕ → Bool) (lines : List Check) → keeps cents ≡ all_keep lines → (cond p cents 0 == 0 || keeps (cond p cents 0)) ≡ all_keep (only p lines)
+      tried : (p : Bool) (keeps : ℕ → Bool) (lines : List RuleLine) → keeps cents ≡ all_keep lines → (cond p cents 0 == 0 || keeps (cond p cents 0)) ≡ all_keep (only p lines)
       tried p keeps lines h = limit_if p cents keeps some ∙ or_then (not p) h ∙ sym (keep_only p lines)
 
   -- the lines that a payment and a withdrawal begin with, after the first
-  abbrev later_lines : ℕ → List Check
+  abbrev later_lines : ℕ → List RuleLine
   later_lines rule =
       lacks 31 (transaction_of (application past student year)) student year ∷ lacks 50 (cost_at past school student year) student school
       ∷ lacks rule (credits past school student year term) student term ∷ []
 
-  abbrev aided_lines : ℕ → List Check
+  abbrev aided_lines : ℕ → List RuleLine
   aided_lines rule = lacks 12 (school_at past school) school 0 ∷ lacks 30 (term_at past school year term) term 0 ∷ later_lines rule
 
   aided_kept : (rule : ℕ) → may_be_aided past school student year term ≡ all_keep (aided_lines rule)
@@ -186,13 +188,13 @@ withdraw_is past key w =
     ∙ and_then refl (λ aided. and_both refl (and_both (in_days w.last (the_term past key.school w.year w.term) (aided_term past key.school w.student w.year w.term 60 aided)) refl))
     ∙ sym (keep_both aided_first (stands 61 (withdrawn_at past key.school w.student w.year w.term) w.term ∷ days ++ rest) ∙ and_both refl (and_both refl (keep_both days rest))))
   where
-    aided_first : List Check
+    aided_first : List RuleLine
     aided_first = aided_lines past key.school w.student w.year w.term 60
 
-    days : List Check
+    days : List RuleLine
     days = rule_62 w.last (the_term past key.school w.year w.term)
 
-    rest : List Check
+    rest : List RuleLine
     rest = too_early 21 w.determined w.last ∷ rule_63 past key.school w.student w.year w.term w.could
 
 -- limits of an award
@@ -215,10 +217,10 @@ apply_is past key a =
     ∙ sym (keep_both (only (nat_lt 0 key.school) first) (lacks 10 (book_at past a.year) a.year 0 ∷ told (unfit_under (the_book past a.year) a) ++ rest)
     ∙ and_both refl (and_both refl (keep_both (told (unfit_under (the_book past a.year) a)) rest ∙ and_both (keep_told (unfit_under (the_book past a.year) a)) refl))))
   where
-    first : List Check
+    first : List RuleLine
     first = lacks 12 (school_at past key.school) key.school 0 ∷ []
 
-    rest : List Check
+    rest : List RuleLine
     rest = rule_91 a.transaction (transaction_of (application past a.student a.year)) ∷ rule_93 past a.student a.year (award_filed past a)
 
     schools : (key.school == 0 || is_some (the_school past key.school)) ≡ all_keep (only (nat_lt 0 key.school) first)
@@ -249,14 +251,14 @@ pay_is past key a coded =
     is_pell : Bool
     is_pell = rank a.program == 3
 
-    pell : List Check
+    pell : List RuleLine
     pell = where_true 40 (scheduled past a.student a.year == 0) (transaction_of (application past a.student a.year)) 0
         ∷ rule_58 past key.school a.student a.year a.term ∷ []
 
-    after : List Check
+    after : List RuleLine
     after = rule_52 past key.school a.student a.year a.term (rank a.program) a.cents
 
-    limits : List Check
+    limits : List RuleLine
     limits = only is_pell (pell_limits past key.school a.student a.year a.term 54 55 56 a.cents)
         ++ (only (rank a.program == 4) (past_fseog past key.school a.student a.year a.term 55 a.cents ∷ [])
         ++ (past_cost past key.school a.student a.year a.term 57 a.cents ∷ []))

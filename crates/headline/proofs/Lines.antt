@@ -2,16 +2,17 @@
 use Rattle.std.proofs.Common.{◌≡◌, Bool, true, false, not, ◌&&◌, ◌||◌, List, [], ◌∷◌, ◌++◌, Option, Some, None, refl, sym, ◌∙◌, cond}
 use Rattle.std.specs.Prelude.{is_none}
 use Rattle.aid_types.specs.declared.award.Refusal.{Refusal}
-use Rattle.filing_rules.specs.Rules.{Check, first_broken, only, told, told_by}
+use Rattle.rule_lines.specs.declared.line.RuleLine.{RuleLine}
+use Rattle.rule_lines.specs.RuleLines.{first_broken, only, told, told_by}
 use Rattle.headline.proofs.Tests.{and_both, and_three}
 
 -- no line is broken
-abbrev pub all_keep : List Check → Bool
+abbrev pub all_keep : List RuleLine → Bool
 all_keep [] = true
 all_keep (line ∷ lines) = not line.is_broken && all_keep lines
 
 -- no line of a list is the first that is broken exactly where all are kept
-pub none_broken_is : (lines : List Check) → is_none (first_broken lines) ≡ all_keep lines
+pub none_broken_is : (lines : List RuleLine) → is_none (first_broken lines) ≡ all_keep lines
 none_broken_is [] = refl
 none_broken_is (line ∷ lines) = go line.is_broken (told_by line) (none_broken_is lines)
   where
@@ -21,7 +22,7 @@ none_broken_is (line ∷ lines) = go line.is_broken (told_by line) (none_broken_
     go false r h = h
 
 -- two groups of lines
-pub keep_both : (xs ys : List Check) → all_keep (xs ++ ys) ≡ (all_keep xs && all_keep ys)
+pub keep_both : (xs ys : List RuleLine) → all_keep (xs ++ ys) ≡ (all_keep xs && all_keep ys)
 keep_both [] ys = refl
 keep_both (x ∷ xs) ys = go (not x.is_broken) (keep_both xs ys)
   where
@@ -30,11 +31,11 @@ keep_both (x ∷ xs) ys = go (not x.is_broken) (keep_both xs ys)
     go false h = refl
 
 -- three groups of lines
-pub three_groups : (xs ys zs : List Check) {x y z : Bool} → x ≡ all_keep xs → y ≡ all_keep ys → z ≡ all_keep zs → (x && y && z) ≡ all_keep (xs ++ (ys ++ zs))
+pub three_groups : (xs ys zs : List RuleLine) {x y z : Bool} → x ≡ all_keep xs → y ≡ all_keep ys → z ≡ all_keep zs → (x && y && z) ≡ all_keep (xs ++ (ys ++ zs))
 three_groups xs ys zs {x} {y} {z} p q r = and_three p q r ∙ sym (keep_both xs (ys ++ zs) ∙ and_both refl (keep_both ys zs))
 
 -- lines that are tried only where a test holds, and a refusal that was found elsewhere
-pub keep_only : (b : Bool) (lines : List Check) → all_keep (only b lines) ≡ (not b || all_keep lines)
+pub keep_only : (b : Bool) (lines : List RuleLine) → all_keep (only b lines) ≡ (not b || all_keep lines)
 keep_only true lines = refl
 keep_only false lines = refl
 

@@ -1,7 +1,7 @@
 //! Quotes, and where a student stands, over whatever keeps what is on file.
 ghost use Rattle.std.specs.Prelude.{◌≡◌, ℕ, ◌+◌, ◌*◌, ◌<◌, ◌≤◌, Some, None};
 ghost use Rattle.std.specs.Option.{option_copied};
-ghost use Rattle.filing_rules.specs.Rules.{first_broken};
+ghost use Rattle.rule_lines.specs.RuleLines.{first_broken};
 ghost use Rattle.office_history.specs.Answer.{quote_of, standing_of, standing_under};
 ghost use Rattle.office_history.specs.Rows.{filing_in, told_application};
 ghost use Rattle.office_history.specs.Rules.{payment_rules};

@@ -1,7 +1,7 @@
 //! What is answered on what is on file, where no looks are counted.
 ghost use Rattle.std.specs.Prelude.{◌≡◌, ℕ, ◌*◌, ◌<◌, ◌≤◌, None, IfSome, is_some};
 ghost use Rattle.aid_filings.specs.declared.reply.Verdict.TheVariants.{Admit};
-ghost use Rattle.filing_rules.specs.Rules.{first_broken};
+ghost use Rattle.rule_lines.specs.RuleLines.{first_broken};
 ghost use Rattle.office_history.specs.Answer.{answer_of, is_admit, quote_of, standing_of};
 ghost use Rattle.office_history.specs.Rules.{payment_rules};
 

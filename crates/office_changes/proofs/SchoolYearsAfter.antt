@@ -18,7 +18,7 @@ use Rattle.office_history.specs.Past.{amount_or, at_school, cost_in, earlier, ea
 use Rattle.office_history.proofs.AnyNets.{any_net_stands}
 use Rattle.office_history.proofs.Asked.{none_told}
 use Rattle.office_history.proofs.Cells.{onto_is}
-use Rattle.office_history.proofs.Checks.{all_hold, stands_holds}
+use Rattle.rule_lines.proofs.Holds.{all_hold, stands_holds}
 use Rattle.office_history.proofs.Nets.{nets_stand}
 use Rattle.office_history.proofs.Ranges.{net_is_small}
 use Rattle.office_history.specs.Accounts.{IsEntry}

@@ -13,7 +13,7 @@ use Rattle.office_history.specs.Rules.{rules_of}
 use Rattle.office_history.specs.Positions.{full_of, school_at, terms_of}
 use Rattle.office_history.specs.Past.{earlier, first_of_two, given, school_in, the_school}
 use Rattle.office_history.proofs.Asked.{none_told}
-use Rattle.office_history.proofs.Checks.{all_hold, stands_holds}
+use Rattle.rule_lines.proofs.Holds.{all_hold, stands_holds}
 use Rattle.office_history.proofs.Legal.{legal_is_short}
 use Rattle.office_history.specs.Rows.{school_row}
 use Rattle.office_history.specs.declared.rows.SchoolRow.{SchoolRow}

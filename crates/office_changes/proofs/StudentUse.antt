@@ -17,7 +17,7 @@ use Rattle.office_history.specs.Net.{all_years, sum_over, use_in, used}
 use Rattle.office_history.specs.Past.{amount_or, earliest, earlier, first_of_two, given, prior_in, prior_units}
 use Rattle.office_history.proofs.Asked.{none_told}
 use Rattle.office_history.proofs.Awards.{year_holds}
-use Rattle.office_history.proofs.Checks.{all_hold, over_holds, stands_holds}
+use Rattle.rule_lines.proofs.Holds.{all_hold, over_holds, stands_holds}
 use Rattle.office_history.proofs.Lifetime.{but, lifetime_holds}
 use Rattle.office_history.specs.Rows.{student_row, year_row}
 use Rattle.office_history.specs.declared.rows.StudentRow.{StudentRow}

@@ -12,7 +12,8 @@ use Rattle.aid_filings.specs.declared.filing.Filing.{Filing}
 use Rattle.aid_filings.specs.declared.filing.WithdrawFacts.{WithdrawFacts}
 use Rattle.aid_filings.specs.declared.filing.What.{What}
 use Rattle.aid_filings.specs.declared.filing.What.TheVariants.{Book as BookFiled, School, Calendar, Prior, Apply, Enrol, Originate, Pay, Withdraw, Repay, Adjust}
-use Rattle.filing_rules.specs.Rules.{lacks, only, told, rule_91}
+use Rattle.rule_lines.specs.RuleLines.{lacks, only, told}
+use Rattle.filing_rules.specs.Rules.{rule_91}
 use Rattle.office_history.specs.Rules.{rule_93, rules_of}
 use Rattle.office_history.specs.Answer.{IsLegal, breaks}
 use Rattle.office_history.specs.Award.{award_under, unfit_under}
@@ -23,7 +24,7 @@ use Rattle.office_history.proofs.AnyNets.{any_net_stands}
 use Rattle.office_history.proofs.Apart.{not_there}
 use Rattle.office_history.proofs.Asked.{some_told}
 use Rattle.office_history.proofs.Awards.{correction}
-use Rattle.office_history.proofs.Checks.{all_hold, hold_back, lacks_holds}
+use Rattle.rule_lines.proofs.Holds.{all_hold, hold_back, lacks_holds}
 use Rattle.office_history.proofs.Filed.{is_filed}
 use Rattle.office_history.proofs.Main.{of_sort, not_of_sort, paid_parts, paid_same, paid_unfiled, taken_parts, taken_same}
 use Rattle.office_history.specs.Accounts.{AreSums, IsEntry}

@@ -17,7 +17,9 @@ use Rattle.aid_filings.specs.declared.filing.What.TheVariants.{Book as BookFiled
 use Rattle.sai_index.specs.Fits.{is_size, size_for}
 use Rattle.sai_index.specs.Formulas.{formula}
 use Rattle.filing_rules.specs.declared.facts.Facts.{Facts}
-use Rattle.filing_rules.specs.Rules.{Check, breaks_in_order, breaks_inside, first_break_in_order, first_broken, lacks, only, rule_21, rule_23, rule_24, rule_62, rule_91, stands, told, told_by, too_early, where_true, over}
+use Rattle.rule_lines.specs.declared.line.RuleLine.{RuleLine}
+use Rattle.rule_lines.specs.RuleLines.{first_broken, lacks, only, stands, told, told_by, too_early, where_true, over}
+use Rattle.filing_rules.specs.Rules.{breaks_in_order, breaks_inside, first_break_in_order, rule_21, rule_23, rule_24, rule_62, rule_91}
 use Rattle.filing_rules.specs.Lines.{amount_lines, past_cost, past_fseog, past_lifetime, past_payment, past_year, pell_lines, rule_52, rule_63, rule_93}
 use Rattle.office_history.specs.Award.{unfit_under}
 use Rattle.office_history.specs.FactsOf.{facts_of}
@@ -27,22 +29,22 @@ use Rattle.office_history.specs.Rules.{rules_of}
 use Rattle.office_history.specs.Answer.{breaks}
 
 -- no line of a list has rule 15
-abbrev are_others : List Check → Bool
+abbrev are_others : List RuleLine → Bool
 are_others [] = true
 are_others (line ∷ lines) = not (line.rule == 15) && are_others lines
 
-others_both : (xs ys : List Check) → are_others xs ≡ true → are_others ys ≡ true → are_others (xs ++ ys) ≡ true
+others_both : (xs ys : List RuleLine) → are_others xs ≡ true → are_others ys ≡ true → are_others (xs ++ ys) ≡ true
 others_both [] ys h k = k
 others_both (x ∷ xs) ys h k =
     let p = and_parts (not (x.rule == 15)) (are_others xs) h in
     rw (p.0, others_both xs ys p.1 k) refl
 
-others_only : (b : Bool) (xs : List Check) → are_others xs ≡ true → are_others (only b xs) ≡ true
+others_only : (b : Bool) (xs : List RuleLine) → are_others xs ≡ true → are_others (only b xs) ≡ true
 others_only true xs h = h
 others_only false xs h = refl
 
 -- what such a list tells first isn't under rule 15
-told_other : (lines : List Check) (r : Refusal) → are_others lines ≡ true → first_broken lines ≡ Some r → r.rule ≡ 15 → ⊥
+told_other : (lines : List RuleLine) (r : Refusal) → are_others lines ≡ true → first_broken lines ≡ Some r → r.rule ≡ 15 → ⊥
 told_other [] r h e fifteen = cc
 told_other (line ∷ lines) r h e fifteen =
     let p = and_parts (not (line.rule == 15)) (are_others lines) h in

@@ -6,7 +6,8 @@ use Rattle.aid_types.specs.declared.award.Refusal.{Refusal}
 use Rattle.aid_filings.specs.declared.filing.Filing.{Filing}
 use Rattle.aid_filings.specs.declared.filing.What.{What}
 use Rattle.filing_rules.specs.Quote.{greatest, greatest_payment, is_payable}
-use Rattle.filing_rules.specs.Rules.{Check, first_broken}
+use Rattle.rule_lines.specs.declared.line.RuleLine.{RuleLine}
+use Rattle.rule_lines.specs.RuleLines.{first_broken}
 use Rattle.office_history.specs.Answer.{breaks, quote_of}
 use Rattle.office_history.specs.Rules.{payment_rules, rules_of}
 use Rattle.office_core.specs.Register.{IsPellPayment}
@@ -29,7 +30,7 @@ no_hundreds : (p : ℕ → Bool) (n bound : ℕ) → 100 * greatest p bound < 10
 no_hundreds p n bound above le = none_above p n bound (omega arith) le
 
 -- so no whole dollars above the greatest payment are payable
-none_payable : (rules : ℕ → List Check) (dollars : ℕ) → greatest_payment rules < 100 * dollars → dollars ≤ 999999 → is_payable rules dollars ≡ false
+none_payable : (rules : ℕ → List RuleLine) (dollars : ℕ) → greatest_payment rules < 100 * dollars → dollars ≤ 999999 → is_payable rules dollars ≡ false
 unfolding greatest_payment
 none_payable rules dollars above le = no_hundreds (is_payable rules) dollars 999999 above le
 

@@ -20,7 +20,7 @@ use Rattle.office_history.specs.FactsOf.{facts_of}
 use Rattle.office_history.specs.Positions.{school_at, least_code, lesser_code, is_paid_beside}
 use Rattle.office_history.specs.Rules.{rules_of}
 use Rattle.office_history.specs.Answer.{breaks, IsLegal}
-use Rattle.office_history.proofs.Checks.{all_hold, lacks_holds}
+use Rattle.rule_lines.proofs.Holds.{all_hold, lacks_holds}
 use Rattle.office_history.proofs.Cells.{same_cell}
 use Rattle.office_history.proofs.PayRules.{none_beside}
 use Rattle.office_history.proofs.Steps.{net_unpaid, net_paid}

@@ -15,14 +15,16 @@ use Rattle.aid_types.specs.Programs.{rank}
 use Rattle.office_history.specs.Past.{earlier, given, the_book, book_in, application, higher}
 use Rattle.office_history.specs.Award.{award_under, scheduled, unfit_under}
 use Rattle.office_history.specs.Net.{cell_of, in_year, payments_in, pell_year}
-use Rattle.filing_rules.specs.Rules.{Check, only, told, rule_91, lacks, over, is_half_time_extra}
+use Rattle.rule_lines.specs.declared.line.RuleLine.{RuleLine}
+use Rattle.rule_lines.specs.RuleLines.{only, told, lacks, over}
+use Rattle.filing_rules.specs.Rules.{rule_91, is_half_time_extra}
 use Rattle.filing_rules.specs.Lines.{lines_of, rule_93, year_limit}
 use Rattle.office_history.specs.FactsOf.{facts_of, apply_facts}
 use Rattle.office_history.specs.Positions.{book_at, transaction_of, if_fit}
 use Rattle.office_history.specs.Rules.{rules_of}
 use Rattle.office_history.specs.Answer.{breaks, IsLegal}
 use Rattle.office_history.proofs.Asked.{none_told}
-use Rattle.office_history.proofs.Checks.{AllHold, all_hold, over_holds, stands_holds, hold_front, hold_back, told_holds}
+use Rattle.rule_lines.proofs.Holds.{AllHold, all_hold, over_holds, stands_holds, hold_front, hold_back, told_holds}
 use Rattle.office_history.proofs.PayRules.{affords}
 use Rattle.office_history.proofs.Steps.{net_unpaid, net_paid, within_year}
 
@@ -56,7 +58,7 @@ pub record Corrects (f : Facts) (transaction : ℕ) : Type 0 where
 
 pub corrects : (f : Facts) (key : Key) (a : Application) → AllHold (lines_of f key.school (Apply a)) → Corrects f a.transaction
 corrects f key a k =
-    let l3 : List Check = over 93 f.pell_main (100 * f.next_scheduled) ∷ over 93 f.pell_year (150 * f.next_scheduled)
+    let l3 : List RuleLine = over 93 f.pell_main (100 * f.next_scheduled) ∷ over 93 f.pell_year (150 * f.next_scheduled)
     ∷ over 93 (f.used_else + use_of f.pell_year f.next_scheduled) 600000 ∷ [] in
     let r = hold_back (only (nat_lt 0 key.school) (lacks 12 f.school_at key.school 0 ∷ [])) (lacks 10 f.book_at a.year 0 ∷ told f.unfit ++ (rule_91 a.transaction f.transaction ∷ rule_93 f)) k.1 in
     let q = hold_back (told f.unfit) (rule_91 a.transaction f.transaction ∷ rule_93 f) r.1 in

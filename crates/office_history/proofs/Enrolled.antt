@@ -12,7 +12,7 @@ use Rattle.office_history.specs.Net.{Cell, Move, is_cell, cell_of, onto, paid, n
 use Rattle.office_history.specs.Rules.{rules_of}
 use Rattle.office_history.specs.Answer.{breaks, IsLegal}
 use Rattle.office_history.specs.Least.{IsEnrolled}
-use Rattle.office_history.proofs.Checks.{all_hold, lacks_holds}
+use Rattle.rule_lines.proofs.Holds.{all_hold, lacks_holds}
 use Rattle.office_history.proofs.Cells.{same_cell}
 use Rattle.office_history.proofs.Steps.{by_payment}
 use Rattle.office_history.proofs.Among.{among_head, among_rest, among_reversed}

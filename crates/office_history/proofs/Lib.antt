@@ -4,7 +4,6 @@ pub mod Cases
 pub mod Legal
 pub mod Recorded
 pub mod Asked
-pub mod Checks
 pub mod Lawful
 pub mod Numbers
 pub mod Cells

@@ -19,7 +19,7 @@ use Rattle.office_history.specs.FactsOf.{facts_of}
 use Rattle.office_history.specs.Positions.{prior_at, pell_at}
 use Rattle.office_history.specs.Rules.{rules_of}
 use Rattle.office_history.specs.Answer.{breaks, IsLegal}
-use Rattle.office_history.proofs.Checks.{all_hold, over_holds, stands_holds}
+use Rattle.rule_lines.proofs.Holds.{all_hold, over_holds, stands_holds}
 use Rattle.office_history.proofs.Numbers.{use_mono, use_none}
 use Rattle.office_history.proofs.PayRules.{affords}
 use Rattle.office_history.proofs.Nets.{none_before}

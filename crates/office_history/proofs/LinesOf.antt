@@ -5,7 +5,7 @@ use Rattle.aid_filings.specs.declared.filing.Filing.{Filing}
 use Rattle.aid_filings.specs.declared.filing.What.{What}
 use Rattle.aid_filings.specs.declared.filing.What.TheVariants.{Book as BookFiled, School, Calendar, Prior, Apply, Enrol, Originate, Pay, Withdraw, Repay, Adjust}
 use Rattle.filing_rules.specs.Lines.{broken_of, lines_of, payment_lines}
-use Rattle.filing_rules.specs.Rules.{first_broken}
+use Rattle.rule_lines.specs.RuleLines.{first_broken}
 use Rattle.office_history.specs.FactsOf.{facts_of, payment_facts}
 use Rattle.office_history.specs.Rules.{payment_rules, rules_of}
 use Rattle.office_history.specs.Answer.{breaks}

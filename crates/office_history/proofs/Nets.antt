@@ -13,7 +13,7 @@ use Rattle.office_history.specs.Net.{Cell, is_cell, cell_of, moved, withdrawn_ce
 use Rattle.office_history.specs.Rules.{rules_of}
 use Rattle.office_history.specs.Positions.{withdrawn_at}
 use Rattle.office_history.specs.Answer.{breaks, IsLegal}
-use Rattle.office_history.proofs.Checks.{all_hold, over_holds, stands_holds}
+use Rattle.rule_lines.proofs.Holds.{all_hold, over_holds, stands_holds}
 use Rattle.office_history.proofs.Cells.{onto_is, within_cell, moved_pair, SumsBelow}
 use Rattle.office_history.proofs.Sheets.{sums_below}
 

@@ -7,9 +7,10 @@ use Rattle.filing_rules.specs.declared.facts.Facts.{Facts}
 use Rattle.aid_filings.specs.declared.filing.What.TheVariants.{Pay}
 use Rattle.lifetime_ledger.specs.Used.{use_of}
 use Rattle.aid_types.specs.Programs.{rank}
-use Rattle.filing_rules.specs.Rules.{Check, over, only}
+use Rattle.rule_lines.specs.declared.line.RuleLine.{RuleLine}
+use Rattle.rule_lines.specs.RuleLines.{over, only}
 use Rattle.filing_rules.specs.Lines.{lines_of, broken_of, pell_lines, rule_52, past_payment, past_year, past_fseog, past_lifetime, past_cost, payment_here, year_limit}
-use Rattle.office_history.proofs.Checks.{AllHold, all_hold, over_holds, hold_front, hold_back, hold_only, lacks_holds}
+use Rattle.rule_lines.proofs.Holds.{AllHold, all_hold, over_holds, hold_front, hold_back, hold_only, lacks_holds}
 use Rattle.office_history.proofs.Numbers.{use_mono}
 
 -- the money lines of a payment, as inequalities
@@ -36,22 +37,22 @@ module _ (f : Facts) (key : Key) (a : Amount) where
   abbrev is_pell : Bool
   is_pell = rank a.program == 3
 
-  abbrev l1 : List Check
+  abbrev l1 : List RuleLine
   l1 = only is_pell (pell_lines f key.school)
 
-  abbrev l2 : List Check
+  abbrev l2 : List RuleLine
   l2 = rule_52 f (rank a.program) a.cents
 
-  abbrev pell_limits : List Check
+  abbrev pell_limits : List RuleLine
   pell_limits = past_payment 54 f a.cents ∷ past_year 55 f a.cents ∷ past_lifetime 56 f a.cents ∷ []
 
-  abbrev l3 : List Check
+  abbrev l3 : List RuleLine
   l3 = only is_pell pell_limits
 
-  abbrev l4 : List Check
+  abbrev l4 : List RuleLine
   l4 = only (rank a.program == 4) (past_fseog 55 f a.cents ∷ [])
 
-  abbrev l5 : List Check
+  abbrev l5 : List RuleLine
   l5 = past_cost 57 f a.cents ∷ []
 
   -- the lines after the amount's own

@@ -7,7 +7,8 @@ use Rattle.aid_types.specs.declared.number.Key.{Key}
 use Rattle.aid_filings.specs.declared.filing.What.{What}
 use Rattle.aid_filings.specs.declared.filing.What.TheVariants.{Book as BookFiled, School, Calendar, Prior, Apply, Enrol, Originate, Pay, Withdraw, Repay, Adjust}
 use Rattle.filing_rules.specs.Lines.{rule_63, past_payment, past_year, past_lifetime, past_fseog, past_cost}
-use Rattle.filing_rules.specs.Rules.{rule_21, stands, rule_23, rule_24, where_true, only, over, too_early, rule_62}
+use Rattle.rule_lines.specs.RuleLines.{stands, where_true, only, over, too_early}
+use Rattle.filing_rules.specs.Rules.{rule_21, rule_23, rule_24, rule_62}
 use Rattle.aid_filings.specs.declared.filing.Filing.{Filing}
 use Rattle.office_history.specs.Past.{amount_or, at_school, cost, cost_in, credits, credits_in, earlier, earliest, given, if_here, later, latest, OnFile, terms_on_file, the_school, the_withdrawal, the_term}
 use Rattle.office_history.specs.Net.{Cell, is_cell, paid, net_at, at_school_in_year, Move, onto, cell_of, paid_after, repaid, used_else, use_in, all_years, net, taken, owed, post, sheet, days_of, last_of, withdrawn_cell}
@@ -15,7 +16,7 @@ use Rattle.office_history.specs.FactsOf.{facts_of}
 use Rattle.office_history.specs.Positions.{terms_of}
 use Rattle.office_history.specs.Rules.{rules_of}
 use Rattle.office_history.specs.Answer.{breaks, IsLegal}
-use Rattle.office_history.proofs.Checks.{all_hold, hold_back, hold_only, AllHold, over_holds}
+use Rattle.rule_lines.proofs.Holds.{all_hold, hold_back, hold_only, AllHold, over_holds}
 use Rattle.office_history.proofs.Main.{of_sort, not_of_sort, paid_parts, taken_parts, paid_same, taken_same}
 use Rattle.office_history.proofs.AnyNets.{any_net_stands, covered_all}
 use Rattle.office_history.proofs.Cost.{cost_holds}

@@ -21,7 +21,7 @@ use Rattle.office_history.specs.FactsOf.{facts_of}
 use Rattle.office_history.specs.Positions.{school_at, terms_of, full_of, payment_at, told_over, is_over, least_term, earlier_term}
 use Rattle.office_history.specs.Rules.{rules_of}
 use Rattle.office_history.specs.Answer.{breaks, IsLegal}
-use Rattle.office_history.proofs.Checks.{all_hold, over_holds, stands_holds}
+use Rattle.rule_lines.proofs.Holds.{all_hold, over_holds, stands_holds}
 use Rattle.office_history.proofs.Numbers.{no_award, no_terms}
 use Rattle.office_history.proofs.Cells.{within_program}
 use Rattle.office_history.proofs.PayRules.{affords}

@@ -16,7 +16,7 @@ use Rattle.office_history.specs.Rules.{rules_of}
 use Rattle.office_history.specs.Positions.{school_at, term_at, is_over, least_term}
 use Rattle.office_history.specs.Answer.{breaks, IsLegal}
 use Rattle.office_history.specs.Least.{NonePasses, IsFiledTerm, IsLeastBy, AreOrdered, is_before}
-use Rattle.office_history.proofs.Checks.{all_hold, lacks_holds, stands_holds}
+use Rattle.rule_lines.proofs.Holds.{all_hold, lacks_holds, stands_holds}
 use Rattle.office_history.proofs.Asked.{none_told}
 use Rattle.office_history.proofs.Filed.{is_term}
 use Rattle.office_history.proofs.Apart.{known_code, not_there}

@@ -18,7 +18,7 @@ use Rattle.aid_filings.specs.declared.reply.Verdict.{Verdict}
 use Rattle.aid_filings.specs.declared.reply.Verdict.TheVariants.{Again, Refused, Admit, Quoted, Standing}
 use Rattle.sai_index.specs.Formulas.{formula}
 use Rattle.filing_rules.specs.Quote.{greatest_payment}
-use Rattle.filing_rules.specs.Rules.{first_broken}
+use Rattle.rule_lines.specs.RuleLines.{first_broken}
 use Rattle.office_history.specs.Past.{key_at, filing_at, the_book, application}
 use Rattle.pell_schedule.specs.Award.{decision_of}
 use Rattle.office_history.specs.Net.{net, in_year, pell_year, sheet, used}

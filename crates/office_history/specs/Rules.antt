@@ -8,7 +8,9 @@ use Rattle.aid_filings.specs.declared.filing.What.{What}
 use Rattle.aid_filings.specs.declared.filing.What.TheVariants.{Book as BookFiled, School, Calendar, Prior, Apply, Enrol, Originate, Pay, Withdraw, Repay, Adjust}
 use Rattle.enrolment.specs.Terms.{intensity_of}
 use Rattle.lifetime_ledger.specs.Used.{use_of}
-use Rattle.filing_rules.specs.Rules.{Check, over, stands, lacks, where_true, too_early, only, told, rule_90, rule_21, rule_23, rule_24, rule_53, rule_62, rule_91, limit_of}
+use Rattle.rule_lines.specs.declared.line.RuleLine.{RuleLine}
+use Rattle.rule_lines.specs.RuleLines.{over, stands, lacks, where_true, too_early, only, told}
+use Rattle.filing_rules.specs.Rules.{rule_90, rule_21, rule_23, rule_24, rule_53, rule_62, rule_91, limit_of}
 use Rattle.office_history.specs.Past.{the_book, the_school, the_term, the_withdrawal, credits, cost, application, terms_on_file}
 use Rattle.office_history.specs.Award.{scheduled, unfit_under}
 use Rattle.office_history.specs.Net.{cell_of, is_cell, cell_at, net, net_at, in_year, in_term, at_school_in_year, pell_term, pell_year, pell_main, used_else, owed, repaid, post, paid_after}
@@ -17,7 +19,7 @@ use Rattle.office_history.specs.Positions.{full_of, terms_of, book_at, school_at
 -- of a student's aid in a term of a school's year
 module _ (past : List Filing) (school student year term : ℕ) where
   -- so many cents more of Pell, each line under its number: past the term's payment, the year's limit, the lifetime limit
-  abbrev pub pell_limits : ℕ → ℕ → ℕ → ℕ → List Check
+  abbrev pub pell_limits : ℕ → ℕ → ℕ → ℕ → List RuleLine
   pell_limits of_term of_year of_lifetime cents =
       over of_term (pell_term past school student year term + cents) (payment_at past (scheduled past student year) school student year term)
       ∷ over of_year (pell_year past student year + cents)
@@ -26,14 +28,14 @@ module _ (past : List Filing) (school student year term : ℕ) where
       ∷ over of_lifetime (used_else past student year + use_of (pell_year past student year + cents) (scheduled past student year)) 600000 ∷ []
 
   -- so many cents more of FSEOG: past the year's limit; of any program: past the cost of attendance
-  abbrev pub past_fseog : ℕ → ℕ → Check
+  abbrev pub past_fseog : ℕ → ℕ → RuleLine
   past_fseog rule cents = over rule (net past (in_year student year 4) + cents) 400000
 
-  abbrev pub past_cost : ℕ → ℕ → Check
+  abbrev pub past_cost : ℕ → ℕ → RuleLine
   past_cost rule cents = over rule (net past (at_school_in_year school student year) + cents) (100 * cost past school student year)
 
   -- 52: past what may be paid after the withdrawal from the term, of the program and of all programs
-  abbrev pub rule_52 : ℕ → ℕ → List Check
+  abbrev pub rule_52 : ℕ → ℕ → List RuleLine
   rule_52 program cents =
       only (nat_lt 0 (withdrawn_at past school student year term))
       (over 52 (paid_after past (is_cell (cell_at school student year term program)) + cents)
@@ -41,24 +43,24 @@ module _ (past : List Filing) (school student year term : ℕ) where
       ∷ over 52 (paid_after past (in_term school student year term) + cents) (post past (in_term school student year term)) ∷ [])
 
   -- 58: a term of another school that shares a day is paid
-  abbrev pub rule_58 : Check
+  abbrev pub rule_58 : RuleLine
   rule_58 = stands 58 (least_code (is_paid_beside past school student (the_term past school year term)) (terms_on_file past)) school
 
   -- 63: what could have been disbursed at a withdrawal is past a limit
-  abbrev pub rule_63 : List ℕ → List Check
+  abbrev pub rule_63 : List ℕ → List RuleLine
   rule_63 could =
       only (nat_lt 0 (slice_index could 3)) (pell_limits 63 63 63 (slice_index could 3))
       ++ (only (nat_lt 0 (slice_index could 4)) (past_fseog 63 (slice_index could 4) ∷ [])
       ++ only (nat_lt 0 (sum could)) (past_cost 63 (sum could) ∷ []))
 
   -- what a payment and a withdrawal begin with: the office is full, or has no such school, term, application or origination
-  abbrev pub standing_rules : List Check
+  abbrev pub standing_rules : List RuleLine
   standing_rules =
       rule_90 (length past) ∷ lacks 12 (school_at past school) school 0 ∷ lacks 30 (term_at past school year term) term 0
       ∷ lacks 31 (transaction_of (application past student year)) student year ∷ lacks 50 (cost_at past school student year) student school ∷ []
 
   -- a payment of so many cents of a program; 51: not enrolled; 40: no Pell for this student; 54 to 57: the limits
-  abbrev pub payment_rules : ℕ → ℕ → List Check
+  abbrev pub payment_rules : ℕ → ℕ → List RuleLine
   payment_rules program cents =
       standing_rules
       ++ (lacks 51 (credits past school student year term) student term ∷ rule_53 (program == 3) cents
@@ -69,7 +71,7 @@ module _ (past : List Filing) (school student year term : ℕ) where
       ++ (only (program == 4) (past_fseog 55 cents ∷ []) ++ (past_cost 57 cents ∷ [])))))
 
 -- 93: a correction to this award would leave a limit exceeded
-abbrev pub rule_93 : List Filing → ℕ → ℕ → ℕ → List Check
+abbrev pub rule_93 : List Filing → ℕ → ℕ → ℕ → List RuleLine
 rule_93 past student year award =
     told (term_over past award student year)
     ++ (over 93 (pell_main past student year) (100 * award) ∷ over 93 (pell_year past student year) (150 * award)
@@ -79,7 +81,7 @@ rule_93 past student year award =
 -- 10: no book; 11, 13, 20, 41, 61, 80: it is on file; 22: it overlaps another term of the school; 34: the student withdrew from the term;
 -- 82: a Pell payment stands; 92: the application is unfit for the book; 32: credits 0 or above 40; 33: more is paid than they give;
 -- 42, 71: the amount is 0; 60: not enrolled; 70: past what is owed; 72: past the net paid; 81: past the lifetime limit
-abbrev pub rules_of : List Filing → Key → What → List Check
+abbrev pub rules_of : List Filing → Key → What → List RuleLine
 rules_of past key (BookFiled b) = rule_90 (length past) ∷ over 14 key.school 0 ∷ stands 11 (book_at past b.year) b.year ∷ []
 rules_of past key (School s) = rule_90 (length past) ∷ over 14 key.school 0 ∷ stands 13 (school_at past s.code) s.code ∷ []
 rules_of past key (Calendar c) =

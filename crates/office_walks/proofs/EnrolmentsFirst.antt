@@ -13,7 +13,7 @@ use Rattle.aid_filings.specs.declared.filing.What.TheVariants.{Book, School, Cal
 use Rattle.office_history.specs.Answer.{IsLegal, breaks}
 use Rattle.office_history.specs.Rules.{rules_of}
 use Rattle.office_history.specs.Past.{amount_or, at_school, credits, credits_in, given, if_here, later, latest}
-use Rattle.office_history.proofs.Checks.{all_hold}
+use Rattle.rule_lines.proofs.Holds.{all_hold}
 use Rattle.office_history.specs.Rows.{enrolments_of, is_enrolment}
 use Rattle.office_history.proofs.Among.{among_cases, among_head, among_rest}
 use Rattle.office_walks.specs.Links.{enrols_in, first_enrolments, is_first, is_first_in, is_first_of, places_of}

@@ -22,7 +22,7 @@ use Rattle.office_history.specs.Net.{cell_at, pell_term}
 use Rattle.office_history.specs.Past.{OnFile, at_school, earlier, given, term_in, terms_on_file, the_term}
 use Rattle.office_history.proofs.Among.{among_cases, among_head, among_rest}
 use Rattle.office_history.proofs.Asked.{none_told}
-use Rattle.office_history.proofs.Checks.{all_hold, stands_holds}
+use Rattle.rule_lines.proofs.Holds.{all_hold, stands_holds}
 use Rattle.office_history.proofs.Enrolled.{paid_enrolled}
 use Rattle.office_history.proofs.Filed.{filed_holds, is_term}
 use Rattle.office_history.proofs.LeastNumbers.{code_tells, told_least, told_none}

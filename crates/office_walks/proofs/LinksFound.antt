@@ -16,7 +16,7 @@ use Rattle.office_history.specs.Past.{at_school, earlier, first_of_two, given, l
 use Rattle.office_history.specs.Rows.{term_row, terms_at}
 use Rattle.office_history.specs.declared.rows.TermRow.{TermRow}
 use Rattle.office_history.proofs.Asked.{none_told}
-use Rattle.office_history.proofs.Checks.{all_hold, stands_holds}
+use Rattle.rule_lines.proofs.Holds.{all_hold, stands_holds}
 use Rattle.office_history.proofs.Legal.{older_legal}
 use Rattle.office_walks.specs.Links.{befores_of, is_term_of}
 use Rattle.office_walks.proofs.LinksTerms.{IsTermWalk, asked_here, filed_here, no_term, term_at_hand, walked_earliest, walked_first, walked_one}

@@ -7,12 +7,12 @@ use Rattle.aid_filings.specs.declared.filing.EnrolFacts.{EnrolFacts}
 use Rattle.aid_filings.specs.declared.filing.Filing.{Filing}
 use Rattle.aid_filings.specs.declared.filing.What.{What}
 use Rattle.aid_filings.specs.declared.filing.What.TheVariants.{Enrol}
-use Rattle.filing_rules.specs.Rules.{first_broken}
+use Rattle.rule_lines.specs.RuleLines.{first_broken}
 use Rattle.office_history.specs.Rules.{rules_of}
 use Rattle.office_history.specs.Answer.{IsLegal}
 use Rattle.office_history.specs.Positions.{school_at, term_at}
 use Rattle.office_history.specs.Past.{first_at, first_of_two}
-use Rattle.office_history.proofs.Checks.{all_hold, lacks_holds}
+use Rattle.rule_lines.proofs.Holds.{all_hold, lacks_holds}
 use Rattle.office_history.specs.declared.rows.PlaceRow.{PlaceRow}
 use Rattle.office_walks.specs.Links.{AreLinked, IsLinkable, IsPlaced, link_told}
 use Rattle.office_history.specs.Names.{place_name}

@@ -1,5 +1,6 @@
 use Rattle.std.proofs.Common.{◌≡◌, drop}
-use Rattle.filing_rules.specs.Rules.{breaks_in_order, first_broken}
+use Rattle.rule_lines.specs.RuleLines.{first_broken}
+use Rattle.filing_rules.specs.Rules.{breaks_in_order}
 use Rattle.filing_rules.proofs.calendar.broken_by_break_order.Given as goal
 
 abbrev pub invariant-loop-first : goal.invariant-loop-first

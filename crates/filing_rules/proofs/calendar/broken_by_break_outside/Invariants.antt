@@ -1,5 +1,6 @@
 use Rattle.std.proofs.Common.{◌≡◌, ◌+◌, drop}
-use Rattle.filing_rules.specs.Rules.{breaks_inside, first_broken, rule_23}
+use Rattle.rule_lines.specs.RuleLines.{first_broken}
+use Rattle.filing_rules.specs.Rules.{breaks_inside, rule_23}
 use Rattle.filing_rules.proofs.calendar.broken_by_break_outside.Given as goal
 
 abbrev pub invariant-loop-first : goal.invariant-loop-first

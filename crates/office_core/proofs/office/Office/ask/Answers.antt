@@ -3,7 +3,7 @@ use Rattle.aid_filings.specs.declared.filing.Filing.{Filing}
 use Rattle.aid_filings.specs.declared.reply.Ask.TheVariants.{Quote}
 use Rattle.aid_filings.specs.declared.reply.StandingRow.{StandingRow}
 use Rattle.aid_filings.specs.declared.reply.Verdict.TheVariants.{Quoted, Standing}
-use Rattle.filing_rules.specs.Rules.{first_broken}
+use Rattle.rule_lines.specs.RuleLines.{first_broken}
 use Rattle.office_history.specs.Answer.{IsLegal, answer_of, answer_to, quote_of, standing_of}
 use Rattle.office_history.specs.Rules.{payment_rules}
 use Rattle.office_core.specs.Register.{Register}

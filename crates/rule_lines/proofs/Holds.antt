@@ -1,10 +1,11 @@
--- What it means that no line of a list of checks is broken.
+-- What it means that no line of a list is broken.
 use Rattle.std.proofs.Common.{◌≡◌, cond, ℕ, zero, suc, ◌≤◌, ◌<◌, refl, arith, Bool, true, false, List, [], ◌∷◌, ◌++◌, Option, Some, None, ltb-false, le-ltb}
 use Rattle.aid_types.specs.declared.award.Refusal.{Refusal}
-use Rattle.filing_rules.specs.Rules.{Check, over, stands, lacks, only, first_broken, told, told_by}
+use Rattle.rule_lines.specs.declared.line.RuleLine.{RuleLine}
+use Rattle.rule_lines.specs.RuleLines.{over, stands, lacks, only, first_broken, told, told_by}
 
 -- each line holds
-abbrev pub AllHold : List Check → Type 0
+abbrev pub AllHold : List RuleLine → Type 0
 AllHold [] = Unit {0}
 AllHold (c ∷ cs) = (c.is_broken ≡ false) × AllHold cs
 
@@ -12,33 +13,33 @@ cons_of : (b : Bool) (r : Refusal) (rest : Option Refusal) → cond b (Some r) r
 cons_of true r rest h = cc
 cons_of false r rest h = (refl, h)
 
-pub all_hold : (cs : List Check) → first_broken cs ≡ None → AllHold cs
+pub all_hold : (cs : List RuleLine) → first_broken cs ≡ None → AllHold cs
 all_hold [] h = tt
 all_hold (c ∷ cs) h =
     let p : (c.is_broken ≡ false) × (first_broken cs ≡ None) = cons_of c.is_broken (told_by c) (first_broken cs) h in
     (p.0, all_hold cs p.1)
 
-pub none_broken : (cs : List Check) → AllHold cs → first_broken cs ≡ None
+pub none_broken : (cs : List RuleLine) → AllHold cs → first_broken cs ≡ None
 none_broken [] h = refl
 none_broken (c ∷ cs) h = rw h.0 (none_broken cs h.1)
 
-pub hold_front : (xs ys : List Check) → AllHold (xs ++ ys) → AllHold xs
+pub hold_front : (xs ys : List RuleLine) → AllHold (xs ++ ys) → AllHold xs
 hold_front [] ys h = tt
 hold_front (x ∷ xs) ys h = (h.0, hold_front xs ys h.1)
 
-pub hold_back : (xs ys : List Check) → AllHold (xs ++ ys) → AllHold ys
+pub hold_back : (xs ys : List RuleLine) → AllHold (xs ++ ys) → AllHold ys
 hold_back [] ys h = h
 hold_back (x ∷ xs) ys h = hold_back xs ys h.1
 
-pub hold_both : (xs ys : List Check) → AllHold xs → AllHold ys → AllHold (xs ++ ys)
+pub hold_both : (xs ys : List RuleLine) → AllHold xs → AllHold ys → AllHold (xs ++ ys)
 hold_both [] ys h k = k
 hold_both (x ∷ xs) ys h k = (h.0, hold_both xs ys h.1 k)
 
-pub hold_only : (b : Bool) (cs : List Check) → b ≡ true → AllHold (only b cs) → AllHold cs
+pub hold_only : (b : Bool) (cs : List RuleLine) → b ≡ true → AllHold (only b cs) → AllHold cs
 hold_only true cs e h = h
 hold_only false cs e h = cc
 
-pub only_holds : (b : Bool) (cs : List Check) → (b ≡ true → AllHold cs) → AllHold (only b cs)
+pub only_holds : (b : Bool) (cs : List RuleLine) → (b ≡ true → AllHold cs) → AllHold (only b cs)
 only_holds true cs h = h refl
 only_holds false cs h = tt
 
