@@ -5,8 +5,8 @@ use Rattle.disk_model.specs.Telling.{Torn, Cut}
 use Rattle.disk_model.specs.Calls.{written, cut_off, telling, reads_by, image_by, reads_after, image_after}
 use Rattle.disk_model.specs.Silent.{silent}
 use Rattle.std.specs.Global.{Vec}
-use Rattle.disk_model.specs.declared.call.Call.{Call}
-use Rattle.disk_model.specs.declared.call.Call.TheVariants.{Len, Read, Write, Cut as Cuts, Sync, FailedSync}
+use Rattle.disk_model.specs.declared.call.DiskCall.{DiskCall}
+use Rattle.disk_model.specs.declared.call.DiskCall.TheVariants.{Len, Read, Write, Cut as Cuts, Sync, FailedSync}
 
 -- a silent disk isn't honest
 pub not_honest : {A : Type 0} → IsTrue silent.honest → A
@@ -64,7 +64,7 @@ cut_left len left old = record {
     front (suc len) (x ∷ old) more le = ap (λ (l : List ℕ). x ∷ l) (front len old more le)
 
 -- a call leaves what a read gives among the images
-image_kept : (call : Call) (reads : List ℕ) (image : List ℕ → Type 0) → image reads → image_by call reads image (reads_by call reads)
+image_kept : (call : DiskCall) (reads : List ℕ) (image : List ℕ → Type 0) → image reads → image_by call reads image (reads_by call reads)
 image_kept (Write at n left) reads image is = (reads, is, torn_written at n left.items reads)
 image_kept (Cuts len left) reads image is = (reads, is, cut_left len left.items reads)
 image_kept Sync reads image is = refl
@@ -73,27 +73,27 @@ image_kept (Read buffer) reads image is = is
 image_kept FailedSync reads image is = is
 
 -- what a read gives is an image
-pub reads_image : (calls : List Call) (reads : List ℕ) (image : List ℕ → Type 0) → image reads → image_after reads image calls (reads_after reads calls)
+pub reads_image : (calls : List DiskCall) (reads : List ℕ) (image : List ℕ → Type 0) → image reads → image_after reads image calls (reads_after reads calls)
 reads_image [] reads image is = is
 reads_image (call ∷ calls) reads image is = reads_image calls (reads_by call reads) (image_by call reads image) (image_kept call reads image is)
 
 -- one call more
-pub image_push : (calls : List Call) (call : Call) (reads : List ℕ) (image : List ℕ → Type 0) → image_after reads image (calls ++ call ∷ []) ≡ image_by call (reads_after reads calls) (image_after reads image calls)
+pub image_push : (calls : List DiskCall) (call : DiskCall) (reads : List ℕ) (image : List ℕ → Type 0) → image_after reads image (calls ++ call ∷ []) ≡ image_by call (reads_after reads calls) (image_after reads image calls)
 image_push [] call reads image = refl
 image_push (first ∷ calls) call reads image = image_push calls call (reads_by first reads) (image_by first reads image)
 
-pub reads_push : (calls : List Call) (call : Call) (reads : List ℕ) → reads_after reads (calls ++ call ∷ []) ≡ reads_by call (reads_after reads calls)
+pub reads_push : (calls : List DiskCall) (call : DiskCall) (reads : List ℕ) → reads_after reads (calls ++ call ∷ []) ≡ reads_by call (reads_after reads calls)
 reads_push [] call reads = refl
 reads_push (first ∷ calls) call reads = reads_push calls call (reads_by first reads)
 
 -- the laws of a disk
-pub now_counts : (start bytes : List ℕ) (calls : List Call) (t : ℕ) (c : List ℕ) → t ≤ length calls → (telling start bytes calls).image c → (telling start bytes calls).image_since t c
-now_counts start bytes calls t c le is = (length calls, le, (let same : length calls ≤ length calls = omega arith in same), subst (λ (l : List Call). image_after start (λ d. d ≡ start) l c) (sym (take_all (length calls) calls (omega arith))) is)
+pub now_counts : (start bytes : List ℕ) (calls : List DiskCall) (t : ℕ) (c : List ℕ) → t ≤ length calls → (telling start bytes calls).image c → (telling start bytes calls).image_since t c
+now_counts start bytes calls t c le is = (length calls, le, (let same : length calls ≤ length calls = omega arith in same), subst (λ (l : List DiskCall). image_after start (λ d. d ≡ start) l c) (sym (take_all (length calls) calls (omega arith))) is)
 
-pub now_only : (start bytes : List ℕ) (calls : List Call) (c : List ℕ) → (telling start bytes calls).image_since (length calls) c → (telling start bytes calls).image c
-now_only start bytes calls c (k, from, to, is) = subst (λ (l : List Call). image_after start (λ d. d ≡ start) l c) (take_all k calls from) is
+pub now_only : (start bytes : List ℕ) (calls : List DiskCall) (c : List ℕ) → (telling start bytes calls).image_since (length calls) c → (telling start bytes calls).image c
+now_only start bytes calls c (k, from, to, is) = subst (λ (l : List DiskCall). image_after start (λ d. d ≡ start) l c) (take_all k calls from) is
 
-pub reads_are_image : (start bytes : List ℕ) (calls : List Call) → bytes ≡ reads_after start calls → (telling start bytes calls).image bytes
+pub reads_are_image : (start bytes : List ℕ) (calls : List DiskCall) → bytes ≡ reads_after start calls → (telling start bytes calls).image bytes
 reads_are_image start bytes calls is = subst (λ (r : List ℕ). image_after start (λ d. d ≡ start) calls r) (sym is) (reads_image calls start (λ d. d ≡ start) refl)
 
 -- the length of a vector of bytes has a bound

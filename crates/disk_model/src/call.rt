@@ -3,7 +3,7 @@ ghost use Rattle.std.specs.Prelude.{◌≡◌};
 
 /// A call that a disk in memory had.
 #[derive(Debug, Drop)]
-pub(crate) enum Call {
+pub(crate) enum DiskCall {
     /// The length was asked for.
     Len,
     /// A read into a buffer of so many bytes.
@@ -18,7 +18,7 @@ pub(crate) enum Call {
     FailedSync,
 }
 
-impl Call {
+impl DiskCall {
     ghost use Rattle.disk_model.specs.Calls.{buffer_of};
 
     // How long a buffer it had for what it read.
@@ -26,7 +26,7 @@ impl Call {
         ensures { result ≡ buffer_of self.now }
     {
         match self {
-            Call::Read { buffer } => *buffer as u64,
+            DiskCall::Read { buffer } => *buffer as u64,
             _ => 0,
         }
     }

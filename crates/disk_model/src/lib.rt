@@ -12,7 +12,7 @@ mod memory;
 mod stop;
 
 pub use aid_edges::Failed;
-use call::Call;
+use call::DiskCall;
 pub use disk::Disk;
 pub use host::HostDisk;
 pub use kept::{cut_kept, sync_kept, trim, write_kept};

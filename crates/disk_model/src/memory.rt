@@ -6,7 +6,7 @@ ghost use Rattle.disk_model.specs.Calls.{telling, reads_after, reads_by, buffer_
 ghost use Rattle.disk_model.specs.Laws.{reads_are_image, now_counts, now_only, length-bytes-lt};
 
 use crate::stop::{Turn, turn_with_stop, turn_without_stop};
-use crate::{Call, Disk, DiskStop, Failed, Fill};
+use crate::{Disk, DiskCall, DiskStop, Failed, Fill};
 use std::alloc::{AllocError, Global};
 
 /// An honest disk over a vector. A call that finds no memory for its record fails.
@@ -15,7 +15,7 @@ pub struct MemoryDisk {
     alloc: Global,
     start: Vec<u8>,
     bytes: Vec<u8>,
-    calls: Vec<Call>,
+    calls: Vec<DiskCall>,
     failing: Vec<u64>,
     stop: Option<DiskStop>,
     made: u64,
@@ -94,7 +94,7 @@ impl MemoryDisk {
     }
 
     // Records a call that leaves the bytes as they are.
-    fn note(&mut self, call: Call) -> Result<(), AllocError>
+    fn note(&mut self, call: DiskCall) -> Result<(), AllocError>
         requires { reads_by call self.old.bytes.items ≡ self.old.bytes.items }
         ensures calls { OnOk result (self.new.calls.items ≡ self.old.calls.items ++ call ∷ []) }
         ensures calls_err { OnErr result (self.new.calls.items ≡ self.old.calls.items) }
@@ -109,7 +109,7 @@ impl MemoryDisk {
     }
 
     // Records a call, after which these bytes are there.
-    fn commit(&mut self, call: Call, next: Vec<u8>) -> Result<(), AllocError>
+    fn commit(&mut self, call: DiskCall, next: Vec<u8>) -> Result<(), AllocError>
         requires next { next.items ≡ reads_by call self.old.bytes.items }
         requires no_read { buffer_of call ≡ 0 }
         ensures calls { OnOk result (self.new.calls.items ≡ self.old.calls.items ++ call ∷ []) }
@@ -126,7 +126,7 @@ impl MemoryDisk {
     }
 
     // Counts and records a look, and says what becomes of it.
-    fn look(&mut self, call: Call) -> Turn
+    fn look(&mut self, call: DiskCall) -> Turn
         requires { IsLook call }
         ensures told { IsRead (memory_tells self.old) (memory_tells self.new) }
         ensures bytes { self.new.bytes ≡ self.old.bytes }
@@ -154,7 +154,7 @@ impl MemoryDisk {
     {
         let next = with_bytes(self.alloc, &self.bytes, at as usize, left)?;
         let left = left.to_vec(self.alloc)?;
-        self.commit(Call::Write { at, len: n, left }, next)?;
+        self.commit(DiskCall::Write { at, len: n, left }, next)?;
         Ok(())
     }
 
@@ -171,7 +171,7 @@ impl MemoryDisk {
         let mut next = self.bytes[..len as usize].to_vec(self.alloc)?;
         next.extend_from_slice(left)?;
         let left = left.to_vec(self.alloc)?;
-        self.commit(Call::Cut { len, left }, next)?;
+        self.commit(DiskCall::Cut { len, left }, next)?;
         Ok(())
     }
 
@@ -205,7 +205,7 @@ impl MemoryDisk {
         ensures longest { memory_longest_read self.new ≡ memory_longest_read self.old }
         ensures faults { self.new.faults ≡ self.old.faults }
     {
-        self.note(Call::Sync)
+        self.note(DiskCall::Sync)
     }
 
     // Records a sync that fails.
@@ -215,7 +215,7 @@ impl MemoryDisk {
         ensures longest { memory_longest_read self.new ≡ memory_longest_read self.old }
         ensures faults { self.new.faults ≡ self.old.faults }
     {
-        let _ = self.note(Call::FailedSync);
+        let _ = self.note(DiskCall::FailedSync);
     }
 }
 
@@ -260,7 +260,7 @@ impl Disk for MemoryDisk {
         ensures unmoved { OnOk result (memory_faults self.new ≡ memory_faults self.old) }
         ensures longest { memory_longest_read self.new ≡ memory_longest_read self.old }
     {
-        match self.look(Call::Len) {
+        match self.look(DiskCall::Len) {
             Turn::Works => Ok(self.bytes.len() as u64),
             Turn::Fails(_) => Err(self.fault()),
         }
@@ -278,7 +278,7 @@ impl Disk for MemoryDisk {
         ensures no_less { memory_longest_read self.old ≤ memory_longest_read self.new }
         ensures no_more { memory_longest_read self.new ≤ max (memory_longest_read self.old) (length buf.old) }
     {
-        match self.look(Call::Read { buffer: buf.len() }) {
+        match self.look(DiskCall::Read { buffer: buf.len() }) {
             Turn::Works => Ok(copy_from(&self.bytes, at, buf)),
             Turn::Fails(_) => Err(self.fault()),
         }

@@ -8,7 +8,7 @@ ghost use Rattle.filing_journal.specs.Head.{HasHead, IsBorn, IsForeign};
 ghost use Rattle.filing_journal.specs.Founded.{UnbornOrEmpty, IsStarted};
 ghost use Rattle.filing_journal.specs.Journal.{Keeps, IsDecided, journal_disk, journal_count};
 
-use crate::head::{Head, look};
+use crate::head::{FileHead, look};
 use crate::{Header, Journal};
 use disk_model::{Disk, Failed, sync_kept, write_kept};
 
@@ -55,9 +55,9 @@ fn start<D: Disk>(disk: &mut D, header: Header) -> Result<(), Failed>
 }
 
 // The steps that a file without a journal lacks.
-fn lay_from<D: Disk>(disk: &mut D, header: Header, head: Head) -> Result<(), Failed>
+fn lay_from<D: Disk>(disk: &mut D, header: Header, head: FileHead) -> Result<(), Failed>
     requires { IsHonest (D.tells disk.old)
-        → HasHead header (D.tells disk.old).reads head × ((head ≡ Head.Short) ⊎ (head ≡ Head.Unfinished)) }
+        → HasHead header (D.tells disk.old).reads head × ((head ≡ FileHead.Short) ⊎ (head ≡ FileHead.Unfinished)) }
     ensures honest { (D.tells disk.new).honest ≡ (D.tells disk.old).honest }
     ensures done { IsHonest (D.tells disk.old) → OnOk result (IsKept (header_bytes header ++ 0 ∷ []) (D.tells disk.new)) }
     ensures moments { IsHonest (D.tells disk.old) → IsQuiet (D.tells disk.old)
@@ -67,15 +67,15 @@ fn lay_from<D: Disk>(disk: &mut D, header: Header, head: Head) -> Result<(), Fai
     ensures unmoved { OnOk result (D.faults disk.new ≡ D.faults disk.old) }
 {
     match head {
-        Head::Short => start(disk, header),
+        FileHead::Short => start(disk, header),
         _ => lay(disk, header),
     }
 }
 
 // Waits until what a read gives is on the disk, since an earlier founding may have failed in any step, and goes on.
-fn begin<D: Disk>(disk: &mut D, header: Header, head: Head) -> Result<(), Failed>
+fn begin<D: Disk>(disk: &mut D, header: Header, head: FileHead) -> Result<(), Failed>
     requires { IsHonest (D.tells disk.old)
-        → HasHead header (D.tells disk.old).reads head × ((head ≡ Head.Short) ⊎ (head ≡ Head.Unfinished)) }
+        → HasHead header (D.tells disk.old).reads head × ((head ≡ FileHead.Short) ⊎ (head ≡ FileHead.Unfinished)) }
     ensures honest { (D.tells disk.new).honest ≡ (D.tells disk.old).honest }
     ensures done { IsHonest (D.tells disk.old) → OnOk result (IsKept (header_bytes header ++ 0 ∷ []) (D.tells disk.new)) }
     ensures moments { IsHonest (D.tells disk.old) → EachImage (D.tells disk.old) (UnbornOrEmpty header)
@@ -131,9 +131,9 @@ pub fn found<D: Disk>(disk: D, header: Header) -> Result<Journal<D>, (FoundError
         Err(Failed) => return Err((FoundError::DiskFault, disk)),
     };
     match head {
-        Head::Born => return Err((FoundError::Exists, disk)),
-        Head::Foreign => return Err((FoundError::NotJournal, disk)),
-        Head::Short | Head::Unfinished => {}
+        FileHead::Born => return Err((FoundError::Exists, disk)),
+        FileHead::Foreign => return Err((FoundError::NotJournal, disk)),
+        FileHead::Short | FileHead::Unfinished => {}
     }
     match begin(&mut disk, header, head) {
         Ok(()) => Ok(Journal::at(disk, 16, 0)),

@@ -9,7 +9,7 @@ use disk_model::{Disk, Failed};
 
 /// What the front of a file says.
 #[derive(Clone, Copy, Debug, PartialEq, Eq)]
-pub(crate) enum Head {
+pub(crate) enum FileHead {
     /// Fewer than 17 bytes: nothing was founded.
     Short,
     /// 17 bytes whose first isn't 1: a founding that didn't end.
@@ -21,27 +21,27 @@ pub(crate) enum Head {
 }
 
 // What the first 18 bytes of a file say, or all of them where there are fewer.
-fn head_of(front: &[u8], header: Header) -> Head
+fn head_of(front: &[u8], header: Header) -> FileHead
     ensures { HasHead header front.now result }
 {
     let empty = header.empty_file();
     if front.len() < 17 {
-        Head::Short
+        FileHead::Short
     } else if front[0] != 1 {
         if front.len() == 17 {
-            Head::Unfinished
+            FileHead::Unfinished
         } else {
-            Head::Foreign
+            FileHead::Foreign
         }
     } else if front[..16] == empty[..16] {
-        Head::Born
+        FileHead::Born
     } else {
-        Head::Foreign
+        FileHead::Foreign
     }
 }
 
 // Reads the front of a file.
-pub(crate) fn look<D: Disk>(disk: &mut D, header: Header) -> Result<Head, Failed>
+pub(crate) fn look<D: Disk>(disk: &mut D, header: Header) -> Result<FileHead, Failed>
     ensures honest { (D.tells disk.new).honest ≡ (D.tells disk.old).honest }
     ensures told { IsHonest (D.tells disk.old) → IsRead (D.tells disk.old) (D.tells disk.new) }
     ensures head { IsHonest (D.tells disk.old) → IfOk result (λ head. HasHead header (D.tells disk.old).reads head) }

@@ -6,7 +6,7 @@ ghost use Rattle.filing_journal.specs.Stands.{IsUnborn};
 ghost use Rattle.filing_journal.specs.Head.{IsBorn, IsForeign};
 ghost use Rattle.filing_journal.specs.Opening.{HasGiven, IsHeadRefusal, opening_disk, opening_count, opening_refusal};
 
-use crate::head::{Head, look};
+use crate::head::{FileHead, look};
 use crate::{Header, OpenError, Opening};
 use disk_model::{Disk, Failed};
 
@@ -40,10 +40,10 @@ pub fn recover<D: Disk>(disk: D, header: Header) -> Result<Opening<D>, (OpenErro
 {
     let mut disk = disk;
     match look(&mut disk, header) {
-        Ok(Head::Born) => Ok(Opening::new(disk)),
-        Ok(Head::Short) => Err((OpenError::NoOffice, disk)),
-        Ok(Head::Unfinished) => Err((OpenError::NoOffice, disk)),
-        Ok(Head::Foreign) => Err((OpenError::NotJournal, disk)),
+        Ok(FileHead::Born) => Ok(Opening::new(disk)),
+        Ok(FileHead::Short) => Err((OpenError::NoOffice, disk)),
+        Ok(FileHead::Unfinished) => Err((OpenError::NoOffice, disk)),
+        Ok(FileHead::Foreign) => Err((OpenError::NotJournal, disk)),
         Err(Failed) => Err((OpenError::DiskFault, disk)),
     }
 }

@@ -9,7 +9,7 @@ ghost use Rattle.filing_rules.specs.Rules.{rule_53 as rule_53_of};
 
 use crate::facts::Facts;
 use crate::limits::{PellRules, broken_by_pell, past_cost, past_fseog};
-use crate::rules::{broken_by_standing, not_enrolled};
+use crate::rules::{broken_on_file, not_enrolled};
 use aid_filings::Amount;
 use aid_types::{Program, Refusal, School};
 use rule_lines::{RuleLine, first_broken, over, stands, where_true};
@@ -29,7 +29,7 @@ pub(crate) fn broken_payment(f: &Facts, school: School, payment: &Amount) -> Opt
 {
     let (student, term, cents) = (payment.student, payment.term, payment.cents);
     let is_pell = payment.program == Program::Pell;
-    broken_by_standing(f, school, student, payment.year, term)
+    broken_on_file(f, school, student, payment.year, term)
         .or_else(|| first_broken(&[not_enrolled(51, f, student, term), rule_53(is_pell, cents)]))
         .or_else(|| broken_by_amount(f, school, payment.program, cents))
 }

@@ -70,7 +70,7 @@ pub(crate) fn rule_71(cents: u64) -> RuleLine
 
 /// The first broken rule of a payment and of a withdrawal alike, on what is on file of the school, the term and the student:
 /// last, rule 50 on the cost of attendance there.
-pub(crate) fn broken_by_standing(
+pub(crate) fn broken_on_file(
     f: &Facts,
     school: School,
     student: Student,

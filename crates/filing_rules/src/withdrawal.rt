@@ -9,7 +9,7 @@ ghost use Rattle.filing_rules.specs.Rules.{rule_62};
 
 use crate::facts::Facts;
 use crate::limits::{PellRules, broken_by_pell, past_cost, past_fseog};
-use crate::rules::{broken_by_standing, not_enrolled};
+use crate::rules::{broken_on_file, not_enrolled};
 use aid_filings::WithdrawFacts;
 use aid_types::{ByProgram, Program, Refusal, School};
 use rule_lines::{first_broken, over, stands, too_early};
@@ -32,7 +32,7 @@ pub(crate) fn broken_withdrawal(
     ensures { result ≡ first_broken_of (lines_of f.now school (Withdraw withdrawal.now)) }
 {
     let (student, term) = (withdrawal.student, withdrawal.term);
-    broken_by_standing(f, school, student, withdrawal.year, term)
+    broken_on_file(f, school, student, withdrawal.year, term)
         .or_else(|| first_broken(&[
             not_enrolled(60, f, student, term),
             stands(61, f.withdrawn_at, u64::from(term)),

@@ -5,7 +5,7 @@ use Rattle.generated_year.specs.Rows.{YearRow, founding_rows, student_rows, stud
 use Rattle.generated_year.specs.Left.{asks_left, student_left, students_left}
 use Rattle.generated_year.specs.declared.draws.Draws.{Draws}
 use Rattle.generated_year.specs.declared.asks.YearAsks.{YearAsks}
-use Rattle.generated_year.specs.declared.student.Student.{Student}
+use Rattle.generated_year.specs.declared.student.DrawnStudent.{DrawnStudent}
 
 -- a list loses by a drop
 dropped : {A : Type 0} (n : ℕ) (xs : List A) → length (drop n xs) ≤ length xs
@@ -31,7 +31,7 @@ students_short y (suc n) i x =
     let behind = students_short y n (i + 1) (later x) in
     let both = length-append (student_rows y i (draws_behind x)) (students_rows y n (i + 1) (later x)) in omega (arith, front, behind, both)
 
-student_left_short : (y : ℕ) (student : Option Student) → length (student_left y student) ≤ 5
+student_left_short : (y : ℕ) (student : Option DrawnStudent) → length (student_left y student) ≤ 5
 student_left_short y None = lit≤ tt
 student_left_short y (Some s) = let least = dropped s.taken (student_rows y s.number s.draws) in let all = student_short y s.number s.draws in omega (arith, least, all)
 

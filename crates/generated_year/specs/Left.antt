@@ -3,10 +3,10 @@ use Rattle.std.specs.Prelude.{ℕ, ◌+◌, List, [], ◌++◌, drop, Option, So
 use Rattle.generated_year.specs.Rows.{YearRow, founding_rows, student_rows, students_rows}
 use Rattle.generated_year.specs.declared.asks.YearAsks.{YearAsks}
 use Rattle.generated_year.specs.declared.draws.Students.{Students}
-use Rattle.generated_year.specs.declared.student.Student.{Student}
+use Rattle.generated_year.specs.declared.student.DrawnStudent.{DrawnStudent}
 
 -- of the rows of a student
-abbrev pub student_left : ℕ → Option Student → List YearRow
+abbrev pub student_left : ℕ → Option DrawnStudent → List YearRow
 student_left y None = []
 student_left y (Some student) = drop student.taken (student_rows y student.number student.draws)
 

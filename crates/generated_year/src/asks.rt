@@ -5,7 +5,7 @@ ghost use Rattle.generated_year.specs.Left.{asks_left};
 
 use crate::YearAsk;
 use crate::draws::{Students, next_student};
-use crate::student::{Student, application, student_row};
+use crate::student::{DrawnStudent, application, student_row};
 use crate::terms::{FOUNDING_ROWS, founding_row};
 use aid_types::Year;
 
@@ -15,7 +15,7 @@ use aid_types::Year;
 pub struct YearAsks {
     year: Year,
     founded: u8,
-    student: Option<Student>,
+    student: Option<DrawnStudent>,
     students: Students,
 }
 
@@ -77,7 +77,7 @@ impl YearAsks {
         };
         match student_row(self.year, &student) {
             Some(ask) => {
-                self.student = Some(Student {
+                self.student = Some(DrawnStudent {
                     number: student.number,
                     draws: student.draws,
                     taken: student.taken + 1,
@@ -100,7 +100,7 @@ impl YearAsks {
         let Some((draws, students)) = next_student(&self.students) else {
             return None;
         };
-        let student = Student {
+        let student = DrawnStudent {
             number: students.last,
             draws,
             taken: 1,

@@ -16,5 +16,5 @@ pub use asks::YearAsks;
 pub use docket::GeneratedOffice;
 pub use draws::{Draws, Students};
 pub use forms::{YearForms, YearRows};
-pub use student::Student;
+pub use student::DrawnStudent;
 pub use tally::YearTally;

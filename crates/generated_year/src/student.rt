@@ -12,7 +12,7 @@ use aid_types::{Application, ByProgram, Day, Key, Region, School, Side, Year};
 
 /// A student whose rows are being taken: the number, the draws, and how many rows were taken.
 #[derive(Clone, Copy)]
-pub struct Student {
+pub struct DrawnStudent {
     pub number: u16,
     pub draws: Draws,
     pub taken: u8,
@@ -20,7 +20,7 @@ pub struct Student {
 }
 
 // The number of a student.
-fn number(student: &Student) -> u64
+fn number(student: &DrawnStudent) -> u64
     ensures value { result ≡ student.now.number }
     ensures in_range { IsBetween 1 65535 result }
 {
@@ -35,7 +35,7 @@ fn school(draws: &Draws) -> School
 }
 
 // The key of a student's row: ten numbers of the school are a student's.
-fn key(student: &Student, row: u8) -> Key
+fn key(student: &DrawnStudent, row: u8) -> Key
     requires { row < 10 }
     ensures school { result.school ≡ school_of student.now.draws }
     ensures number { result.number ≡ 10 * student.now.number + row }
@@ -47,7 +47,7 @@ fn key(student: &Student, row: u8) -> Key
 }
 
 // The student as the office knows it.
-fn named(student: &Student) -> aid_types::Student
+fn named(student: &DrawnStudent) -> aid_types::Student
     ensures { result ≡ student.now.number }
 {
     aid_types::Student(number(student))
@@ -79,7 +79,7 @@ fn household(income: u32) -> Side
 }
 
 // What a student who depends on parents applies with, by the households' amounts.
-fn application_of(year: Year, student: &Student, own: Side, parents: Side) -> Application
+fn application_of(year: Year, student: &DrawnStudent, own: Side, parents: Side) -> Application
     ensures { application_numbers result ≡ pos student.now.number ∷ pos year ∷ pos 1 ∷ pos (year - 19) ∷ pos 0 ∷ pos 4
         ∷ (zeros 10 ++ (pos 1 ∷ (side_numbers own ++ (pos 1 ∷ pos 1 ∷ pos 48 ∷ side_numbers parents)))) }
 {
@@ -111,7 +111,7 @@ fn application_of(year: Year, student: &Student, own: Side, parents: Side) -> Ap
 
 // The application of a student.
 #[tactic(auto, unfolding(filing_numbers::specs::Numbers::facts_of, crate::specs::Rows::says))]
-pub fn application(year: Year, student: &Student) -> YearAsk
+pub fn application(year: Year, student: &DrawnStudent) -> YearAsk
     ensures { says result ≡ apply_row year student.now.number student.now.draws }
 {
     let own = household(0);
@@ -124,7 +124,7 @@ pub fn application(year: Year, student: &Student) -> YearAsk
 
 // The credits of a student in term 1.
 #[tactic(auto, unfolding(filing_numbers::specs::Numbers::facts_of, crate::specs::Rows::says))]
-fn enrolment(year: Year, student: &Student) -> YearAsk
+fn enrolment(year: Year, student: &DrawnStudent) -> YearAsk
     ensures { says result ≡ enrol_row year student.now.number student.now.draws }
 {
     YearAsk::File(Filing {
@@ -140,7 +140,7 @@ fn enrolment(year: Year, student: &Student) -> YearAsk
 
 // The cost of attendance of a student.
 #[tactic(auto, unfolding(filing_numbers::specs::Numbers::facts_of, crate::specs::Rows::says))]
-fn origination(year: Year, student: &Student) -> YearAsk
+fn origination(year: Year, student: &DrawnStudent) -> YearAsk
     ensures { says result ≡ originate_row year student.now.number student.now.draws }
 {
     YearAsk::File(Filing {
@@ -155,7 +155,7 @@ fn origination(year: Year, student: &Student) -> YearAsk
 
 // The payment of a student in term 1.
 #[tactic(auto, unfolding(crate::specs::Rows::says))]
-fn payment(year: Year, student: &Student) -> YearAsk
+fn payment(year: Year, student: &DrawnStudent) -> YearAsk
     ensures { says result ≡ pay_row year student.now.number student.now.draws }
 {
     YearAsk::PayQuote(QuotePayment {
@@ -168,7 +168,7 @@ fn payment(year: Year, student: &Student) -> YearAsk
 
 // The withdrawal of a student from term 1.
 #[tactic(auto, unfolding(filing_numbers::specs::Numbers::facts_of, crate::specs::Rows::says))]
-fn withdrawal(year: Year, student: &Student) -> YearAsk
+fn withdrawal(year: Year, student: &DrawnStudent) -> YearAsk
     ensures { says result ≡ withdraw_row year student.now.number student.now.draws }
 {
     let last = last_day(year, &student.draws);
@@ -196,7 +196,7 @@ fn last_day(year: Year, draws: &Draws) -> Day
 }
 
 // The row of the withdrawal of a student, where there is one.
-fn leaving(year: Year, student: &Student) -> Option<YearAsk>
+fn leaving(year: Year, student: &DrawnStudent) -> Option<YearAsk>
     ensures { MatchOption result (withdraw_rows year student.now.number student.now.draws ≡ []) (λ ask. withdraw_rows year student.now.number student.now.draws ≡ says ask ∷ []) }
 {
     if student.draws.leave % 16 == 0 {
@@ -208,7 +208,7 @@ fn leaving(year: Year, student: &Student) -> Option<YearAsk>
 
 /// The next row of a student; `None` behind the last.
 #[tactic(auto, using(crate::proofs::Founding::none_behind))]
-pub fn student_row(year: Year, student: &Student) -> Option<YearAsk>
+pub fn student_row(year: Year, student: &DrawnStudent) -> Option<YearAsk>
     ensures row { MatchOption result (drop student.now.taken (student_rows year student.now.number student.now.draws) ≡ [])
         (λ ask. drop student.now.taken (student_rows year student.now.number student.now.draws)
         ≡ says ask ∷ drop (student.now.taken + 1) (student_rows year student.now.number student.now.draws)) }

@@ -6,7 +6,7 @@ use Rattle.std.specs.Map.{lookup}
 use Rattle.std.specs.Ordering.{nat_cmp}
 use Rattle.std.proofs.lemmas.Option.{none-some}
 use Rattle.aid_types.specs.Ranges.{IsBetween}
-use Rattle.lifetime_ledger.specs.declared.accounts.Account.{Account}
+use Rattle.lifetime_ledger.specs.declared.accounts.StudentUnits.{StudentUnits}
 use Rattle.lifetime_ledger.specs.declared.accounts.StudentYear.{StudentYear}
 use Rattle.lifetime_ledger.specs.declared.accounts.YearPell.{YearPell}
 use Rattle.lifetime_ledger.specs.Totals.{LifetimeTotals, AreSame, IsWithin, all_years, pell_of, prior_of, use_in, used, with_lowered, with_pell, with_prior, year_cmp}
@@ -20,7 +20,7 @@ abbrev row_of : ℕ → ℕ → StudentYear
 row_of student year = record { student = student; year = year }
 
 -- who has an account has one after a write
-known_before : (old new : AccountRows) (student : ℕ) (account : Account) → AccountSet old new student account → (s : ℕ) →
+known_before : (old new : AccountRows) (student : ℕ) (account : StudentUnits) → AccountSet old new student account → (s : ℕ) →
     lookup (is_at (nat_cmp s)) new ≡ None → (s ≢ student) × (lookup (is_at (nat_cmp s)) old ≡ None)
 known_before old new student account written s none =
     let row : None ≡ cond (s == student) (Some account) (lookup (is_at (nat_cmp s)) old) = sym none ∙ account_row old new student account written s in
@@ -29,7 +29,7 @@ known_before old new student account written s none =
     (differ, sym (row ∙ ap (λ (b : Bool). cond b (Some account) (lookup (is_at (nat_cmp s)) old)) (ne_eqb s student differ)))
 
 -- ---- a year and its student's account are written
-module _ (accounts accounts' : AccountRows) (years years' : YearRows) (student year : ℕ) (pell : YearPell) (account : Account) where
+module _ (accounts accounts' : AccountRows) (years years' : YearRows) (student year : ℕ) (pell : YearPell) (account : StudentUnits) where
   abbrev wanted : LifetimeTotals
   wanted = with_pell (seen accounts years) student year pell
 
@@ -41,10 +41,10 @@ module _ (accounts accounts' : AccountRows) (years years' : YearRows) (student y
         ∙ elim (same_or_not s student) [
           | inl same ↦
               ap (λ (n : ℕ). (account_in accounts' n).prior) same
-              ∙ ap (λ (a : Account). a.prior) (account_here accounts accounts' student account of_account)
+              ∙ ap (λ (a : StudentUnits). a.prior) (account_here accounts accounts' student account of_account)
               ∙ prior
               ∙ ap (λ (n : ℕ). (account_in accounts n).prior) (sym same)
-          | inr differ ↦ ap (λ (a : Account). a.prior) (account_of_other accounts accounts' student account of_account s differ)
+          | inr differ ↦ ap (λ (a : StudentUnits). a.prior) (account_of_other accounts accounts' student account of_account s differ)
         ]
         ∙ sym (prior_seen accounts years s);
     pell = λ s y. pell_told accounts years years' (row_of student year) pell of_year s y ∙ sym (pell_with (seen accounts years) student year pell s y);
@@ -65,11 +65,11 @@ module _ (accounts accounts' : AccountRows) (years years' : YearRows) (student y
       elim (same_or_not s student) [
         | inl q ↦
             ap (λ (n : ℕ). (account_in accounts' n).used) q
-            ∙ ap (λ (a : Account). a.used) here
+            ∙ ap (λ (a : StudentUnits). a.used) here
             ∙ after
             ∙ ap (λ (n : ℕ). used wanted n) (sym q)
         | inr differ ↦
-            ap (λ (a : Account). a.used) (account_of_other accounts accounts' student account of_account s differ)
+            ap (λ (a : StudentUnits). a.used) (account_of_other accounts accounts' student account of_account s differ)
             ∙ tied.summed s
             ∙ sym (used_of_student (seen accounts years) student year pell s differ)
       ] in
@@ -81,7 +81,7 @@ module _ (accounts accounts' : AccountRows) (years years' : YearRows) (student y
                   subst (λ (n : ℕ). (account_in accounts' n).used ≤ 600000) (sym q)
                   (let a = summed student in let b = within.lifetime in omega arith)
               | inr differ ↦
-                  subst (λ (a : Account). a.used ≤ 600000) (sym (account_of_other accounts accounts' student account of_account s differ)) (tied.lifetime s)
+                  subst (λ (a : StudentUnits). a.used ≤ 600000) (sym (account_of_other accounts accounts' student account of_account s differ)) (tied.lifetime s)
             ];
         year_limits = λ s y.
             subst (λ (p : YearPell). p.net ≤ 150 * p.scheduled) (sym (pell_told accounts years years' (row_of student year) pell of_year s y)) (limit ((s == student) && (y == year)) (pell_of (seen accounts years) s y) (tied.year_limits s y) within);
@@ -97,7 +97,7 @@ module _ (accounts accounts' : AccountRows) (years years' : YearRows) (student y
       limit false p old w = old
 
 -- ---- an account is written with other prior units
-module _ (accounts accounts' : AccountRows) (years : YearRows) (student units : ℕ) (account : Account) where
+module _ (accounts accounts' : AccountRows) (years : YearRows) (student units : ℕ) (account : StudentUnits) where
   abbrev wanted_prior : LifetimeTotals
   wanted_prior = with_prior (seen accounts years) student units
 
@@ -108,12 +108,12 @@ module _ (accounts accounts' : AccountRows) (years : YearRows) (student units : 
         ∙ elim (same_or_not s student) [
           | inl same ↦
               ap (λ (n : ℕ). (account_in accounts' n).prior) same
-              ∙ ap (λ (a : Account). a.prior) (account_here accounts accounts' student account of_account)
+              ∙ ap (λ (a : StudentUnits). a.prior) (account_here accounts accounts' student account of_account)
               ∙ prior
               ∙ sym (prior_here (seen accounts years) student units)
               ∙ ap (λ (n : ℕ). prior_of wanted_prior n) (sym same)
           | inr differ ↦
-              ap (λ (a : Account). a.prior) (account_of_other accounts accounts' student account of_account s differ)
+              ap (λ (a : StudentUnits). a.prior) (account_of_other accounts accounts' student account of_account s differ)
               ∙ sym (prior_seen accounts years s)
               ∙ sym (prior_of_student (seen accounts years) student units s differ)
         ];
@@ -135,13 +135,13 @@ module _ (accounts accounts' : AccountRows) (years : YearRows) (student units : 
       elim (same_or_not s student) [
         | inl q ↦
             ap (λ (n : ℕ). (account_in accounts' n).used) q
-            ∙ ap (λ (a : Account). a.used) here
+            ∙ ap (λ (a : StudentUnits). a.used) here
             ∙ after
             ∙ ap (λ (n : ℕ). used wanted_prior n) (sym q)
         | inr differ ↦
             let k = tied.summed s in
             let p = prior_of_student (seen accounts years) student units s differ in
-            ap (λ (a : Account). a.used) (account_of_other accounts accounts' student account of_account s differ) ∙ omega arith
+            ap (λ (a : StudentUnits). a.used) (account_of_other accounts accounts' student account of_account s differ) ∙ omega arith
       ] in
       record {
         summed = λ s. summed s ∙ sym (used_same (seen accounts' years) wanted_prior same s);
@@ -151,7 +151,7 @@ module _ (accounts accounts' : AccountRows) (years : YearRows) (student units : 
                   subst (λ (n : ℕ). (account_in accounts' n).used ≤ 600000) (sym q)
                   (let a = summed student in omega arith)
               | inr differ ↦
-                  subst (λ (a : Account). a.used ≤ 600000) (sym (account_of_other accounts accounts' student account of_account s differ)) (tied.lifetime s)
+                  subst (λ (a : StudentUnits). a.used ≤ 600000) (sym (account_of_other accounts accounts' student account of_account s differ)) (tied.lifetime s)
             ];
         year_limits = tied.year_limits;
         known = λ s y none. tied.known s y (known_before accounts accounts' student account of_account s none).1;

@@ -7,7 +7,7 @@ use Rattle.std.specs.Ordering.{nat_cmp, ordering_then, is_eq}
 use Rattle.std.specs.declared.cmp.Ordering.{Ordering}
 use Rattle.std.specs.declared.cmp.Ordering.TheVariants.{Less, Equal, Greater}
 use Rattle.std.proofs.lemmas.Bool.Decides.{nat_tests}
-use Rattle.lifetime_ledger.specs.declared.accounts.Account.{Account}
+use Rattle.lifetime_ledger.specs.declared.accounts.StudentUnits.{StudentUnits}
 use Rattle.lifetime_ledger.specs.declared.accounts.StudentYear.{StudentYear}
 use Rattle.lifetime_ledger.specs.declared.accounts.YearPell.{YearPell}
 use Rattle.lifetime_ledger.specs.Rows.{AccountRows, YearRows, account_in, account_or, priors_of, seen}
@@ -45,7 +45,7 @@ same_year k l =
     ∙ ap (λ b. (k.student == l.student) && b) (same_test k.year l.year)
 
 -- a table of which one row was written
-abbrev pub AccountSet : AccountRows → AccountRows → ℕ → Account → Type 0
+abbrev pub AccountSet : AccountRows → AccountRows → ℕ → StudentUnits → Type 0
 AccountSet old new student account =
     (q : ℕ) → lookup (is_at (nat_cmp q)) new ≡ cond (is_eq (nat_cmp student q)) (Some account) (lookup (is_at (nat_cmp q)) old)
 
@@ -53,7 +53,7 @@ abbrev pub YearSet : YearRows → YearRows → StudentYear → YearPell → Type
 YearSet old new key pell =
     (q : StudentYear) → lookup (is_at (year_cmp q)) new ≡ cond (is_eq (year_cmp key q)) (Some pell) (lookup (is_at (year_cmp q)) old)
 
-account_of_two : (b : Bool) (account : Account) (o : Option Account) → account_or (cond b (Some account) o) ≡ cond b account (account_or o)
+account_of_two : (b : Bool) (account : StudentUnits) (o : Option StudentUnits) → account_or (cond b (Some account) o) ≡ cond b account (account_or o)
 account_of_two true account o = refl
 account_of_two false account o = refl
 
@@ -62,7 +62,7 @@ pell_of_two true pell o = refl
 pell_of_two false pell o = refl
 
 -- which row stands there then
-pub account_row : (old new : AccountRows) (student : ℕ) (account : Account) → AccountSet old new student account → (s : ℕ) →
+pub account_row : (old new : AccountRows) (student : ℕ) (account : StudentUnits) → AccountSet old new student account → (s : ℕ) →
     lookup (is_at (nat_cmp s)) new ≡ cond (s == student) (Some account) (lookup (is_at (nat_cmp s)) old)
 account_row old new student account written s =
     written s ∙ ap (λ (b : Bool). cond b (Some account) (lookup (is_at (nat_cmp s)) old)) (number_test student s)
@@ -73,18 +73,18 @@ year_row old new key pell written q =
     written q ∙ ap (λ (b : Bool). cond b (Some pell) (lookup (is_at (year_cmp q)) old)) (year_test key q)
 
 -- and what it tells
-pub account_told : (old new : AccountRows) (student : ℕ) (account : Account) → AccountSet old new student account → (s : ℕ) →
+pub account_told : (old new : AccountRows) (student : ℕ) (account : StudentUnits) → AccountSet old new student account → (s : ℕ) →
     account_in new s ≡ cond (s == student) account (account_in old s)
 account_told old new student account written s =
     ap account_or (account_row old new student account written s)
     ∙ account_of_two (s == student) account (lookup (is_at (nat_cmp s)) old)
 
-pub account_here : (old new : AccountRows) (student : ℕ) (account : Account) → AccountSet old new student account → account_in new student ≡ account
+pub account_here : (old new : AccountRows) (student : ℕ) (account : StudentUnits) → AccountSet old new student account → account_in new student ≡ account
 account_here old new student account written =
     account_told old new student account written student
     ∙ ap (λ (b : Bool). cond b account (account_in old student)) (eq-eqb student student refl)
 
-pub account_of_other : (old new : AccountRows) (student : ℕ) (account : Account) → AccountSet old new student account → (s : ℕ) → s ≢ student →
+pub account_of_other : (old new : AccountRows) (student : ℕ) (account : StudentUnits) → AccountSet old new student account → (s : ℕ) → s ≢ student →
     account_in new s ≡ account_in old s
 account_of_other old new student account written s differ =
     account_told old new student account written s
@@ -100,7 +100,7 @@ pell_told accounts old new key pell written s y =
 pub prior_seen : (accounts : AccountRows) (years : YearRows) (s : ℕ) → prior_of (seen accounts years) s ≡ (account_in accounts s).prior
 prior_seen accounts years s = go accounts
   where
-    one : (b : Bool) (account : Account) (o : Option ℕ) (p : Option Account) → units_or o ≡ (account_or p).prior →
+    one : (b : Bool) (account : StudentUnits) (o : Option ℕ) (p : Option StudentUnits) → units_or o ≡ (account_or p).prior →
         units_or (cond b (Some account.prior) o) ≡ (account_or (cond b (Some account) p)).prior
     one true account o p same = refl
     one false account o p same = same

@@ -4,22 +4,22 @@ use Rattle.std.specs.BTreeMap.{is_at}
 use Rattle.std.specs.Map.{lookup}
 use Rattle.std.specs.Ordering.{nat_cmp}
 use Rattle.lifetime_ledger.specs.Totals.{LifetimeTotals, pell_of, use_in, used, year_cmp}
-use Rattle.lifetime_ledger.specs.declared.accounts.Account.{Account}
+use Rattle.lifetime_ledger.specs.declared.accounts.StudentUnits.{StudentUnits}
 use Rattle.lifetime_ledger.specs.declared.accounts.StudentYear.{StudentYear}
 use Rattle.lifetime_ledger.specs.declared.accounts.YearPell.{YearPell}
 
 abbrev pub AccountRows : Type 0
-AccountRows = List (ℕ × Account)
+AccountRows = List (ℕ × StudentUnits)
 
 abbrev pub YearRows : Type 0
 YearRows = List (StudentYear × YearPell)
 
 -- a student's account, an empty one where there is no row
-abbrev pub account_or : Option Account → Account
+abbrev pub account_or : Option StudentUnits → StudentUnits
 account_or None = record { prior = 0; used = 0 }
 account_or (Some account) = account
 
-abbrev pub account_in : AccountRows → ℕ → Account
+abbrev pub account_in : AccountRows → ℕ → StudentUnits
 account_in accounts student = account_or (lookup (is_at (nat_cmp student)) accounts)
 
 -- the prior units of the accounts

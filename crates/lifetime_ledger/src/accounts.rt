@@ -20,7 +20,7 @@ pub struct YearPell {
 
 /// A student's lifetime units: those used before this office, and all that are used.
 #[derive(Clone, Copy, PartialEq, Eq, Debug)]
-pub(crate) struct Account {
+pub(crate) struct StudentUnits {
     pub(crate) prior: u32,
     pub(crate) used: u32,
 }
@@ -33,12 +33,12 @@ pub struct StudentYear {
 }
 
 /// A student's account, an empty one where there is no row.
-pub(crate) fn account_at(accounts: &Table<u64, Account>, student: u64) -> Account
+pub(crate) fn account_at(accounts: &Table<u64, StudentUnits>, student: u64) -> StudentUnits
     ensures { result ≡ account_in accounts.now.rows student }
 {
     match accounts.at(&student) {
         Some(account) => account,
-        None => Account { prior: 0, used: 0 },
+        None => StudentUnits { prior: 0, used: 0 },
     }
 }
 
@@ -57,7 +57,7 @@ pub(crate) fn pell_at(years: &Table<StudentYear, YearPell>, key: StudentYear) ->
 
 /// The lifetime units that a student has used but for those of one year.
 pub(crate) fn units_elsewhere(
-    accounts: &Table<u64, Account>,
+    accounts: &Table<u64, StudentUnits>,
     years: &Table<StudentYear, YearPell>,
     key: StudentYear,
 ) -> u32
@@ -72,7 +72,7 @@ pub(crate) fn units_elsewhere(
 
 /// Writes the Pell of a student's year, and the units used with it.
 pub(crate) fn write_pell(
-    accounts: &mut Table<u64, Account>,
+    accounts: &mut Table<u64, StudentUnits>,
     years: &mut Table<StudentYear, YearPell>,
     key: StudentYear,
     pell: YearPell,
@@ -91,7 +91,7 @@ pub(crate) fn write_pell(
     let elsewhere = units_elsewhere(accounts, years, key);
     let used = elsewhere + use_of(pell.net, pell.scheduled);
     years.set(key, pell);
-    accounts.set(key.student, Account { prior, used });
+    accounts.set(key.student, StudentUnits { prior, used });
 }
 
 /// Whether so many units may be used beside others.

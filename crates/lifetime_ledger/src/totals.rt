@@ -4,7 +4,7 @@ ghost use Rattle.aid_types.specs.Ranges.{IsBetween};
 ghost use Rattle.lifetime_ledger.specs.Totals.{AreSame, IsWithin, no_totals, pell_of, used as used_by, with_lowered, with_paid, with_prior, with_scheduled};
 
 use crate::accounts::{
-    Account, StudentYear, YearPell, account_at, dollars_left, may_stand, may_take, may_use,
+    StudentUnits, StudentYear, YearPell, account_at, dollars_left, may_stand, may_take, may_use,
     pell_at, units_elsewhere, write_pell,
 };
 use aid_types::{Student, Year};
@@ -17,7 +17,7 @@ use std::marker::Model;
 /// writes there is room. Each student is within the lifetime limit, and each year within one and a half Scheduled Awards.
 #[derive(Drop)]
 pub struct Totals {
-    accounts: Table<u64, Account>,
+    accounts: Table<u64, StudentUnits>,
     years: Table<StudentYear, YearPell>,
     spare: u32,
 }
@@ -72,7 +72,7 @@ impl Totals {
         let account = account_at(&self.accounts, student.0);
         let used = account.used - account.prior + units;
         let prior = units;
-        self.accounts.set(student.0, Account { prior, used });
+        self.accounts.set(student.0, StudentUnits { prior, used });
         self.spare -= 1;
     }
 

@@ -26,7 +26,7 @@ use Rattle.office_walks.specs.Links.{AreLinked, newest_place, newest_term}
 use Rattle.office_core.specs.Register.{outcomes_of}
 use Rattle.office_core.specs.declared.entries.SchoolEntry.{SchoolEntry}
 use Rattle.office_core.specs.declared.entries.StudentEntry.{StudentEntry}
-use Rattle.office_walks.specs.declared.links.Link.{Link}
+use Rattle.office_walks.specs.declared.links.EnrolmentLink.{EnrolmentLink}
 use Rattle.office_core.specs.declared.entries.FilingNumber.{FilingNumber}
 use Rattle.office_history.specs.declared.names.StudentPlace.{StudentPlace}
 use Rattle.office_history.specs.declared.names.StudentSchoolYear.{StudentSchoolYear}
@@ -129,7 +129,7 @@ pub record IndexRows : Type 0 where
   pub years : List (StudentYear × YearRow)
   pub school_years : List (StudentSchoolYear × SchoolYearRow)
   pub befores : List ℕ
-  pub links : List Link
+  pub links : List EnrolmentLink
 
 -- they tell what is on file, and no table has more rows than there are filings
 pub record IsIndexed (past : List Filing) (outcomes : List Outcome) (rows : IndexRows) : Type 0 where

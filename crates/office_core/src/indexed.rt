@@ -25,7 +25,7 @@ use office_history::{
     CalendarRow, OnFile, PlaceRow, SchoolRow, SchoolYearRow, StudentPlace, StudentRow,
     StudentSchoolYear, StudentYear, TermRow, YearRow,
 };
-use office_walks::{Link, link_of, paid_beside, school_calendar, school_term, term_over};
+use office_walks::{EnrolmentLink, link_of, paid_beside, school_calendar, school_term, term_over};
 use sorted_rows::{Slots, Steps, Table};
 use std::alloc::{AllocError, Global};
 use std::marker::Model;
@@ -38,7 +38,7 @@ pub struct Indexed {
     filings: Vec<Filing>,
     outcomes: Vec<Outcome>,
     befores: Vec<u32>,
-    links: Vec<Link>,
+    links: Vec<EnrolmentLink>,
     keys: Table<FilingNumber, u32>,
     books: Table<u16, u32>,
     schools: Slots<u32, SchoolEntry>,

@@ -26,7 +26,7 @@ use Rattle.office_walks.specs.Enrolments.{IsEnrolment, if_own, is_beside, is_bes
 use Rattle.office_walks.specs.Placed.{ArePlaces, place_or}
 use Rattle.office_walks.specs.Links.{is_enrolled}
 use Rattle.office_walks.specs.declared.enrolments.Over.{Over}
-use Rattle.office_walks.specs.declared.links.Link.{Link}
+use Rattle.office_walks.specs.declared.links.EnrolmentLink.{EnrolmentLink}
 use Rattle.office_history.specs.declared.names.StudentPlace.{StudentPlace}
 
 -- the first filing that answers stands at its position, and tells what is told earliest
@@ -142,7 +142,7 @@ school_filed code w o h some = go w h
     go (Repay b) h = absurd (none o h some)
     go (Adjust b) h = absurd (none o h some)
 
-module _ (h : List Filing) (rows : List (StudentPlace × PlaceRow)) (f : Filing) (l : Link) (e : IsEnrolment (reverse h) rows f l) where
+module _ (h : List Filing) (rows : List (StudentPlace × PlaceRow)) (f : Filing) (l : EnrolmentLink) (e : IsEnrolment (reverse h) rows f l) where
   -- the position that the link tells of the term is inside, and the filing there tells the term
   pub term_inside : l.term_at - 1 < length h
   term_inside =
@@ -211,7 +211,7 @@ no_school (Repay b) h = refl
 no_school (Adjust b) h = refl
 
 -- an enrolment of a student is judged by its term
-module _ (past : List Filing) (rows : List (StudentPlace × PlaceRow)) (f : Filing) (l : Link) (e : IsEnrolment past rows f l) (student : ℕ) (own : is_enrolled student f ≡ true) where
+module _ (past : List Filing) (rows : List (StudentPlace × PlaceRow)) (f : Filing) (l : EnrolmentLink) (e : IsEnrolment past rows f l) (student : ℕ) (own : is_enrolled student f ≡ true) where
   own_student : (e.facts.student == student) ≡ true
   own_student = subst (λ (w : What). is_enrolment student w ≡ true) e.filed own
 

@@ -16,7 +16,7 @@ use Rattle.office_history.specs.declared.rows.PlaceRow.{PlaceRow}
 use Rattle.office_walks.specs.Enrolments.{IsEnrolment, earlier_over, first_over, is_beside, least_school, over_of, refusal_of}
 use Rattle.office_walks.specs.Links.{AreLinked, first_enrolments, is_enrolled, is_first_of, places_of}
 use Rattle.office_walks.specs.declared.enrolments.Over.{Over}
-use Rattle.office_walks.specs.declared.links.Link.{Link}
+use Rattle.office_walks.specs.declared.links.EnrolmentLink.{EnrolmentLink}
 use Rattle.office_history.specs.declared.names.StudentPlace.{StudentPlace}
 use Rattle.office_walks.proofs.EnrolmentsFirst.{enrols}
 use Rattle.office_walks.proofs.EnrolmentsTerms.{code_beside, over_told}
@@ -24,7 +24,7 @@ use Rattle.office_walks.proofs.LinksChain.{IsAlong, IsStep, along_end, along_ste
 use Rattle.office_walks.proofs.LinksMore.{enrolled_on_file}
 
 -- the filing and the link at the position of a walk
-module _ (h : List Filing) (befores : List ℕ) (links : List Link) (rows : List (StudentPlace × PlaceRow)) (student : ℕ) (older : List Filing) (n : ℕ)
+module _ (h : List Filing) (befores : List ℕ) (links : List EnrolmentLink) (rows : List (StudentPlace × PlaceRow)) (student : ℕ) (older : List Filing) (n : ℕ)
     (legal : IsLegal (reverse h)) (linked : AreLinked (reverse h) rows befores links) (along : IsAlong (is_first_of student) (reverse h) older n) (pos : 0 < n) where
   pub step : IsStep (is_first_of student) h befores older n
   step = along_step (is_first_of student) h befores older n (enrolments_tell student) linked.befores_are along pos
@@ -41,7 +41,7 @@ module _ (h : List Filing) (befores : List ℕ) (links : List Link) (rows : List
   pub enrolled_here : (f : Filing) → f ≡ get_or h (n - 1) f → is_enrolled student f ≡ true
   enrolled_here f read = let w = own f read in ap (is_enrolment student) w.1 ∙ w.2
 
-  pub enrolment_here : (f : Filing) → f ≡ get_or h (n - 1) f → (k : Link) → IsEnrolment (reverse h) rows f (get_or links (n - 1) k)
+  pub enrolment_here : (f : Filing) → f ≡ get_or h (n - 1) f → (k : EnrolmentLink) → IsEnrolment (reverse h) rows f (get_or links (n - 1) k)
   enrolment_here f read k =
       let w = own f read in
       let at : slice_get (reverse (reverse h)) (n - 1) ≡ Some f =
@@ -79,7 +79,7 @@ pub record IsBesideWalk (past : List Filing) (school student : ℕ) (this : Term
   pub few : steps + 4 * places_of older student ≤ begun + 4 * places_of past student
   pub counted : begun + 2 * places_of past student ≤ steps + 2 * places_of older student
 
-pub beside_step : (h : List Filing) (befores : List ℕ) (links : List Link) (rows : List (StudentPlace × PlaceRow)) (school student : ℕ) (this : Term) (n least steps begun : ℕ) →
+pub beside_step : (h : List Filing) (befores : List ℕ) (links : List EnrolmentLink) (rows : List (StudentPlace × PlaceRow)) (school student : ℕ) (this : Term) (n least steps begun : ℕ) →
     IsLegal (reverse h) → AreLinked (reverse h) rows befores links → IsBesideWalk (reverse h) school student this n least steps begun → 0 < n →
     (f : Filing) → f ≡ get_or h (n - 1) f → (k : ℕ) (next later : ℕ) →
     next ≡ lesser_code (is_beside (reverse h) school student this f) f.key.school least →
@@ -120,7 +120,7 @@ pub record IsOverWalk (past : List Filing) (award student year position : ℕ) (
   pub few : steps + 4 * places_of older student ≤ begun + 4 * places_of past student
   pub counted : begun + 2 * places_of past student ≤ steps + 2 * places_of older student
 
-pub over_step : (h : List Filing) (befores : List ℕ) (links : List Link) (rows : List (StudentPlace × PlaceRow)) (award student year n : ℕ) (first : Option Over) (steps begun : ℕ) →
+pub over_step : (h : List Filing) (befores : List ℕ) (links : List EnrolmentLink) (rows : List (StudentPlace × PlaceRow)) (award student year n : ℕ) (first : Option Over) (steps begun : ℕ) →
     IsLegal (reverse h) → AreLinked (reverse h) rows befores links → IsOverWalk (reverse h) award student year n first steps begun → 0 < n →
     (f : Filing) → f ≡ get_or h (n - 1) f → (k : ℕ) (next : Option Over) (later : ℕ) →
     next ≡ earlier_over (over_of (reverse h) award student year f) first →

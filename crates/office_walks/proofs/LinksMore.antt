@@ -16,7 +16,7 @@ use Rattle.rule_lines.proofs.Holds.{all_hold, lacks_holds}
 use Rattle.office_history.specs.declared.rows.PlaceRow.{PlaceRow}
 use Rattle.office_walks.specs.Links.{AreLinked, IsLinkable, IsPlaced, link_told}
 use Rattle.office_history.specs.Names.{place_name}
-use Rattle.office_walks.specs.declared.links.Link.{Link}
+use Rattle.office_walks.specs.declared.links.EnrolmentLink.{EnrolmentLink}
 use Rattle.office_history.specs.declared.names.StudentPlace.{StudentPlace}
 
 -- an element of a list with one appended is one of the list, or the appended one
@@ -82,7 +82,7 @@ enrolled_on_file (f ∷ past) legal i g e at is = go (newest_or_older past f g i
         (subst (λ (x : Filing). IsOnFile past x.key.school e) h.1 (enrols past f e legal (ap (λ (x : Filing). x.what) h.1 ∙ is)))
 
 -- a place that is told stays
-placed_stays : (past : List Filing) (old new : List (StudentPlace × PlaceRow)) (f g : Filing) (e : EnrolFacts) (l : Link) → IsOnFile past g.key.school e →
+placed_stays : (past : List Filing) (old new : List (StudentPlace × PlaceRow)) (f g : Filing) (e : EnrolFacts) (l : EnrolmentLink) → IsOnFile past g.key.school e →
     ((i : ℕ) (row : StudentPlace × PlaceRow) → slice_get old i ≡ Some row → (v : PlaceRow) × (slice_get new i ≡ Some (row.0, v))) →
     IsPlaced past old g e l → IsPlaced (f ∷ past) new g e l
 placed_stays past old new f g e l s stays is =
@@ -94,7 +94,7 @@ placed_stays past old new f g e l s stays is =
       term = is.term ∙ sym (first_stays _ past f s.term_stands);
     }
 
-placed_now : (past : List Filing) (new : List (StudentPlace × PlaceRow)) (f g : Filing) (e : EnrolFacts) (l : Link) → IsOnFile past g.key.school e →
+placed_now : (past : List Filing) (new : List (StudentPlace × PlaceRow)) (f g : Filing) (e : EnrolFacts) (l : EnrolmentLink) → IsOnFile past g.key.school e →
     IsPlaced past new g e l → IsPlaced (f ∷ past) new g e l
 placed_now past new f g e l s is = record {
   row = is.row;
@@ -110,7 +110,7 @@ module _ (past : List Filing) (old new : List (StudentPlace × PlaceRow)) (f : F
       subst (λ (w : What). IsPlaced (f ∷ past) new f e (link_told w slot school term)) (sym is)
       (placed_now past new f f e (link_told (Enrol e) slot school term) (enrols past f e can.legal is) (can.placed e is))
 
-  place : (befores : List ℕ) (links : List Link) → AreLinked past old befores links → (i : ℕ) (g : Filing) (e : EnrolFacts) (l : Link) → g.what ≡ Enrol e →
+  place : (befores : List ℕ) (links : List EnrolmentLink) → AreLinked past old befores links → (i : ℕ) (g : Filing) (e : EnrolFacts) (l : EnrolmentLink) → g.what ≡ Enrol e →
       (slice_get (reverse past) i ≡ Some g) ⊎ ((i ≡ length past) × (f ≡ g)) →
       (slice_get links i ≡ Some l) ⊎ ((i ≡ length links) × (link_told f.what slot school term ≡ l)) → IsPlaced (f ∷ past) new g e l
   place befores links are i g e l is (inl at) (inl linked) =
@@ -124,11 +124,11 @@ module _ (past : List Filing) (old new : List (StudentPlace × PlaceRow)) (f : F
       let k = w.0 in
       absurd (omega (arith, are.count))
   place befores links are i g e l is (inr v) (inr w) =
-      subst (λ (x : Link). IsPlaced (f ∷ past) new g e x) w.1
+      subst (λ (x : EnrolmentLink). IsPlaced (f ∷ past) new g e x) w.1
       (subst (λ (x : Filing). IsPlaced (f ∷ past) new x e (link_told f.what slot school term)) v.1
       (own_place e (ap (λ (x : Filing). x.what) v.1 ∙ is)))
 
-  pub linked_more : (befores : List ℕ) (links : List Link) → AreLinked past old befores links →
+  pub linked_more : (befores : List ℕ) (links : List EnrolmentLink) → AreLinked past old befores links →
       AreLinked (f ∷ past) new (befores ++ newest ∷ []) (links ++ link_told f.what slot school term ∷ [])
   linked_more befores links are = record {
     befores_are = λ i. are.befores_are i ++ can.before i ∷ [];

@@ -15,7 +15,7 @@ use Rattle.office_history.specs.Past.{given, the_term}
 use Rattle.office_history.specs.declared.rows.PlaceRow.{PlaceRow}
 use Rattle.office_walks.specs.Links.{IsPlaced}
 use Rattle.office_walks.specs.declared.enrolments.Over.{Over}
-use Rattle.office_walks.specs.declared.links.Link.{Link}
+use Rattle.office_walks.specs.declared.links.EnrolmentLink.{EnrolmentLink}
 use Rattle.office_history.specs.declared.names.StudentPlace.{StudentPlace}
 
 -- the term and the school that are filed
@@ -89,7 +89,7 @@ refusal_of None = None
 refusal_of (Some o) = Some (record { rule = 93; kept = o.kept; bound = o.bound })
 
 -- an enrolment with its link, which tells its place, its school and its term; both of these are on file
-pub record IsEnrolment (past : List Filing) (rows : List (StudentPlace × PlaceRow)) (f : Filing) (l : Link) : Type 0 where
+pub record IsEnrolment (past : List Filing) (rows : List (StudentPlace × PlaceRow)) (f : Filing) (l : EnrolmentLink) : Type 0 where
   pub facts : EnrolFacts
   pub filed : f.what ≡ Enrol facts
   pub placed : IsPlaced past rows f facts l

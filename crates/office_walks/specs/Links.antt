@@ -11,7 +11,7 @@ use Rattle.office_history.specs.Positions.{school_at, term_at}
 use Rattle.office_history.specs.Past.{at_school, credits_in}
 use Rattle.office_history.specs.Rows.{is_enrolment}
 use Rattle.office_history.specs.declared.rows.PlaceRow.{PlaceRow}
-use Rattle.office_walks.specs.declared.links.Link.{Link}
+use Rattle.office_walks.specs.declared.links.EnrolmentLink.{EnrolmentLink}
 use Rattle.office_history.specs.declared.names.StudentPlace.{StudentPlace}
 use Rattle.office_history.specs.Names.{place_name}
 
@@ -79,21 +79,21 @@ befores_of [] = []
 befores_of (f ∷ past) = befores_of past ++ before_in past f.key.school f.what ∷ []
 
 -- an enrolment's link tells the slot of its place, and the positions of its school and of its term
-pub record IsPlaced (past : List Filing) (rows : List (StudentPlace × PlaceRow)) (f : Filing) (e : EnrolFacts) (l : Link) : Type 0 where
+pub record IsPlaced (past : List Filing) (rows : List (StudentPlace × PlaceRow)) (f : Filing) (e : EnrolFacts) (l : EnrolmentLink) : Type 0 where
   pub row : PlaceRow
   pub slot : slice_get rows l.slot ≡ Some (place_name f.key.school e, row)
   pub school : l.school_at ≡ school_at past f.key.school
   pub term : l.term_at ≡ term_at past f.key.school e.year e.term
 
 -- of a history's filings, the oldest first: where the one before each stands, and the link of each
-pub record AreLinked (past : List Filing) (rows : List (StudentPlace × PlaceRow)) (befores : List ℕ) (links : List Link) : Type 0 where
+pub record AreLinked (past : List Filing) (rows : List (StudentPlace × PlaceRow)) (befores : List ℕ) (links : List EnrolmentLink) : Type 0 where
   pub befores_are : befores ≡ befores_of past
   pub count : length links ≡ length past
-  pub places : (i : ℕ) (f : Filing) (e : EnrolFacts) (l : Link) → slice_get (reverse past) i ≡ Some f → f.what ≡ Enrol e →
+  pub places : (i : ℕ) (f : Filing) (e : EnrolFacts) (l : EnrolmentLink) → slice_get (reverse past) i ≡ Some f → f.what ≡ Enrol e →
       slice_get links i ≡ Some l → IsPlaced past rows f e l
 
 -- the link of a filing, where its place's slot, and its school's and its term's positions are these
-abbrev pub link_told : What → ℕ → ℕ → ℕ → Link
+abbrev pub link_told : What → ℕ → ℕ → ℕ → EnrolmentLink
 link_told (Enrol e) slot school term = record { slot = slot; school_at = school; term_at = term }
 link_told _ slot school term = record { slot = 0; school_at = 0; term_at = 0 }
 

@@ -13,7 +13,7 @@ ghost use Rattle.office_walks.specs.Enrolments.{IsEnrolment, earlier_over, is_be
 ghost use Rattle.office_walks.specs.Placed.{ArePlaces};
 ghost use Rattle.office_walks.specs.Links.{AreLinked, is_enrolled, newest_place, places_of};
 
-use crate::links::Link;
+use crate::links::EnrolmentLink;
 use aid_filings::{Filing, What};
 use aid_types::{Program, Refusal, School, Student, Term, Year};
 use enrolment::{intensity, period_pay, shares_day};
@@ -36,7 +36,7 @@ pub struct Over {
 pub fn paid_beside<L: Ledger>(
     filings: &[Filing],
     befores: &[u32],
-    links: &[Link],
+    links: &[EnrolmentLink],
     places: &Slots<StudentPlace, PlaceRow>,
     newest: u32,
     student: Student,
@@ -72,7 +72,7 @@ pub fn paid_beside<L: Ledger>(
 fn with_beside<L: Ledger>(
     filings: &[Filing],
     places: &Slots<StudentPlace, PlaceRow>,
-    link: &Link,
+    link: &EnrolmentLink,
     school: School,
     this: &Term,
     least: u32,
@@ -104,7 +104,7 @@ fn lesser(code: u32, least: u32) -> u32
 fn is_paid_beside<L: Ledger>(
     filings: &[Filing],
     places: &Slots<StudentPlace, PlaceRow>,
-    link: &Link,
+    link: &EnrolmentLink,
     school: School,
     this: &Term,
     steps: &mut Steps<L>,
@@ -154,7 +154,7 @@ fn term_in(what: &What) -> Option<Term>
 pub fn term_over<L: Ledger>(
     filings: &[Filing],
     befores: &[u32],
-    links: &[Link],
+    links: &[EnrolmentLink],
     places: &Slots<StudentPlace, PlaceRow>,
     newest: u32,
     student: Student,
@@ -189,7 +189,7 @@ pub fn term_over<L: Ledger>(
 fn over_in<L: Ledger>(
     filings: &[Filing],
     places: &Slots<StudentPlace, PlaceRow>,
-    link: &Link,
+    link: &EnrolmentLink,
     award: u32,
     year: Year,
     steps: &mut Steps<L>,

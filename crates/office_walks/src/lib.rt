@@ -7,5 +7,5 @@ mod links;
 mod walks;
 
 pub use enrolments::{paid_beside, term_over};
-pub use links::{Link, link_of};
+pub use links::{EnrolmentLink, link_of};
 pub use walks::{school_calendar, school_term};

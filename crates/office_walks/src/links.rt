@@ -2,7 +2,7 @@
 ghost use Rattle.std.specs.Prelude.{◌≡◌, ◌∷◌, ◌++◌, [], ℕ, List};
 ghost use Rattle.aid_filings.specs.declared.filing.Filing.{Filing as Filed};
 ghost use Rattle.office_history.specs.declared.rows.PlaceRow.{PlaceRow};
-ghost use Rattle.office_walks.specs.declared.links.Link.{Link as Linked};
+ghost use Rattle.office_walks.specs.declared.links.EnrolmentLink.{EnrolmentLink as Linked};
 ghost use Rattle.office_history.specs.declared.names.StudentPlace.{StudentPlace};
 ghost use Rattle.office_walks.specs.Links.{AreLinked, IsLinkable, link_told};
 
@@ -11,14 +11,14 @@ use aid_filings::{Filing, What};
 /// The link of a filing. An enrolment's tells the slot of the row of its place, and the positions of its school and of its
 /// term. What isn't told is 0.
 #[derive(Clone, Copy, PartialEq, Eq, Debug)]
-pub struct Link {
+pub struct EnrolmentLink {
     pub slot: u32,
     pub school_at: u32,
     pub term_at: u32,
 }
 
 // A link that tells nothing.
-const NOTHING: Link = Link {
+const NOTHING: EnrolmentLink = EnrolmentLink {
     slot: 0,
     school_at: 0,
     term_at: 0,
@@ -26,7 +26,7 @@ const NOTHING: Link = Link {
 
 /// The link of a filing that comes after others. An enrolment's tells the slot of the row of its place, and the positions of
 /// its school and of its term. Where the one before each filing stands is kept in `befores`, a list beside the links.
-pub fn link_of(filing: &Filing, slot: u32, school_at: u32, term_at: u32) -> Link
+pub fn link_of(filing: &Filing, slot: u32, school_at: u32, term_at: u32) -> EnrolmentLink
     ensures { (past : List Filed) (old new : List (StudentPlace × PlaceRow)) (befores : List ℕ) (newest : ℕ) (links : List Linked)
         → IsLinkable past old new filing.now newest slot school_at term_at
         → AreLinked past old befores links → AreLinked (filing.now ∷ past) new (befores ++ newest ∷ []) (links ++ result ∷ []) }
@@ -35,11 +35,11 @@ pub fn link_of(filing: &Filing, slot: u32, school_at: u32, term_at: u32) -> Link
 }
 
 // The same of what is filed.
-fn link_in(what: &What, slot: u32, school_at: u32, term_at: u32) -> Link
+fn link_in(what: &What, slot: u32, school_at: u32, term_at: u32) -> EnrolmentLink
     ensures { result ≡ link_told what.now slot school_at term_at }
 {
     match what {
-        What::Enrol(_) => Link {
+        What::Enrol(_) => EnrolmentLink {
             slot,
             school_at,
             term_at,

@@ -7,7 +7,7 @@ ghost use Rattle.headline.specs.Filed.{HasFiled, rows_in};
 ghost use Rattle.headline.specs.Office.{Recovers};
 ghost use Rattle.kept_office.specs.Recovers.{Recovers as KeptRecovers};
 ghost use Rattle.office_history.specs.Within.{IsWithinEveryLimit};
-ghost use Rattle.run_words.specs.Words.{IsRow};
+ghost use Rattle.run_words.specs.Words.{AreWords};
 ghost use Rattle.run_words.specs.declared.command.Command.{Command as CommandData};
 ghost use Rattle.run_office.specs.Moments.{MayRecover, Stands, StoodBefore};
 ghost use Rattle.run_office.specs.Ran.{CanBeDone, Does, FileRan, Ran, Shows, reads_input};
@@ -145,15 +145,15 @@ pub fn run<D: Disk, S: Source, K: Sink>(
         (map string_bytes words.now.items) disk result.1
         (record { honest = S.honest input.old; before = S.left input.old; after = S.left input.new }) out.old out.new result.0 }
     // The input is read by a command that has one alone.
-    ensures unread { ((command : CommandData) → IsRow (map (λ p. p.name) policies.now.list.items) (map string_bytes words.now.items) command → reads_input command ≡ false) → input.new ≡ input.old }
+    ensures unread { ((command : CommandData) → AreWords (map (λ p. p.name) policies.now.list.items) (map string_bytes words.now.items) command → reads_input command ≡ false) → input.new ≡ input.old }
 
     // Whatever a run comes to, each image at each moment of it recovers the list before it, with what some rows in front of
     // the input's add; where it was done, with what all of them add.
-    ensures moments { (command : CommandData) (past : List Filing) → IsRow (map (λ p. p.name) policies.now.list.items) (map string_bytes words.now.items) command
+    ensures moments { (command : CommandData) (past : List Filing) → AreWords (map (λ p. p.name) policies.now.list.items) (map string_bytes words.now.items) command
         → IsHonest (D.tells disk) → EachImage (D.tells disk) (λ file. KeptRecovers file past)
         → EachMoment (D.tells disk) (D.tells result.1)
         (MayRecover (gives_at policies.now.list.items (λ p. ⟦<Rule as Fn(u32, i32, u8) -> u32>⟧.post p.rule)) command (record { honest = S.honest input.old; before = S.left input.old; after = S.left input.new }) past) }
-    ensures stands { (command : CommandData) (past : List Filing) → IsRow (map (λ p. p.name) policies.now.list.items) (map string_bytes words.now.items) command → result.0 ≡ 0
+    ensures stands { (command : CommandData) (past : List Filing) → AreWords (map (λ p. p.name) policies.now.list.items) (map string_bytes words.now.items) command → result.0 ≡ 0
         → IsHonest (D.tells disk) → StoodBefore command (D.tells disk).reads past
         → Stands (gives_at policies.now.list.items (λ p. ⟦<Rule as Fn(u32, i32, u8) -> u32>⟧.post p.rule)) command (record { honest = S.honest input.old; before = S.left input.old; after = S.left input.new }) past (D.tells result.1) }
     // What `file` acknowledges, at every end: the rows that were filed, a line for each, and how it ended.
@@ -165,7 +165,7 @@ pub fn run<D: Disk, S: Source, K: Sink>(
         (record { source = (S.faults input.old, S.faults input.new); sink = (K.faults out.old, K.faults out.new); disk = (D.faults disk, D.faults result.1) }) result.0 }
 
     // Where no count rose, a command that can be done is done, if there is memory.
-    ensures complete { (command : CommandData) → IsRow (map (λ p. p.name) policies.now.list.items) (map string_bytes words.now.items) command
+    ensures complete { (command : CommandData) → AreWords (map (λ p. p.name) policies.now.list.items) (map string_bytes words.now.items) command
         → CanBeDone command (S.honest input.old) (length (S.left input.old)) (D.tells disk) → ¬ (Rose (S.faults input.old) (S.faults input.new))
         → ¬ (Rose (K.faults out.old) (K.faults out.new)) → ¬ (Rose (D.faults disk) (D.faults result.1))
         → (result.0 ≡ 0) ⊎ (result.0 ≡ 9) }

@@ -5,7 +5,7 @@ use Rattle.std.proofs.lemmas.Fmt.{decimal_injective}
 use Rattle.std.proofs.lemmas.List.{length-map}
 use Rattle.aid_types.proofs.Same.{same_with_fact}
 use Rattle.aid_types.specs.Ranges.{IsBetween}
-use Rattle.run_words.specs.Words.{HasPolicy, IsRow, Reads, ReadsGenerate, ReadsOf, ReadsQuote, ReadsYear, fund_words, generate_words, quote_words, report_words, words_of}
+use Rattle.run_words.specs.Words.{HasPolicy, AreWords, Reads, ReadsGenerate, ReadsOf, ReadsQuote, ReadsYear, fund_words, generate_words, quote_words, report_words, words_of}
 use Rattle.run_words.specs.declared.command.BookNumber.{BookNumber}
 use Rattle.run_words.specs.declared.command.Command.{Command}
 use Rattle.run_words.specs.declared.command.Command.TheVariants.{Found, File, Book, Quote, Report, Fund, Generate, CheckRows, CheckBook}
@@ -98,13 +98,13 @@ same_command names CheckBook CheckRows e p q = rows_book names (sym e)
 same_command names _ _ e p q = absurd cc
 
 -- words of a command are read as it
-pub reads_of : (names words : List (List ℕ)) (c : Command) → IsRow names words c → ReadsOf names words (Some c)
+pub reads_of : (names words : List (List ℕ)) (c : Command) → AreWords names words c → ReadsOf names words (Some c)
 reads_of names words c is d = (
-  λ same. let at : c ≡ d = cc in subst (IsRow names words) at is,
+  λ same. let at : c ≡ d = cc in subst (AreWords names words) at is,
   λ told. ap Some (same_command names c d (sym is.0 ∙ told.0) is.1 told.1),
 )
 
-pub reads_some : (words : List (List ℕ)) (c : Command) → ((names : List (List ℕ)) → IsRow names words c) → Reads words (Some c)
+pub reads_some : (words : List (List ℕ)) (c : Command) → ((names : List (List ℕ)) → AreWords names words c) → Reads words (Some c)
 reads_some words c is names = reads_of names words c (is names)
 
 pub reads_request : (words : List (List ℕ)) (q : QuoteRequest) → words ≡ quote_words q → ReadsQuote words (Some q)
@@ -116,15 +116,15 @@ reads_generate words g is r = (λ same. let at : g ≡ r = cc in is ∙ ap gener
 pub reads_year : (word : List ℕ) (of : ReportYear) → word ≡ decimal of.year → ReadsYear word (Some of)
 reads_year word of is other = (λ same. let at : of ≡ other = cc in is ∙ ap (λ (y : ReportYear). decimal y.year) at, λ told. ap Some (same_year of other (sym is ∙ told)))
 
-pub if_read : (names words other : List (List ℕ)) (read : Option Command) → other ≡ words → ReadsOf names words read → IfSome read (λ c. IsRow names other c)
+pub if_read : (names words other : List (List ℕ)) (read : Option Command) → other ≡ words → ReadsOf names words read → IfSome read (λ c. AreWords names other c)
 if_read names words other None same reads = search rules
 if_read names words other (Some c) same reads = let is = (reads c).0 refl in (same ∙ is.0, is.1)
 
 -- what such an end says of the command of other words
-pub only_read : (names words other : List (List ℕ)) (read : Option Command) → other ≡ words → ReadsOf names words read → (c : Command) → IsRow names other c → read ≡ Some c
+pub only_read : (names words other : List (List ℕ)) (read : Option Command) → other ≡ words → ReadsOf names words read → (c : Command) → AreWords names other c → read ≡ Some c
 only_read names words other read same reads c is = (reads c).1 (sym same ∙ is.0, is.1)
 
-pub none_read : (names words other : List (List ℕ)) (read : Option Command) → other ≡ words → ReadsOf names words read → read ≡ None → (c : Command) → IsRow names other c → ⊥
+pub none_read : (names words other : List (List ℕ)) (read : Option Command) → other ≡ words → ReadsOf names words read → read ≡ None → (c : Command) → AreWords names other c → ⊥
 none_read names words other read same reads none c is = let bad : ◌≡◌ {A = Option Command} None (Some c) = sym none ∙ only_read names words other read same reads c is in absurd cc
 
 -- so many words a row has
@@ -146,7 +146,7 @@ words_size names CheckRows = inr (inl refl)
 words_size names CheckBook = inr (inl refl)
 
 -- the same of what the words are made of
-pub row_size : {X : Type 0} (text : X → List ℕ) (names : List (List ℕ)) (words : List X) (c : Command) → IsRow names (map text words) c → IsRowSize (length words)
+pub row_size : {X : Type 0} (text : X → List ℕ) (names : List (List ℕ)) (words : List X) (c : Command) → AreWords names (map text words) c → IsRowSize (length words)
 row_size text names words c is = subst IsRowSize (sym (ap length is.0) ∙ length-map words text) (words_size names c)
 
 -- a list of length 5

@@ -56,12 +56,12 @@ HasPolicy names (Fund fund) = IsFirstNamed names fund.policy
 HasPolicy names command = Unit {0}
 
 -- the words are the one row of the command
-abbrev pub IsRow : List (List ℕ) → List (List ℕ) → Command → Type 0
-IsRow names words command = (words ≡ words_of names command) × HasPolicy names command
+abbrev pub AreWords : List (List ℕ) → List (List ℕ) → Command → Type 0
+AreWords names words command = (words ≡ words_of names command) × HasPolicy names command
 
 -- the words are the row of the command that was read, and of none where none was
 abbrev pub ReadsOf : List (List ℕ) → List (List ℕ) → Option Command → Type 0
-ReadsOf names words read = (c : Command) → (read ≡ Some c) ↔ IsRow names words c
+ReadsOf names words read = (c : Command) → (read ≡ Some c) ↔ AreWords names words c
 
 -- the same, whichever policies are known
 abbrev pub Reads : List (List ℕ) → Option Command → Type 0

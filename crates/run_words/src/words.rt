@@ -2,7 +2,7 @@
 ghost use Rattle.std.specs.Prelude.{◌≡◌, ◌↔◌, ◌∷◌, [], IfSome, IsTrue, codes, map, string_bytes};
 ghost use Rattle.std.specs.List.{position};
 ghost use Rattle.std.specs.Str.{bytes_eq};
-ghost use Rattle.run_words.specs.Words.{IsRow, Reads, ReadsFund, ReadsGenerate, ReadsOf, ReadsQuote, ReadsReport, ReadsYear};
+ghost use Rattle.run_words.specs.Words.{AreWords, Reads, ReadsFund, ReadsGenerate, ReadsOf, ReadsQuote, ReadsReport, ReadsYear};
 ghost use Rattle.run_words.specs.declared.command.Command.{Command as CommandData};
 
 use crate::command::{
@@ -15,9 +15,9 @@ use fund_policy::Policies;
 /// The command that the words are the row of, where these policies are known; `None` where they are no row of the program's.
 /// It takes no memory.
 pub fn command_of(words: &[String], policies: &Policies) -> Option<Command>
-    ensures words { IfSome result (λ c. IsRow (map (λ p. p.name) policies.now.list.items) (map string_bytes words.now) c) }
-    ensures none { result ≡ None → (c : CommandData) → ¬ (IsRow (map (λ p. p.name) policies.now.list.items) (map string_bytes words.now) c) }
-    ensures only { (c : CommandData) → IsRow (map (λ p. p.name) policies.now.list.items) (map string_bytes words.now) c → result ≡ Some c }
+    ensures words { IfSome result (λ c. AreWords (map (λ p. p.name) policies.now.list.items) (map string_bytes words.now) c) }
+    ensures none { result ≡ None → (c : CommandData) → ¬ (AreWords (map (λ p. p.name) policies.now.list.items) (map string_bytes words.now) c) }
+    ensures only { (c : CommandData) → AreWords (map (λ p. p.name) policies.now.list.items) (map string_bytes words.now) c → result ≡ Some c }
 {
     match words {
         [only] => command_alone(only.as_str()),

@@ -1,5 +1,5 @@
 use Rattle.std.proofs.Common.{◌≡◌, ◌*◌, ◌≤◌, ap, subst, sym, ◌∙◌, arith}
-use Rattle.lifetime_ledger.specs.declared.accounts.Account.{Account}
+use Rattle.lifetime_ledger.specs.declared.accounts.StudentUnits.{StudentUnits}
 use Rattle.lifetime_ledger.specs.declared.accounts.YearPell.{YearPell}
 use Rattle.lifetime_ledger.specs.Rows.{seen}
 use Rattle.lifetime_ledger.specs.Totals.{pell_of, use_in}
@@ -14,12 +14,12 @@ pub overflow_sub-result : goal.overflow_sub-result
 overflow_sub-result c =
     let t = seen c.args.accounts.now.rows c.args.years.now.rows in
     let here : c.use_of.result ≡ use_in (pell_of t c.args.key.student c.args.key.year) = c.use_of.ensures.value ∙ ap use_in c.pell_at-pell.ensures in
-    let units = ap (λ (a : Account). a.used) c.account_at.ensures in
+    let units = ap (λ (a : StudentUnits). a.used) c.account_at.ensures in
     omega (arith, use_is_part t c.args.key.student c.args.key.year c.requires.year, c.requires.tied.summed c.args.key.student)
 
 pub returns-clause-value : goal.returns-clause-value
 returns-clause-value c =
     let t = seen c.args.accounts.now.rows c.args.years.now.rows in
     let here : c.use_of.result ≡ use_in (pell_of t c.args.key.student c.args.key.year) = c.use_of.ensures.value ∙ ap use_in c.pell_at-pell.ensures in
-    let units = ap (λ (a : Account). a.used) c.account_at.ensures in
+    let units = ap (λ (a : StudentUnits). a.used) c.account_at.ensures in
     omega (arith, use_is_part t c.args.key.student c.args.key.year c.requires.year, c.requires.tied.summed c.args.key.student)

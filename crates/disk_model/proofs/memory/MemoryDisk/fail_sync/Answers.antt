@@ -1,6 +1,6 @@
 use Rattle.std.proofs.Common.{ap}
 use Rattle.disk_model.specs.Telling.{IsRead}
-use Rattle.disk_model.specs.declared.call.Call.TheVariants.{FailedSync}
+use Rattle.disk_model.specs.declared.call.DiskCall.TheVariants.{FailedSync}
 use Rattle.disk_model.proofs.Pushed.{look_push, looked_as, same_bytes, ok_or_err}
 use Rattle.disk_model.proofs.memory.MemoryDisk.fail_sync.Goals as goal
 

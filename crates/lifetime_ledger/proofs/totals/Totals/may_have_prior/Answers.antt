@@ -1,5 +1,5 @@
 use Rattle.std.proofs.Common.{ap, arith}
-use Rattle.lifetime_ledger.specs.declared.accounts.Account.{Account}
+use Rattle.lifetime_ledger.specs.declared.accounts.StudentUnits.{StudentUnits}
 use Rattle.lifetime_ledger.specs.Rows.{seen}
 use Rattle.lifetime_ledger.specs.Totals.{LifetimeTotals}
 use Rattle.lifetime_ledger.proofs.Written.{prior_seen}
@@ -9,16 +9,16 @@ use Rattle.lifetime_ledger.proofs.totals.Totals.may_have_prior.Goals as goal
 pub overflow_sub-account : goal.overflow_sub-account
 overflow_sub-account c =
     let student = c.student.inside.0 in
-    let account = ap (λ (a : Account). a.prior) c.account_at-account.ensures in
-    let units = ap (λ (a : Account). a.used) c.account_at-account.ensures in
+    let account = ap (λ (a : StudentUnits). a.prior) c.account_at-account.ensures in
+    let units = ap (λ (a : StudentUnits). a.used) c.account_at-account.ensures in
     omega (arith, prior_seen c.self.inside.accounts.rows c.self.inside.years.rows student, c.self.invariant.0.summed student)
 
 pub returns : goal.returns
 returns c =
     let student = c.student.inside.0 in
     let t : LifetimeTotals = record (seen c.self.inside.accounts.rows c.self.inside.years.rows) { spare = c.self.inside.spare } in
-    let prior = ap (λ (a : Account). a.prior) c.account_at-account.ensures in
-    let units = ap (λ (a : Account). a.used) c.account_at-account.ensures in
+    let prior = ap (λ (a : StudentUnits). a.prior) c.account_at-account.ensures in
+    let units = ap (λ (a : StudentUnits). a.used) c.account_at-account.ensures in
     let seen_prior = prior_seen c.self.inside.accounts.rows c.self.inside.years.rows student in
     let summed = c.self.invariant.0.summed student in
     let after = used_with_prior t c.args.self.now student c.args.student c.args.units c.self.view_is c.student.view_is in

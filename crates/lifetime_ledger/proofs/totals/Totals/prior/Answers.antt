@@ -3,7 +3,7 @@ use Rattle.std.specs.BTreeMap.{is_at}
 use Rattle.std.specs.Map.{lookup}
 use Rattle.std.specs.Option.{is_none}
 use Rattle.std.specs.Ordering.{nat_cmp}
-use Rattle.lifetime_ledger.specs.declared.accounts.Account.{Account}
+use Rattle.lifetime_ledger.specs.declared.accounts.StudentUnits.{StudentUnits}
 use Rattle.lifetime_ledger.specs.Rows.{seen}
 use Rattle.lifetime_ledger.specs.Totals.{LifetimeTotals, AreSame, used, with_prior}
 use Rattle.lifetime_ledger.proofs.Written.{prior_seen}
@@ -18,16 +18,16 @@ one_place false new old spare taken fits = omega arith
 pub overflow_sub-used : goal.overflow_sub-used
 overflow_sub-used c =
     let student = c.student.inside.0 in
-    let account = ap (λ (a : Account). a.prior) c.account_at-account.ensures in
-    let units = ap (λ (a : Account). a.used) c.account_at-account.ensures in
+    let account = ap (λ (a : StudentUnits). a.prior) c.account_at-account.ensures in
+    let units = ap (λ (a : StudentUnits). a.used) c.account_at-account.ensures in
     omega (arith, prior_seen c.self.inside.accounts.rows c.self.inside.years.rows student, c.self.invariant.0.summed student)
 
 pub invariant_of-self : goal.invariant_of-self
 invariant_of-self c =
     let student = c.student.inside.0 in
     let t : LifetimeTotals = record (seen c.self.inside.accounts.rows c.self.inside.years.rows) { spare = c.self.inside.spare } in
-    let prior = ap (λ (a : Account). a.prior) c.account_at-account.ensures in
-    let units = ap (λ (a : Account). a.used) c.account_at-account.ensures in
+    let prior = ap (λ (a : StudentUnits). a.prior) c.account_at-account.ensures in
+    let units = ap (λ (a : StudentUnits). a.used) c.account_at-account.ensures in
     let seen_prior = prior_seen c.self.inside.accounts.rows c.self.inside.years.rows student in
     let summed = c.self.invariant.0.summed student in
     let lifetime = subst (λ (s : ℕ). used (with_prior t s c.args.units) s ≤ 600000) (sym c.student.view_is)

@@ -5,7 +5,7 @@ use Rattle.aid_filings.specs.declared.filing.Filing.{Filing}
 use Rattle.office_core.specs.Index.{IndexRows, IsIndexed}
 use Rattle.office_walks.specs.Links.{AreLinked}
 use Rattle.office_core.specs.Register.{Register}
-use Rattle.office_walks.specs.declared.links.Link.{Link}
+use Rattle.office_walks.specs.declared.links.EnrolmentLink.{EnrolmentLink}
 use Rattle.office_core.proofs.IndexGrown.{AreRows, HaveOneMore, few_left, index_grown, linkable, places_left, room_left}
 use Rattle.office_core.proofs.RowsWritten.{placed_there, places_after, school_years_after, years_after}
 use Rattle.office_core.proofs.RowsFound.{place_before, school_year_before, student_before, year_before}
@@ -159,7 +159,7 @@ invariant_of-self c =
       places = places_after past f w.place old.places new.places c.write-slot.ensures.values before.places written.place;
       years = years_after past f w.year old.years new.years c.write.ensures.values before.years written.year;
       school_years = school_years_after past f w.school_year old.school_years new.school_years c.write-2.ensures.values before.school_years written.school_year;
-      links = subst (λ (l : List Link). AreLinked (f ∷ past) new.places new.befores l) (sym c.push_reserved-2.ensures.items)
+      links = subst (λ (l : List EnrolmentLink). AreLinked (f ∷ past) new.places new.befores l) (sym c.push_reserved-2.ensures.items)
           (subst (λ (ns : List ℕ). AreLinked (f ∷ past) new.places ns (old.links ++ c.link_of.result ∷ [])) (sym c.push_reserved.ensures.items)
           (c.link_of.ensures past old.places new.places old.befores c.newest_before-before.result old.links
           (linkable past f w old.places new.places c.newest_before-before.result c.write-slot.result c.term_of-school_at.result.0 c.term_of-school_at.result.1
