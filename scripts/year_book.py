@@ -80,7 +80,7 @@ def are_numbers_of_toml(value):
 def read(text):
     """The tables of a book's text, or the first thing that is wrong with it."""
     try:
-        book = tomllib.loads(text.decode())
+        book = tomllib.loads(text.decode("utf-8-sig"))
     except (UnicodeDecodeError, tomllib.TOMLDecodeError) as error:
         raise NotABook(1, "", f"The text is no TOML: {error}.") from None
     if not are_numbers_of_toml(book):

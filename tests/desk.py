@@ -60,6 +60,13 @@ def program(text):
     return PROGRAM_WORDS.index(text)
 
 
+def policy(text):
+    """A policy by its name."""
+    if text not in model.POLICIES:
+        raise Faulty(SPELLING)
+    return text
+
+
 FLAG, EITHER_SIGN, AMOUNT = whole(0, 1), whole(-99_999_999, 99_999_999), whole(0, 99_999_999)
 STUDENT, YEAR, TERM, BREAKS = whole(1, 10**12 - 1), whole(2000, 2099), whole(1, 8), whole(0, 8)
 SIDE = [EITHER_SIGN, *[AMOUNT] * 8, EITHER_SIGN, *[AMOUNT] * 6]
@@ -80,6 +87,26 @@ KINDS = {
     "repay": MONEY,
     "adjust": MONEY,
 }
+
+
+# The rows of words that are commands: the words that stand, and the numbers and names behind them.
+COMMANDS = [
+    (["found"], []), (["file"], []), (["book"], KEY[1:]), (["quote"], [KEY[0], STUDENT, YEAR, TERM]),
+    (["report", "standing"], [YEAR]), (["report", "awards"], [YEAR]), (["report", "returns"], [YEAR]), (["report", "lifetime"], []),
+    (["fund"], [KEY[0], YEAR, TERM, whole(1, 99_999_999), policy, whole(1, 999_999_000_000)]),
+    (["generate"], [whole(0, 10**12 - 1), whole(1, 20_000)]), (["check", "rows"], []), (["check", "book"], []),
+]
+
+
+def command_of(words):
+    """The words of a command that stand, and what is behind them, or none where the words are no command's."""
+    for names, fields in COMMANDS:
+        if words[:len(names)] == names and len(words) == len(names) + len(fields):
+            try:
+                return names, [read(word) for read, word in zip(fields, words[len(names):])]
+            except Faulty:
+                return None
+    return None
 
 
 @dataclass(frozen=True)
@@ -209,6 +236,21 @@ class Desk:
 
     def __init__(self):
         self.history = []
+
+    def answer(self, words, text):
+        """The status and the text of a command, for an input, on this office, which was founded."""
+        command = command_of(words)
+        if command is None:
+            return 2, "fault usage\n"
+        names, given = command
+        if names == ["found"]:
+            return 6, "fault office exists\n"
+        if names[0] == "check":
+            return 0, check_rows(text) if names[1] == "rows" else check_book(text)
+        if names[0] == "report":
+            return 0, self.report(names[1], *given)
+        inputs = {"file": [text], "book": [text], "generate": [text]}.get(names[0], [])
+        return 0, getattr(self, names[0])(*given, *inputs)
 
     def line(self, row, filing):
         """The line that answers a filing, which joins the history where it is admitted."""

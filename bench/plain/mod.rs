@@ -1,6 +1,5 @@
 //! An office over ordered maps in plain Rust, its desk, and the filings of crate office_bench in their orders.
 
-#[path = "../need/arithmetic.rs"]
 pub mod arithmetic;
 pub mod desk;
 pub mod filings;

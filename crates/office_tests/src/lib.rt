@@ -1,15 +1,11 @@
-//! Tests of the office on the specimen book: an award year filed by two schools, worked payments and withdrawals, each rule
-//! from both sides, which of several terms a rule tells, and a full office. This library has tests alone.
+//! Tests of the office on the specimen book: an award year filed by two schools, worked payments and withdrawals,
+//! and a full office. This library has tests alone.
 #![tactic(auto)]
 
 #[cfg(test)]
 mod full;
 #[cfg(test)]
 mod office;
-#[cfg(test)]
-mod rules;
-#[cfg(test)]
-mod terms_over;
 #[cfg(test)]
 mod worked;
 #[cfg(test)]

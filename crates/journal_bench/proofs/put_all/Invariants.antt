@@ -1,6 +1,0 @@
-use Rattle.std.proofs.Common.{◌≡◌}
-use Rattle.filing_journal.specs.Journal.{IsDecided, journal_count}
-use Rattle.journal_bench.proofs.put_all.Given as goal
-
-abbrev pub invariant-loop : goal.invariant-loop
-invariant-loop l = record { decided : IsDecided l.journal; count : journal_count l.journal ≡ l.counter }
