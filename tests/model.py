@@ -1342,7 +1342,7 @@ def plan_round(history, school, year, term, amount, policy, number):
 @dataclass(frozen=True)
 class Return:
     """A withdrawal as a report has it: where, tenths of a percent earned, the school's part, what the student owes, the rest
-    that may be disbursed after it, and the day on which the school's part is due, none where it returns nothing."""
+    that may be disbursed after it, and the day on which the school's part is due."""
     school: int
     student: int
     term: int
@@ -1370,10 +1370,9 @@ def award_report(history, year):
     return [line for line in nets if line[-1] > 0]
 
 
-def due_day(withdrawal, returned):
-    """45 days after the school determined the withdrawal; none where it returns nothing or no such day has a date.
-    34 CFR 668.22(j)(1)."""
-    if returned == 0 or withdrawal.determined > date.max - timedelta(45):
+def due_day(withdrawal):
+    """45 days after the school determined the withdrawal; none where no such day has a date. 34 CFR 668.22(j)(1)."""
+    if withdrawal.determined > date.max - timedelta(45):
         return None
     return withdrawal.determined + timedelta(45)
 
@@ -1386,7 +1385,7 @@ def return_report(history, year):
             found = sheet_at(history, position)
             lines.append(Return(
                 filing.school, filing.student, filing.term, found.percent, found.school, sum(found.owed), found.post,
-                due_day(filing, found.school),
+                due_day(filing),
             ))
     return lines
 

@@ -12,8 +12,8 @@ mod desk;
 mod facts;
 mod limits;
 mod payment;
-mod quote;
 mod quote_limits;
+mod quotes;
 mod rules;
 mod school;
 mod withdrawal;
@@ -22,7 +22,7 @@ use aid_filings::What;
 use aid_types::{Key, Refusal};
 pub use facts::Facts;
 pub use limits::{MOST_UNITS, limit_of_year, payment_at};
-pub use quote::quote;
+pub use quotes::quote;
 pub use rules::MOST_FILINGS;
 
 /// The first rule of its kind's order that a filing breaks, with what stands and what may stand; `None` where it

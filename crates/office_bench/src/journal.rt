@@ -3,9 +3,9 @@ ghost use Rattle.std.specs.Prelude.{◌≡◌, ◌+◌, ◌<◌, ◌^◌, OnOk};
 ghost use Rattle.filing_journal.specs.Journal.{IsDecided, journal_count};
 ghost use Rattle.filing_journal.specs.Opening.{HasEnded};
 
+use aid_edges::Room;
 use disk_model::HostDisk;
 use filing_journal::{Header, Journal, OpenError, Opening, PutError, found, recover};
-use aid_edges::Room;
 use std::fs::OpenOptions;
 use std::io;
 

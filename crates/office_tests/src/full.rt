@@ -1,14 +1,24 @@
 //! A full office: it holds 200,000 filings, and refuses the next by rule 90.
 ghost use Rattle.std.specs.Prelude.{◌≤◌};
 
-use crate::office::file;
 use aid_filings::{Filing, Outcome, PriorFacts, Verdict, What};
 use aid_types::{Key, Refusal, School, Student};
 use office_core::Office;
+use std::alloc::AllocError;
 use std::test::Fail;
 
 /// How many filings an office holds.
 const FILINGS: u32 = 200_000;
+
+// Judges a filing, and admits it where the office would.
+fn file(office: &mut Office, filing: Filing) -> Result<Verdict, AllocError> {
+    office.reserve(1)?;
+    let verdict = office.judge(&filing);
+    if let Verdict::Admit(outcome) = verdict {
+        office.admit_with(filing, outcome);
+    }
+    Ok(verdict)
+}
 
 #[test]
 fn a_full_office(rt: HostRuntime) -> Result<(), Fail> {

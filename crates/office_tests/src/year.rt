@@ -1,128 +1,155 @@
-//! An award year: a student enrols at two schools whose terms overlap, is paid at both, and withdraws from the second.
-use crate::office::Step::{self, Brought, File, Front, Net, Standing, Stands};
-use crate::office::assert_each;
-use aid_filings::{Outcome, StandingRow};
-use aid_types::Program::{Pell, Unsub};
-use aid_types::{Formula, Way};
+//! The worked year of two schools, filed into an office and judged on a plain list beside it: every answer is the same by the index
+//! and by the list, and its line is the worked one. So are quotes and the student's standing behind each row.
+ghost use Rattle.std.specs.Prelude.{◌≡◌, ◌<◌};
+ghost use Rattle.office_history.specs.Answer.{answer_of};
+
+use aid_filings::{Ask, Filing, Verdict, What};
+use aid_types::Program::{self, Pell, Unsub};
+use aid_types::{School, Student, Year};
+use desk_forms::{Rows, book_filing, put_answer};
+use office_answers::{answer, quote, standing};
+use office_core::Office;
+use plain_list::{Plain, is_legal};
+use sorted_rows::Steps;
+use specimen::{BOOK_TEXT, YEAR_LINES, YEAR_ROWS, specimen_book};
+use std::alloc::Global;
+use std::marker::Brand;
+use std::process::Abort;
+use std::sync::ledger::{Blank, Ledger};
 use std::test::Fail;
-use worked_filings::Answer::{Again, Indexed, Noted, Paid, Refused, Returned};
-use worked_filings::Filed::{
-    Apply, Book, Broken, Enrol, Main, Originate, Pay, Prior, Repay, School, Withdraw,
-};
 
-const AWARD_YEAR: [Step; 32] = [
-    // The book, two schools and their terms, of which only the first has a break.
-    File(0, 1, Book(2025), Noted),
-    File(0, 2, School(110, 2), Noted),
-    File(0, 3, School(120, 3), Noted),
-    File(110, 1, Broken(1, (20_325, 20_434), (20_414, 20_422)), Noted),
-    File(110, 2, Main(2025, 2, 20_465, 20_574), Noted),
-    File(120, 1, Main(2025, 1, 20_353, 20_427), Noted),
-    File(120, 2, Main(2025, 2, 20_458, 20_532), Noted),
-    // The first school.
-    File(
-        110,
-        3,
-        Apply(5001, 1, 85_000),
-        Indexed(5104, Way::Calculated, 2290),
-    ),
-    File(110, 4, Enrol(5001, 1, 12), Noted),
-    File(110, 5, Originate(5001, 24_000), Noted),
-    File(110, 6, Pay(5001, 1, Pell, 114_500), Paid(114_500, 50_000)),
-    File(110, 7, Pay(5001, 1, Unsub, 100_000), Paid(100_000, 50_000)),
-    // The second school.
-    File(120, 3, Enrol(5001, 1, 12), Noted),
-    File(120, 4, Originate(5001, 21_000), Noted),
-    File(120, 5, Pay(5001, 1, Pell, 10_000), Refused(58, 110, 120)),
-    File(120, 6, Enrol(5001, 2, 12), Noted),
-    File(120, 7, Pay(5001, 2, Pell, 76_300), Paid(190_800, 83_319)),
-    // The withdrawal.
-    File(110, 8, Apply(5001, 2, 87_000), Refused(93, 114_500, 85_500)),
-    File(
-        120,
-        8,
-        Withdraw(5001, 2, (20_483, 20_489), 10_000, [0; 6]),
-        Returned(347, 6530, 5144, 0),
-    ),
-    File(120, 9, Repay(5001, 2, Pell, 5144), Noted),
-    File(120, 10, Repay(5001, 2, Pell, 1), Refused(70, 5145, 5144)),
-    // What is on file is answered with its first outcome, also once the student has withdrawn.
-    File(
-        110,
-        6,
-        Pay(5001, 1, Pell, 114_500),
-        Again(
-            11,
-            Outcome::Paid {
-                paid: 114_500,
-                used: 50_000,
-            },
-        ),
-    ),
-    File(
-        120,
-        7,
-        Pay(5001, 2, Pell, 76_300),
-        Again(
-            16,
-            Outcome::Paid {
-                paid: 190_800,
-                used: 83_319,
-            },
-        ),
-    ),
-    File(120, 7, Pay(5001, 2, Pell, 76_200), Refused(15, 16, 7)),
-    // 763.00 were paid at the second school, of which it returned 65.30 and the student repaid 51.44.
-    Net(110, 5001, 1, Pell, 114_500),
-    Net(110, 5001, 1, Unsub, 100_000),
-    Net(110, 5001, 2, Pell, 0),
-    Net(120, 5001, 1, Pell, 0),
-    Net(120, 5001, 2, Pell, 64_626),
-    Net(110, 5002, 1, Pell, 0),
-    Front(18),
-    Standing(
-        5001,
-        StandingRow {
-            transaction: 1,
-            formula: Formula::A,
-            sai: 5104,
-            way: Way::Calculated,
-            scheduled: 2290,
-            paid: 179_126,
-            used: 78_221,
-        },
-    ),
-];
+const BOOK_LINE: &str = "1 0 accepted 1 noted\n";
 
-const STRANGER: StandingRow = StandingRow {
-    transaction: 0,
-    formula: Formula::A,
-    sai: 0,
-    way: Way::Nothing,
-    scheduled: 0,
-    paid: 0,
-    used: 0,
-};
+const STUDENT: Student = Student(5001);
 
-const FIRST_ROWS: [Step; 10] = [
-    File(0, 1, School(110, 2), Noted),
-    File(0, 2, Prior(5001, 550_000), Noted),
-    File(0, 2, Prior(5001, 550_000), Again(2, Outcome::Noted)),
-    File(0, 2, Prior(5001, 540_000), Refused(15, 2, 2)),
-    Front(2),
-    Stands(2, Some((0, 2, Prior(5001, 550_000)))),
-    Stands(0, None),
-    Stands(3, None),
-    Brought(1, Some(Outcome::Noted)),
-    Brought(3, None),
-];
+const YEAR: Year = Year(2025);
 
 #[test]
-fn an_award_year(rt: HostRuntime) -> Result<(), Fail> {
-    let lists: [(&str, &[Step]); 3] = [
-        ("an award year", &AWARD_YEAR),
-        ("a stranger", &[Standing(5002, STRANGER)]),
-        ("first rows", &FIRST_ROWS),
-    ];
-    assert_each(&rt, rt.alloc(), &[], &lists)
+fn a_worked_year(rt: HostRuntime) -> Result<(), Fail> {
+    by_index_and_list::<Brand>(&rt, rt.alloc(), Blank::new(1))
+}
+
+// The year, with the looks at rows counted on a blank.
+fn by_index_and_list<L: Ledger>(rt: &impl Abort, alloc: Global, blank: Blank) -> Result<(), Fail>
+    requires name { blank.name ≡ L.name }
+    requires parts { blank.parts ≡ L.parts }
+    requires some { 0 < blank.parts }
+{
+    let mut looks: Steps<L> = Steps::new(blank);
+    let mut office = Office::new(alloc);
+    let mut lines = Vec::new(alloc);
+    let Ok(book) = book_filing(alloc, 1, BOOK_TEXT.as_bytes())? else {
+        return Err(Fail::new("no book"));
+    };
+    let What::Book(read) = &book.what else {
+        return Err(Fail::new("another kind"));
+    };
+    assert!(rt; *read.as_book() == specimen_book());
+    file(rt, &mut office, 1, book, &mut lines, &mut looks)?;
+    assert_eq!(rt; lines.as_slice(), BOOK_LINE.as_bytes());
+    lines.clear();
+    let text = YEAR_ROWS.as_bytes().to_vec(alloc)?;
+    assert!(rt; text.len() <= 10_000);
+    let mut rows = Rows::new(alloc, text);
+    for row in 1..=20 {
+        let Some(Ok(filing)) = rows.next()? else {
+            return Err(Fail::new("no row"));
+        };
+        file(rt, &mut office, row, filing, &mut lines, &mut looks)?;
+    }
+    assert_eq!(rt; lines.as_slice(), YEAR_LINES.as_bytes());
+    assert!(rt; is_legal(office.filings()));
+    assert_stands(rt, &office);
+    Ok(())
+}
+
+// Files a row into an office, and puts its line. It is judged the same once more where it stands.
+fn file<L: Ledger>(
+    rt: &impl Abort,
+    office: &mut Office,
+    row: u32,
+    filing: Filing,
+    lines: &mut Vec<u8>,
+    looks: &mut Steps<L>,
+) -> Result<(), Fail> {
+    office.reserve(1)?;
+    let verdict = judged(rt, office, &filing, looks);
+    put_answer(row, office.front(), &verdict, lines)?;
+    if let Verdict::Admit(outcome) = verdict {
+        office.admit_with(filing, outcome);
+        let front = office.front();
+        let Some(last) = office.filing(front) else {
+            return Err(Fail::new("no last filing"));
+        };
+        let again = Verdict::Again {
+            position: front,
+            outcome,
+        };
+        assert_eq!(rt; judged(rt, office, last, looks), again);
+        assert_eq!(rt; office.outcome(front), Some(outcome));
+    }
+    assert_told(rt, office, looks);
+    Ok(())
+}
+
+// The verdict on a filing, by the index and by the list.
+fn judged<L: Ledger>(
+    rt: &impl Abort,
+    office: &Office,
+    filing: &Filing,
+    looks: &mut Steps<L>,
+) -> Verdict
+    ensures { result ≡ answer_of office.now.history filing.now }
+{
+    // The front tells that the list is legal.
+    let _front = office.front();
+    let verdict = office.judge(filing);
+    assert_eq!(rt;
+        answer(&Plain::new(office.filings()), filing, looks),
+        verdict
+    );
+    verdict
+}
+
+// What is quoted, and where the student stands, by the index and by the list.
+fn assert_told<L: Ledger>(rt: &impl Abort, office: &Office, looks: &mut Steps<L>) {
+    let _front = office.front();
+    let list = Plain::new(office.filings());
+    for (code, term) in [(110, 1), (110, 2), (120, 1), (120, 2), (130, 1)] {
+        let ask = Ask::Quote {
+            school: School(code),
+            student: STUDENT,
+            year: YEAR,
+            term,
+        };
+        let cents = quote(&list, School(code), STUDENT, YEAR, term, looks);
+        assert_eq!(rt; office.ask(&ask, looks), Verdict::Quoted(cents));
+    }
+    let ask = Ask::Standing {
+        student: STUDENT,
+        year: YEAR,
+    };
+    let row = standing(&list, STUDENT, YEAR, looks);
+    assert_eq!(rt; office.ask(&ask, looks), Verdict::Standing(row));
+}
+
+// A school, a term, a program and its net there at the end: 763.00 were paid at the second school, of which it returned 65.30 and
+// the student repaid 51.44.
+const NETS: [(u32, u8, Program, u64); 5] = [
+    (110, 1, Pell, 114_500),
+    (110, 1, Unsub, 100_000),
+    (110, 2, Pell, 0),
+    (120, 1, Pell, 0),
+    (120, 2, Pell, 64_626),
+];
+
+// What stands at the end of the year.
+fn assert_stands(rt: &impl Abort, office: &Office) {
+    for (code, term, program, cents) in NETS {
+        let net = office.net(STUDENT, School(code), YEAR, term, program);
+        assert_eq!(rt; net, cents, "at {code} in term {term}");
+    }
+    assert_eq!(rt; office.front(), 18);
+    assert!(rt; office.filing(0).is_none() && office.filing(19).is_none());
+    assert!(rt; office.outcome(0).is_none() && office.outcome(19).is_none());
 }

@@ -1,273 +1,245 @@
-// What no clause says: worked texts and files, that memory suffices for them, and what each fault leaves.
-use aid_edges::{MemorySink, MemorySource, Source, SteadySource};
-use disk_model::{DiskStop, Fill, MemoryDisk};
-use fund_policy::{Rule, level, quarter, standard};
+// Commands on the rows of a first day, on files and texts that are none, and what each fault leaves.
+use crate::runs::{EMPTY, Run, assert_runs, disk, ran, ran_over};
+use aid_edges::MemorySource;
 use kept_session::INPUT_LIMIT;
-use run_office::run;
+use specimen::BOOK_TEXT;
 use std::alloc::{AllocError, Global};
 use std::test::Fail;
 
-const FIRST: &[u8] = b"school,0,1,110,2,12\nprior,0,2,5001,550000\n";
+const FIRST: &str = "school,0,1,110,2,12\nprior,0,2,5001,550000\n";
 
-const ACCEPTED: &[u8] = b"1 0 accepted 1 noted\n2 1 accepted 2 noted\n";
+const ACCEPTED: &str = "1 0 accepted 1 noted\n2 1 accepted 2 noted\n";
 
-const AGAIN: &[u8] = b"1 2 again 1 noted\n2 2 again 2 noted\n";
-
-// Each of these breaks a rule once the two first filings stand, but for the last, which is the first again.
-const REFUSED: &[u8] =
-    b"school,0,4,110,3,24\nprior,0,5,5001,1\nprior,0,6,5002,600001\nprior,110,1,5002,1\nschool,0,1,110,2,12\n";
-
-const REFUSALS: &[u8] =
-    b"1 2 refused 13 1 110\n2 2 refused 80 2 5001\n3 2 refused 81 600001 600000\n4 2 refused 14 110 0\n5 2 again 1 noted\n";
-
-// The lifetime use of the two first filings.
-const LIFETIME: &[u8] = b"        5001  550000  550000\nrows 1\n";
-
-// A founded file without filings.
-pub(crate) const EMPTY: &[u8] = b"\x01AIDPELL1\x01\0\0\0\0\0\0\0";
+const AGAIN: &str = "1 2 again 1 noted\n2 2 again 2 noted\n";
 
 // The file of the two first filings.
 pub(crate) const BOTH: &[u8] =
     b"\x01AIDPELL1\x01\0\0\0\0\0\0\x01\x13\0\0\0\x02\0\0\0\0\x01\0\0\0\0\0\0\0\x6e\0\0\0\x02\x0c\x01\x19\0\0\0\x04\0\0\0\0\x02\0\0\0\0\0\0\0\x89\x13\0\0\0\0\0\0\x70\x64\x08\0\0";
 
-pub(crate) fn disk(
-    alloc: Global,
-    bytes: &[u8],
-    failing: &[u64],
-    stop: Option<DiskStop>,
-) -> Result<MemoryDisk, Fail> {
-    Ok(MemoryDisk::new(alloc, bytes.to_vec(alloc)?, failing.to_vec(alloc)?, stop)?)
-}
+// The same with two bytes behind it, as a stop may leave them.
+const TORN: &[u8] =
+    b"\x01AIDPELL1\x01\0\0\0\0\0\0\x01\x13\0\0\0\x02\0\0\0\0\x01\0\0\0\0\0\0\0\x6e\0\0\0\x02\x0c\x01\x19\0\0\0\x04\0\0\0\0\x02\0\0\0\0\0\0\0\x89\x13\0\0\0\0\0\0\x70\x64\x08\0\0\x01\x05";
 
-// What a run with a line of words over a source gives: its status, its text and its disk.
-fn ran_over<S: Source>(
-    alloc: Global,
-    line: &str,
-    source: &mut S,
-    disk: MemoryDisk,
-    failing: &[u64],
-) -> Result<(u8, MemorySink, MemoryDisk), Fail> {
-    let mut words = Vec::new(alloc);
-    for word in line.split(' ') {
-        words.push(String::from_str(alloc, word)?)?;
-    }
-    let level_rule: Rule = Box::new(
-        alloc,
-        |need: u32, sai: i32, intensity: u8| level(need, sai, intensity),
-    )?;
-    let quarter_rule: Rule = Box::new(
-        alloc,
-        |need: u32, sai: i32, intensity: u8| quarter(need, sai, intensity),
-    )?;
-    let policies = standard(alloc, level_rule, quarter_rule)?;
-    let mut sink = MemorySink::new(alloc, failing.to_vec(alloc)?);
-    let (status, disk) = run(alloc, &words, disk, source, &mut sink, &policies);
-    Ok((status, sink, disk))
-}
-
-// The same over an input.
-pub(crate) fn ran(
-    alloc: Global,
-    line: &str,
-    input: &[u8],
-    disk: MemoryDisk,
-    failing: &[u64],
-) -> Result<(u8, MemorySink, MemoryDisk), Fail> {
-    let mut source = SteadySource::new(input.to_vec(alloc)?);
-    ran_over(alloc, line, &mut source, disk, failing)
-}
-
-// Each run goes on with the file of the one before it.
 #[test]
-fn runs_follow_each_other(rt: HostRuntime) -> Result<(), Fail> {
+fn a_first_day(rt: HostRuntime) -> Result<(), Fail> {
     let alloc = rt.alloc();
-    let rows: [(&str, &[u8], u8, &[u8], usize); 22] = [
-        ("file", FIRST, 6, b"fault no office\n", 0),
-        ("found", b"", 0, b"founded\n", 17),
-        ("file", FIRST, 0, ACCEPTED, 71),
-        ("file", b"", 0, b"", 71),
-        ("file", FIRST, 0, AGAIN, 71),
-        (
-            "file",
-            b"prior,0,2,5001,540000",
-            0,
-            b"1 2 refused 15 2 2\n",
-            71,
-        ),
-        ("file", REFUSED, 0, REFUSALS, 71),
-        ("file", b"prior,0,x,5001,1", 0, b"1 error 3 3\n", 71),
-        ("file", b"loan,0,9", 0, b"1 error 1 1\n", 71),
-        ("book 1", b"", 0, b"1 book 2 1\n", 71),
-        ("generate 7 1", b"", 0, b"1 book 2 1\n", 71),
-        ("generate 7 0", b"", 2, b"fault usage\n", 71),
-        ("fund 110 2025 1 600 level 50", b"", 0, b"left 600\n", 71),
-        ("fund 110 2025 1 600 other 50", b"", 2, b"fault usage\n", 71),
-        ("fund 110 2025 1 600 level 0", b"", 2, b"fault usage\n", 71),
-        ("quote", b"", 2, b"fault usage\n", 71),
-        ("quote 110 5001 2025 1", b"", 0, b"quote 0\n", 71),
-        ("report standing 2025", b"", 0, b"rows 0\n", 71),
-        ("report lifetime", b"", 0, LIFETIME, 71),
-        ("report lifetime 2025", b"", 2, b"fault usage\n", 71),
-        (
-            "check rows",
-            b"prior,0,2,5001,1",
-            0,
-            b"1 fine\nrows 1 errors 0\n",
-            71,
-        ),
-        ("found", b"", 6, b"fault office exists\n", 71),
-    ];
-    let mut kept = disk(alloc, &[], &[], None)?;
-    for (line, input, want, text, size) in rows {
-        let (status, sink, next) = ran(alloc, line, input, kept, &[])?;
-        assert_eq!(rt; status, want, "{line}");
-        assert_eq!(rt; sink.text(), text, "{line}");
-        assert_eq!(rt; next.image().len(), size, "{line}");
-        kept = next;
-    }
-    assert_eq!(rt; kept.image(), BOTH);
+    let founded = assert_runs(&rt, alloc, b"", &[("found", "", 0, "founded\n")])?;
+    assert_eq!(rt; founded.image(), EMPTY);
+    let filed = assert_runs(&rt, alloc, EMPTY, &FIRST_DAY)?;
+    assert_eq!(rt; filed.image(), BOTH);
+    assert_runs(&rt, alloc, EMPTY, &SEVEN_ROWS)?;
     Ok(())
 }
 
-const CHECKED: &[u8] =
-    b"pay,110,6,5001,2025,1,pell,1145\ncalendar,110,1,2025,1,0,2025-02-30,2025-12-12,0\ncalendar,110,1,2025,1,0,2025-08-25,2025-12-12,1\nschool,0,1,110,4,12\nprior,0,02,5001,1\nprior,0,2,5001,1\n";
+// Only the first of these changes the file.
+const FIRST_DAY: [Run; 18] = [
+    ("file", FIRST, 0, ACCEPTED),
+    ("file", "", 0, ""),
+    ("file", FIRST, 0, AGAIN),
+    ("file", "prior,0,2,5001,540000", 0, "1 2 refused 15 2 2\n"),
+    ("file", "prior,0,x,5001,1", 0, "1 error 3 3\n"),
+    ("file", "loan,0,9", 0, "1 error 1 1\n"),
+    ("book 1", "", 0, "1 book 2 1\n"),
+    ("generate 7 1", "", 0, "1 book 2 1\n"),
+    ("generate 7 0", "", 2, "fault usage\n"),
+    ("fund 110 2025 1 600 level 50", "", 0, "left 600\n"),
+    ("fund 110 2025 1 600 level 0", "", 2, "fault usage\n"),
+    ("quote", "", 2, "fault usage\n"),
+    ("quote 110 5001 2025 1", "", 0, "quote 0\n"),
+    ("report standing 2025", "", 0, "rows 0\n"),
+    (
+        "report lifetime",
+        "",
+        0,
+        "        5001  550000  550000\nrows 1\n",
+    ),
+    ("report lifetime 2025", "", 2, "fault usage\n"),
+    ("check rows", CHECKED, 0, CHECKS),
+    ("found", "", 6, "fault office exists\n"),
+];
 
-const CHECKS: &[u8] =
-    b"1 error 8 3\n2 error 7 4\n3 error 0 2\n4 error 5 4\n5 error 3 3\n6 fine\nrows 6 errors 5\n";
+// Each row breaks a rule of its own once the two first stand, but for the last, which is the first again.
+const SEVEN_ROWS: [Run; 1] = [(
+    "file",
+    "\
+school,0,1,110,2,12\n\
+prior,0,2,5001,550000\n\
+school,0,4,110,3,24\n\
+prior,0,5,5001,1\n\
+prior,0,6,5002,600001\n\
+prior,110,1,5002,1\n\
+school,0,1,110,2,12\n",
+    0,
+    "\
+1 0 accepted 1 noted\n\
+2 1 accepted 2 noted\n\
+3 2 refused 13 1 110\n\
+4 2 refused 80 2 5001\n\
+5 2 refused 81 600001 600000\n\
+6 2 refused 14 110 0\n\
+7 2 again 1 noted\n",
+)];
 
-// A check needs no office, and makes none.
+const CHECKED: &str = "\
+pay,110,6,5001,2025,1,pell,1145\n\
+calendar,110,1,2025,1,0,2025-02-30,2025-12-12,0\n\
+calendar,110,1,2025,1,0,2025-08-25,2025-12-12,1\n\
+school,0,1,110,4,12\n\
+prior,0,02,5001,1\n\
+prior,0,2,5001,1\n";
+
+const CHECKS: &str = "\
+1 error 8 3\n\
+2 error 7 4\n\
+3 error 0 2\n\
+4 error 5 4\n\
+5 error 3 3\n\
+6 fine\n\
+rows 6 errors 5\n";
+
 #[test]
-fn inputs_are_checked(rt: HostRuntime) -> Result<(), Fail> {
+fn files_that_are_none(rt: HostRuntime) -> Result<(), Fail> {
     let alloc = rt.alloc();
-    let rows: [(&str, &[u8], &[u8]); 3] = [
-        ("check rows", CHECKED, CHECKS),
-        ("check rows", b"", b"rows 0 errors 0\n"),
-        ("check book", b"", b"1 book 2 1\n"),
-    ];
-    for (line, input, text) in rows {
-        let (status, sink, after) = ran(alloc, line, input, disk(alloc, &[], &[], None)?, &[])?;
-        assert_eq!(rt; status, 0, "{line}");
-        assert_eq!(rt; sink.text(), text, "{line}");
-        assert_eq!(rt; after.image().len(), 0, "{line}");
+    for (image, run) in NO_OFFICES {
+        let after = assert_runs(&rt, alloc, image, &[run])?;
+        assert_eq!(rt; after.image(), image);
     }
     Ok(())
 }
 
+// Files in which no office stands, or on which a run does nothing.
+const NO_OFFICES: [(&[u8], Run); 10] = [
+    (b"", ("file", FIRST, 6, "fault no office\n")),
+    (b"", ("check rows", "", 0, "rows 0 errors 0\n")),
+    (b"", ("check book", BOOK_TEXT, 0, "1 fine\n")),
+    (
+        b"ten bytes.",
+        ("report lifetime", "", 6, "fault no office\n"),
+    ),
+    (b"ten bytes.", ("file", "", 6, "fault no office\n")),
+    (
+        b"eighteen letters..",
+        ("file", "", 6, "fault not a journal\n"),
+    ),
+    (CUT, ("file", "", 7, "fault damaged 40\n")),
+    (TWICE, ("file", "", 7, "fault damaged 40\n")),
+    (UNKNOWN, ("file", "", 7, "fault damaged 40\n")),
+    (BOTH, ("found", "", 6, "fault office exists\n")),
+];
+
+// The first 60 bytes of the file of two filings.
+const CUT: &[u8] =
+    b"\x01AIDPELL1\x01\0\0\0\0\0\0\x01\x13\0\0\0\x02\0\0\0\0\x01\0\0\0\0\0\0\0\x6e\0\0\0\x02\x0c\x01\x19\0\0\0\x04\0\0\0\0\x02\0\0\0\0\0\0\0\x89\x13";
+
+// The first filing once more in the place of the second, and a second filing of a kind that is none.
+const TWICE: &[u8] =
+    b"\x01AIDPELL1\x01\0\0\0\0\0\0\x01\x13\0\0\0\x02\0\0\0\0\x01\0\0\0\0\0\0\0n\0\0\0\x02\x0c\x01\x13\0\0\0\x02\0\0\0\0\x01\0\0\0\0\0\0\0n\0\0\0\x02\x0c\0";
+
+const UNKNOWN: &[u8] =
+    b"\x01AIDPELL1\x01\0\0\0\0\0\0\x01\x13\0\0\0\x02\0\0\0\0\x01\0\0\0\0\0\0\0n\0\0\0\x02\x0c\x01\x19\0\0\0c\0\0\0\0\x02\0\0\0\0\0\0\0\x89\x13\0\0\0\0\0\0pd\x08\0\0";
+
 #[test]
-fn answers_by_the_bytes(rt: HostRuntime) -> Result<(), Fail> {
+fn books_that_are_none(rt: HostRuntime) -> Result<(), Fail> {
     let alloc = rt.alloc();
-    let rows: [(&[u8], u8, &[u8]); 4] = [
-        (b"ten bytes.", 6, b"fault no office\n"),
-        (b"seventeen letters", 6, b"fault no office\n"),
-        (b"eighteen letters..", 6, b"fault not a journal\n"),
-        (&BOTH[..60], 7, b"fault damaged 40\n"),
-    ];
-    for (bytes, want, text) in rows {
-        let (status, sink, after) = ran(alloc, "file", b"", disk(alloc, bytes, &[], None)?, &[])?;
-        assert_eq!(rt; status, want);
-        assert_eq!(rt; sink.text(), text);
-        assert_eq!(rt; after.image(), bytes);
+    for (old, new, line) in NO_BOOKS {
+        let text = BOOK_TEXT.replace(alloc, old, new)?;
+        for words in ["book 1", "check book", "generate 7 20"] {
+            let disk = disk(alloc, EMPTY, &[], None)?;
+            let (status, sink, after) = ran(alloc, words, text.as_bytes(), disk, &[])?;
+            assert_eq!(rt; sink.text(), line.as_bytes(), "{new}");
+            assert_eq!(rt; status, 0);
+            assert_eq!(rt; after.image(), EMPTY);
+        }
     }
     Ok(())
 }
+
+// What changes in the text of the book, and the line of its first error.
+const NO_BOOKS: [(&str, &str, &str); 4] = [
+    (
+        "minimum = 740\n",
+        "minimum = 740\nbonus = 1\n",
+        "1 book 6 pell.bonus\n",
+    ),
+    ("minimum = 740\n", "minimum = 7396\n", "1 book 4 4\n"),
+    ("base = 11240\n", "base = 11241\n", "1 book 5 3 5\n"),
+    ("minimum = 740\n", "bonus = 1\n", "1 book 2 4\n"),
+];
 
 // A run that ended in a fault of the disk is made again, and then all stands.
 #[test]
 fn disk_faults_end_a_run(rt: HostRuntime) -> Result<(), Fail> {
     let alloc = rt.alloc();
-    // The first filing is put by two calls; three more open its gate, write the second ahead and keep both; two open the second's.
-    let rows: [(u64, &[u8]); 7] = [
-        (5, b"fault disk none\n"),
-        (6, b"fault disk none\n"),
-        (7, b"fault disk 3\n"),
-        (8, b"fault disk 3\n"),
-        (9, b"fault disk 3\n"),
-        (10, b"1 2 accepted 3 noted\nfault disk 4\n"),
-        (11, b"1 2 accepted 3 noted\nfault disk 4\n"),
-    ];
-    let input = b"prior,0,7,5007,1\nprior,0,8,5008,1\n".as_slice();
-    for (call, text) in rows {
-        let (status, sink, left) = ran(
-            alloc,
-            "file",
-            input,
-            disk(alloc, BOTH, &[call], None)?,
-            &[],
-        )?;
+    for (image, input, call, text, again, size) in DISK_FAULTS {
+        let failing = disk(alloc, image, &[call], None)?;
+        let (status, sink, left) = ran(alloc, "file", input.as_bytes(), failing, &[])?;
         assert_eq!(rt; status, 5, "call {call}");
-        assert_eq!(rt; sink.text(), text, "call {call}");
-        let (status, _, _) = ran(alloc, "file", input, left, &[])?;
-        assert_eq!(rt; status, 0, "call {call}");
+        assert_eq!(rt; sink.text(), text.as_bytes(), "call {call}");
+        let after = assert_runs(&rt, alloc, left.image(), &[("file", input, 0, again)])?;
+        assert!(rt; after.image().starts_with(&BOTH[..70]), "call {call}");
+        assert_eq!(rt; after.image().len(), size, "call {call}");
     }
     Ok(())
 }
 
-// An office of two filings, stopped in the write of the third's gate.
-#[test]
-fn a_stop_loses_nothing(rt: HostRuntime) -> Result<(), Fail> {
-    let alloc = rt.alloc();
-    let input = b"prior,0,7,5007,1\n".as_slice();
-    let rows: [(u8, &[u8]); 3] = [
-        (0, b"1 2 accepted 3 noted\n"),
-        (1, b"1 3 again 3 noted\n"),
-        (7, b"1 2 accepted 3 noted\n"),
-    ];
-    for (byte, text) in rows {
-        let stop = Some(DiskStop {
-            call: 7,
-            fill: Fill::With(byte),
-        });
-        let (status, sink, left) = ran(alloc, "file", input, disk(alloc, BOTH, &[], stop)?, &[])?;
-        assert_eq!(rt; (status, sink.text()), (5, b"fault disk 3\n".as_slice()));
-        let next = disk(alloc, left.image(), &[], None)?;
-        let (status, sink, _) = ran(alloc, "file", input, next, &[])?;
-        assert_eq!(rt; status, 0, "{byte}");
-        assert_eq!(rt; sink.text(), text, "{byte}");
-    }
-    Ok(())
-}
+const TWO: &str = "prior,0,7,5007,1\nprior,0,8,5008,1\n";
+
+// An image, its rows, the call that fails, the text, that of the run after it, and the length of its file. Two calls read what stands, one asks for the
+// length, one cuts off what stands behind it, and one syncs; the first filing is put by two calls, three more open its gate, write
+// the second ahead and keep both, and two open the second's.
+const DISK_FAULTS: [(&[u8], &str, u64, &str, &str, usize); 3] = [
+    (TORN, "", 4, "fault disk none\n", "", 71),
+    (
+        BOTH,
+        TWO,
+        7,
+        "fault disk 3\n",
+        "1 2 accepted 3 noted\n2 3 accepted 4 noted\n",
+        131,
+    ),
+    (
+        BOTH,
+        TWO,
+        10,
+        "1 2 accepted 3 noted\nfault disk 4\n",
+        "1 3 again 3 noted\n2 3 accepted 4 noted\n",
+        131,
+    ),
+];
 
 #[test]
 fn write_faults_end_a_run(rt: HostRuntime) -> Result<(), Fail> {
     let alloc = rt.alloc();
-    let rows: [(&str, &[u8], u64, &[u8], usize); 8] = [
-        ("check rows", EMPTY, 3, b"1 fine\n2 fine\n", 17),
-        ("check book", EMPTY, 1, b"", 17),
-        ("generate 7 1", EMPTY, 1, b"", 17),
-        ("fund 110 2025 1 600 level 50", EMPTY, 1, b"", 17),
-        ("file", EMPTY, 1, b"", 71),
-        ("file", EMPTY, 2, b"1 0 accepted 1 noted\n", 71),
-        ("found", b"", 1, b"", 17),
-        ("none", b"", 1, b"", 0),
-    ];
-    for (line, bytes, call, text, size) in rows {
-        let (status, sink, after) = ran(
-            alloc,
-            line,
-            FIRST,
-            disk(alloc, bytes, &[], None)?,
-            &[call],
-        )?;
+    for (line, image, call, text, size) in WRITE_FAULTS {
+        let disk = disk(alloc, image, &[], None)?;
+        let (status, sink, after) = ran(alloc, line, FIRST.as_bytes(), disk, &[call])?;
         assert_eq!(rt; status, 4, "{line} {call}");
-        assert_eq!(rt; sink.text(), text, "{line} {call}");
+        assert_eq!(rt; sink.text(), text.as_bytes(), "{line} {call}");
         assert_eq!(rt; after.image().len(), size, "{line} {call}");
     }
     Ok(())
 }
+
+// The words of a run on the first rows, an image, the call of the sink that fails, the text, and the length of the file.
+const WRITE_FAULTS: [(&str, &[u8], u64, &str, usize); 8] = [
+    ("check rows", EMPTY, 3, "1 fine\n2 fine\n", 17),
+    ("check book", EMPTY, 1, "", 17),
+    ("generate 7 1", EMPTY, 1, "", 17),
+    ("fund 110 2025 1 600 level 50", EMPTY, 1, "", 17),
+    ("file", EMPTY, 1, "", 71),
+    ("file", EMPTY, 2, "1 0 accepted 1 noted\n", 71),
+    ("found", b"", 1, "", 17),
+    ("none", b"", 1, "", 0),
+];
 
 // The input is read by two calls, the last of which finds its end.
 #[test]
 fn read_faults_end_a_run(rt: HostRuntime) -> Result<(), Fail> {
     let alloc = rt.alloc();
     for call in [1, 2] {
-        let mut source = MemorySource::new(FIRST.to_vec(alloc)?, vec![in alloc; call]?);
-        let (status, sink, after) = ran_over(
-            alloc,
-            "file",
-            &mut source,
-            disk(alloc, EMPTY, &[], None)?,
-            &[],
-        )?;
+        let mut source = MemorySource::new(FIRST.as_bytes().to_vec(alloc)?, vec![in alloc; call]?);
+        let disk = disk(alloc, EMPTY, &[], None)?;
+        let (status, sink, after) = ran_over(alloc, "file", &mut source, disk, &[])?;
         assert_eq!(rt; status, 3, "{call}");
         assert_eq!(rt; sink.text(), b"fault read\n".as_slice(), "{call}");
         assert_eq!(rt; after.image(), EMPTY, "{call}");
@@ -284,21 +256,15 @@ fn long_input(alloc: Global, length: usize) -> Result<Vec<u8>, AllocError> {
 #[test]
 fn inputs_have_a_limit(rt: HostRuntime) -> Result<(), Fail> {
     let alloc = rt.alloc();
-    let rows: [(usize, u8, &[u8]); 2] = [
-        (INPUT_LIMIT, 0, b"1 error 1 1\n"),
-        (INPUT_LIMIT + 1, 8, b"fault too long\n"),
-    ];
-    for (length, want, text) in rows {
+    for (length, want, text) in [
+        (INPUT_LIMIT, 0, "1 error 1 1\n"),
+        (INPUT_LIMIT + 1, 8, "fault too long\n"),
+    ] {
         let input = long_input(alloc, length)?;
-        let (status, sink, after) = ran(
-            alloc,
-            "file",
-            &input,
-            disk(alloc, EMPTY, &[], None)?,
-            &[],
-        )?;
+        let disk = disk(alloc, EMPTY, &[], None)?;
+        let (status, sink, after) = ran(alloc, "file", &input, disk, &[])?;
         assert_eq!(rt; status, want, "{length}");
-        assert_eq!(rt; sink.text(), text, "{length}");
+        assert_eq!(rt; sink.text(), text.as_bytes(), "{length}");
         assert_eq!(rt; after.image(), EMPTY, "{length}");
     }
     Ok(())

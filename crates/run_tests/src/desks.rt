@@ -1,6 +1,7 @@
-// What many desks do at once: two that pay one student, in either order, and one that ends early.
-use crate::commands::{BOTH, disk, ran};
-use aid_edges::{HoldGate, MemorySink, SteadySource};
+// What many desks do at once: two that pay one student, in either order, one that ends early, and those that don't begin.
+use crate::commands::BOTH;
+use crate::runs::{assert_runs, disk, with_book};
+use aid_edges::{FreeGate, HoldGate, MemorySink, MemorySource, SteadySource};
 use disk_model::MemoryDisk;
 use run_office::{DeskInput, run_desks};
 use std::alloc::Global;
@@ -9,114 +10,8 @@ use std::sync::Wait;
 use std::test::Fail;
 use std::thread::Threads;
 
-// A year book with figures of the office's own.
-const BOOK: &[u8] = b"\
-form = 1\n\
-year = 2025\n\
-[pell]\n\
-maximum = 7395\n\
-minimum = 740\n\
-[percent]\n\
-maximum_single = 225\n\
-maximum_other = 175\n\
-minimum_dependent_single = 325\n\
-minimum_dependent_other = 275\n\
-minimum_single_parent = 400\n\
-minimum_parent = 350\n\
-minimum_no_dependents = 275\n\
-[poverty]\n\
-contiguous = [14580, 19720, 24860, 30000, 35140, 40280, 45420, 50560]\n\
-contiguous_extra = 5140\n\
-alaska = [18210, 24640, 31070, 37500, 43930, 50360, 56790, 63220]\n\
-alaska_extra = 6430\n\
-hawaii = [16770, 22680, 28590, 34500, 40410, 46320, 52230, 58140]\n\
-hawaii_extra = 5910\n\
-[payroll]\n\
-oasdi_cap = 168600\n\
-oasdi_rate = 620\n\
-medicare_rate = 145\n\
-medicare_high = 235\n\
-threshold_single = 200000\n\
-threshold_married = 250000\n\
-[protection]\n\
-parents = [28530, 35510, 43870, 51750, 60540]\n\
-parents_extra = 6840\n\
-dependent_student = 11770\n\
-single_student = 18310\n\
-married_student = 29350\n\
-single_parent = [53660, 66800, 82500, 97330, 113840]\n\
-single_parent_extra = 12860\n\
-married_parent = [42800, 53270, 65810, 77630, 90810]\n\
-married_parent_extra = 10260\n\
-[employment]\n\
-cap = 4730\n\
-rate = 3500\n\
-[assets]\n\
-parents_rate = 1200\n\
-dependent_rate = 2000\n\
-no_dependents_rate = 2000\n\
-with_dependents_rate = 700\n\
-[[business]]\n\
-over = 0\n\
-base = 0\n\
-rate = 4000\n\
-[[business]]\n\
-over = 165000\n\
-base = 66000\n\
-rate = 5000\n\
-[[business]]\n\
-over = 490000\n\
-base = 228500\n\
-rate = 6000\n\
-[[business]]\n\
-over = 815000\n\
-base = 423500\n\
-rate = 10000\n\
-[[age]]\n\
-from = 0\n\
-single = 0\n\
-married = 0\n\
-[[age]]\n\
-from = 26\n\
-single = 500\n\
-married = 800\n\
-[[age]]\n\
-from = 40\n\
-single = 2500\n\
-married = 6000\n\
-[[age]]\n\
-from = 65\n\
-single = 4000\n\
-married = 10000\n\
-[schedule]\n\
-low_at = -6820\n\
-low = -1500\n\
-first_rate = 2200\n\
-student_rate = 5000\n\
-lowest_student = -1500\n\
-[[bracket]]\n\
-over = 20500\n\
-base = 4510\n\
-rate = 2500\n\
-[[bracket]]\n\
-over = 25700\n\
-base = 5810\n\
-rate = 2900\n\
-[[bracket]]\n\
-over = 30900\n\
-base = 7318\n\
-rate = 3400\n\
-[[bracket]]\n\
-over = 36200\n\
-base = 9120\n\
-rate = 4000\n\
-[[bracket]]\n\
-over = 41500\n\
-base = 11240\n\
-rate = 4700\n";
-
 // Two schools with two terms each, and a student at both with 550,000 lifetime units.
-const ROWS: &[u8] = b"\
+const ROWS: &str = "\
 prior,0,3,5001,550000\n\
 school,0,2,110,2,12\n\
 calendar,110,1,2025,1,0,2025-08-25,2025-12-02,0\n\
@@ -131,12 +26,25 @@ calendar,120,2,2025,2,0,2026-01-12,2026-04-21,0\n\
 enrol,120,3,5001,2025,2,12\n\
 originate,120,4,5001,2025,24000\n";
 
+const LINES: &str = "\
+1 1 accepted 2 noted\n\
+2 2 accepted 3 noted\n\
+3 3 accepted 4 noted\n\
+4 4 accepted 5 noted\n\
+5 5 accepted 6 index A -1500 maximum 7395\n\
+6 6 accepted 7 noted\n\
+7 7 accepted 8 noted\n\
+8 8 accepted 9 noted\n\
+9 9 accepted 10 noted\n\
+10 10 accepted 11 noted\n\
+11 11 accepted 12 noted\n\
+12 12 accepted 13 noted\n\
+13 13 accepted 14 noted\n";
+
 // The office of these rows.
-fn two_schools(alloc: Global) -> Result<MemoryDisk, Fail> {
-    let (_, _, founded) = ran(alloc, "found", b"", disk(alloc, b"", &[], None)?, &[])?;
-    let (_, _, with_book) = ran(alloc, "book 1", BOOK, founded, &[])?;
-    let (_, _, with_rows) = ran(alloc, "file", ROWS, with_book, &[])?;
-    Ok(with_rows)
+fn two_schools(rt: &impl Abort, alloc: Global) -> Result<MemoryDisk, Fail> {
+    let book = with_book(rt, alloc)?;
+    assert_runs(rt, alloc, book.image(), &[("file", ROWS, 0, LINES)])
 }
 
 // Two desks file their rows behind a gate, which ends with this status and this text.
@@ -172,7 +80,14 @@ fn desk_1_pays_first(rt: HostRuntime) -> Result<(), Fail> {
     let gate = HoldGate::new(2, 1, 1_000_000);
     let text =
         b"desk 1 1 14 accepted 15 paid 3000.00 590568\ndesk 2 1 15 refused 56 631136 600000\nadmitted 15 1 1\n";
-    assert_filed(&rt, alloc, two_schools(alloc)?, &gate, PAYMENTS, (0, text))
+    assert_filed(
+        &rt,
+        alloc,
+        two_schools(&rt, alloc)?,
+        &gate,
+        PAYMENTS,
+        (0, text),
+    )
 }
 
 #[test]
@@ -181,7 +96,14 @@ fn desk_2_pays_first(rt: HostRuntime) -> Result<(), Fail> {
     let gate = HoldGate::new(1, 2, 1_000_000);
     let text =
         b"desk 1 1 15 refused 56 631136 600000\ndesk 2 1 14 accepted 15 paid 3000.00 590568\nadmitted 15 2 1\n";
-    assert_filed(&rt, alloc, two_schools(alloc)?, &gate, PAYMENTS, (0, text))
+    assert_filed(
+        &rt,
+        alloc,
+        two_schools(&rt, alloc)?,
+        &gate,
+        PAYMENTS,
+        (0, text),
+    )
 }
 
 // The disk fails in the turn of desk 1's first row, by the number of its call. Desk 2 files on, and where that row's filing was
@@ -213,5 +135,50 @@ fn a_desk_ends_early(rt: HostRuntime) -> Result<(), Fail> {
         let disk = disk(alloc, BOTH, &[call], None)?;
         assert_filed(&rt, alloc, disk, &gate, rows, (5, text))?;
     }
+    Ok(())
+}
+
+#[test]
+fn desks_that_do_not_begin(rt: HostRuntime) -> Result<(), Fail> {
+    for row in UNFILED {
+        assert_unfiled(&rt, rt.alloc(), row)?;
+    }
+    Ok(())
+}
+
+// How many desks there are, which of them can't be read, a file, the calls of the sink that fail, and the status and the text.
+type Unfiled = (u32, u32, &'static [u8], &'static [u64], u8, &'static str);
+
+const UNFILED: [Unfiled; 7] = [
+    (0, 0, BOTH, &[], 2, "fault usage\n"),
+    (17, 0, BOTH, &[], 2, "fault usage\n"),
+    (3, 2, BOTH, &[], 3, "fault read\n"),
+    (1, 0, b"ten bytes.", &[], 6, "fault no office\n"),
+    (1, 0, b"eighteen letters..", &[], 6, "fault not a journal\n"),
+    (16, 0, BOTH, &[1], 4, ""),
+    (3, 2, BOTH, &[1], 4, ""),
+];
+
+fn assert_unfiled<H: Threads + Wait + Abort + Sync>(
+    rt: &H,
+    alloc: Global,
+    row: Unfiled,
+) -> Result<(), Fail> {
+    let (count, unread, image, failing, want, text) = row;
+    let mut desks = Vec::new(alloc);
+    for number in 1..=count {
+        let mut calls = Vec::new(alloc);
+        if number == unread {
+            calls.push(1)?;
+        }
+        let input = MemorySource::new(b"prior,0,2,5001,550000\n".to_vec(alloc)?, calls);
+        desks.push(DeskInput { input })?;
+    }
+    let mut sink = MemorySink::new(alloc, failing.to_vec(alloc)?);
+    let disk = disk(alloc, image, &[], None)?;
+    let (status, after) = run_desks(rt, alloc, &mut desks, disk, &FreeGate, &mut sink);
+    assert_eq!(rt; status, want, "{count} desks");
+    assert_eq!(rt; sink.text(), text.as_bytes(), "{count} desks");
+    assert_eq!(rt; after.image(), image, "{count} desks");
     Ok(())
 }

@@ -1,8 +1,10 @@
-//! The specimen book: a whole year book with figures of the office's own, for tests of the crates above.
+//! The specimen book: a whole year book with figures of the office's own, its text, and
+//! a year that is worked on it, for tests of the crates above.
 #![tactic(auto)]
 
 mod figures;
 mod tables;
+mod text;
 
 ghost use Rattle.std.specs.Prelude.{◌≡◌};
 ghost use Rattle.specimen.specs.Specimen.{IsSpecimenBook};
@@ -13,6 +15,7 @@ use crate::figures::{
 use crate::tables::{ages, brackets, business};
 use aid_books::Book;
 use aid_types::Year;
+pub use text::{BOOK_TEXT, YEAR_LINES, YEAR_ROWS};
 
 /// The specimen book of award year 2025-26. Its figures are own, even where one looks published.
 #[tactic(auto, unfolding(crate::specs::Specimen::IsSpecimenBook))]

@@ -1,0 +1,5 @@
+pub mod Rising
+pub mod RisingLaws
+pub mod OwnLaws
+pub mod Counts
+pub mod Desks

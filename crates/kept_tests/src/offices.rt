@@ -1,0 +1,193 @@
+// Offices whose disk stops or fails in the middle of a turn, what they answer then, and that room is kept for a turn.
+use aid_filings::{Ask, Filing, Outcome, PriorFacts, Reply, SchoolFacts, What};
+use aid_types::{Key, School, Student};
+use disk_model::{Disk, DiskStop, Fill, MemoryDisk};
+use filing_codec::{TakeError, take};
+use kept_office::{FoundFault, KeptOffice, OpenError};
+use std::alloc::Global;
+use std::process::Abort;
+use std::test::Fail;
+
+// The file of the two worked filings.
+const BOTH: [u8; 71] =
+    *b"\x01AIDPELL1\x01\0\0\0\0\0\0\x01\x13\0\0\0\x02\0\0\0\0\x01\0\0\0\0\0\0\0\x6e\0\0\0\x02\x0c\x01\x19\0\0\0\x04\0\0\0\0\x02\0\0\0\0\0\0\0\x89\x13\0\0\0\0\0\0\x70\x64\x08\0\0";
+
+// What the office's desk files: the school 110, or the units that a student used before this office.
+#[derive(Clone, Copy)]
+enum Filed {
+    School,
+    Prior(u16, u32),
+}
+
+const SCHOOL: (u32, Filed) = (1, Filed::School);
+
+const THIRD: (u32, Filed) = (3, Filed::Prior(5002, 1));
+
+// The ask to file a row under its number.
+fn ask(rt: &impl Abort, row: (u32, Filed)) -> Ask {
+    let (number, filed) = row;
+    assert!(rt; number > 0);
+    Ask::File(Filing {
+        key: Key {
+            school: School(0),
+            number: u64::from(number),
+        },
+        what: what(rt, filed),
+    })
+}
+
+fn what(rt: &impl Abort, filed: Filed) -> What {
+    match filed {
+        Filed::School => What::School(SchoolFacts {
+            code: 110,
+            terms: 2,
+            full: 12,
+        }),
+        Filed::Prior(student, units) => What::Prior(PriorFacts {
+            student: known(rt, student),
+            units,
+        }),
+    }
+}
+
+fn known(rt: &impl Abort, student: u16) -> Student {
+    assert!(rt; student > 0);
+    Student(u64::from(student))
+}
+
+fn disk(
+    alloc: Global,
+    bytes: &[u8],
+    failing: &[u64],
+    stop: Option<DiskStop>,
+) -> Result<MemoryDisk, Fail> {
+    Ok(MemoryDisk::new(alloc, bytes.to_vec(alloc)?, failing.to_vec(alloc)?, stop)?)
+}
+
+fn founded<D: Disk + Drop>(alloc: Global, disk: D) -> Result<KeptOffice<D>, FoundFault> {
+    match KeptOffice::found(alloc, disk) {
+        Ok(kept) => Ok(kept),
+        Err((fault, _disk)) => Err(fault),
+    }
+}
+
+fn opened<D: Disk + Drop>(alloc: Global, disk: D) -> Result<KeptOffice<D>, OpenError> {
+    match KeptOffice::recover(alloc, disk) {
+        Ok(kept) => Ok(kept),
+        Err((error, _disk)) => Err(error),
+    }
+}
+
+// Opens an office of so many filings, and files two rows, which are answered so.
+fn open_and_file<D: Disk + Drop>(
+    rt: &impl Abort,
+    alloc: Global,
+    disk: D,
+    front: u32,
+    rows: [(u32, Filed); 2],
+    replies: [Reply; 2],
+) -> Result<D, OpenError> {
+    let mut kept = opened(alloc, disk)?;
+    assert_eq!(rt; kept.office().front(), front);
+    let first = kept.turn(ask(rt, rows[0]));
+    let second = kept.turn(ask(rt, rows[1]));
+    assert_eq!(rt; [first, second], replies);
+    Ok(kept.into_disk())
+}
+
+const FIRST: Reply = Reply::Accepted {
+    position: 1,
+    front: 0,
+    outcome: Outcome::Noted,
+};
+
+const THIRD_ACCEPTED: Reply = Reply::Accepted {
+    position: 3,
+    front: 2,
+    outcome: Outcome::Noted,
+};
+
+const THIRD_AGAIN: Reply = Reply::Again {
+    position: 3,
+    front: 3,
+    outcome: Outcome::Noted,
+};
+
+const UNDECIDED: Reply = Reply::DiskFault { undecided: Some(3) };
+
+#[test]
+fn stops_in_the_gate_write(rt: HostRuntime) -> Result<(), Fail> {
+    assert_stop(&rt, rt.alloc(), 0, 2, THIRD_ACCEPTED)?;
+    assert_stop(&rt, rt.alloc(), 1, 3, THIRD_AGAIN)?;
+    assert_stop(&rt, rt.alloc(), 7, 2, THIRD_ACCEPTED)?;
+    let failing = disk(rt.alloc(), &BOTH, &[8], None)?;
+    open_and_file(
+        &rt,
+        rt.alloc(),
+        failing,
+        2,
+        [THIRD, THIRD],
+        [UNDECIDED, THIRD_AGAIN],
+    )?;
+    Ok(())
+}
+
+// A stop in the write of the third gate, which leaves that byte, and what an office then has and answers.
+fn assert_stop(
+    rt: &impl Abort,
+    alloc: Global,
+    left: u8,
+    front: u32,
+    reply: Reply,
+) -> Result<(), Fail> {
+    let stop = Some(DiskStop {
+        call: 7,
+        fill: Fill::With(left),
+    });
+    let stopping = disk(alloc, &BOTH, &[], stop)?;
+    let stopped = open_and_file(
+        rt,
+        alloc,
+        stopping,
+        2,
+        [THIRD, THIRD],
+        [UNDECIDED, UNDECIDED],
+    )?;
+    let after = disk(alloc, stopped.image(), &[], None)?;
+    open_and_file(
+        rt,
+        alloc,
+        after,
+        front,
+        [THIRD, THIRD],
+        [reply, THIRD_AGAIN],
+    )?;
+    Ok(())
+}
+
+#[test]
+fn reserves(rt: HostRuntime) -> Result<(), Fail> {
+    let mut kept = founded(rt.alloc(), disk(rt.alloc(), b"", &[], None)?)?;
+    kept.reserve(2)?;
+    assert_eq!(rt; kept.turn(ask(&rt, SCHOOL)), FIRST);
+    assert_eq!(rt; kept.into_disk().image().len(), 41);
+    Ok(())
+}
+
+#[test]
+fn settles_at_last(rt: HostRuntime) -> Result<(), Fail> {
+    // The sync behind the gate fails, and then the write of the gate when it is settled.
+    let failing = disk(rt.alloc(), &BOTH, &[8, 9], None)?;
+    let mut kept = opened(rt.alloc(), failing)?;
+    assert_eq!(rt; kept.turn(ask(&rt, THIRD)), UNDECIDED);
+    assert_eq!(rt; kept.turn(ask(&rt, THIRD)), UNDECIDED);
+    assert_eq!(rt; kept.turn(ask(&rt, THIRD)), THIRD_AGAIN);
+    Ok(())
+}
+
+// A payload without its last byte is none: its last field begins at byte 21.
+#[test]
+fn a_short_payload(rt: HostRuntime) {
+    let error = take(rt.alloc(), &BOTH[45..69]).err();
+    assert_eq!(rt; error, Some(TakeError::NotFiling(21)));
+}

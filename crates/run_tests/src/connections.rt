@@ -1,0 +1,585 @@
+// Sessions over one connection: what is written over any cutting of its bytes, what a fault leaves, that each answer is written
+// before more is read, and a session over a socket.
+ghost use Rattle.std.specs.Prelude.{◌≡◌, ◌≤◌, None, IfSome};
+ghost use Rattle.aid_edges.specs.Faults.{Rose};
+
+use crate::runs::{EMPTY, assert_runs, disk};
+use aid_edges::Failed;
+use disk_model::MemoryDisk;
+use kept_desks::SharedList;
+use kept_list::{KeptList, RowName};
+use kept_office::FiledOffice;
+use kept_web::serve_desk;
+use office_lock::Turns;
+use run_web::OfficeTexts;
+use std::alloc::Global;
+use std::io;
+use std::io::{Read, Write};
+use std::net::{Ipv4Addr, Shutdown, TcpListener, TcpStream};
+use std::process::Abort;
+use std::sync::Wait;
+use std::test::Fail;
+use std::thread::join;
+use web_desk::End;
+use web_edges::{Link, MemoryLink, SocketEdge};
+
+// A request that files a student's earlier use, and its answers where one filing stands and where it stands itself.
+pub(crate) const FILING: &str = "\
+POST /desks/0/filings HTTP/1.1\r\n\
+Host: localhost\r\n\
+Content-Length: 57\r\n\
+\r\n\
+{\"kind\":\"prior\",\"number\":2,\"student\":5001,\"units\":550000}";
+
+pub(crate) const CREATED: &str = "\
+HTTP/1.1 201 Created\r\n\
+Content-Length: 62\r\n\
+Content-Type: application/json\r\n\
+\r\n\
+{\"answer\":\"accepted\",\"front\":1,\"outcome\":\"noted\",\"position\":2}";
+
+pub(crate) const AGAIN: &str = "\
+HTTP/1.1 200 OK\r\n\
+Content-Length: 59\r\n\
+Content-Type: application/json\r\n\
+\r\n\
+{\"answer\":\"again\",\"front\":2,\"outcome\":\"noted\",\"position\":2}";
+
+// The list of the office in a file.
+fn opened(alloc: Global, disk: MemoryDisk) -> Option<KeptList<MemoryDisk, FiledOffice>>
+    ensures { IfSome result (λ kept. kept.pending ≡ None) }
+{
+    match KeptList::<MemoryDisk, FiledOffice>::recover(alloc, disk) {
+        Ok(kept) => Some(kept),
+        Err(_) => None,
+    }
+}
+
+// How a session over a connection ends, for the office in a file, if it is opened.
+fn serve<L: Link, H: Wait>(rt: &H, alloc: Global, disk: MemoryDisk, link: &mut L) -> Option<End> {
+    let kept = opened(alloc, disk)?;
+    let Ok((turns, pass)) = Turns::new(alloc, SharedList::new(alloc, kept), 1) else {
+        return None;
+    };
+    let by = RowName { desk: 1, row: 1 };
+    let (pass, end) = serve_desk::<MemoryDisk, FiledOffice, OfficeTexts, L, H>(
+        rt, alloc, &turns, pass, by, link,
+    );
+    turns.close(pass);
+    Some(end)
+}
+
+// Whatever the pieces are in which its bytes come, a connection's session ends so and writes this.
+pub(crate) fn assert_session(
+    rt: &(impl Abort + Wait),
+    alloc: Global,
+    image: &[u8],
+    bytes: &[u8],
+    end: End,
+    text: &[u8],
+) -> Result<(), Fail> {
+    for piece in [1, 7, 1_000_000] {
+        assert!(rt; piece > 0);
+        let none = Vec::new(alloc);
+        let mut link = MemoryLink::new(alloc, bytes.to_vec(alloc)?, piece, none, Vec::new(alloc));
+        let ended = serve(rt, alloc, disk(alloc, image, &[], None)?, &mut link);
+        assert_eq!(rt; link.text(), text);
+        assert_eq!(rt; ended, Some(end));
+    }
+    Ok(())
+}
+
+// One text behind the other.
+fn joined(alloc: Global, one: &str, other: &str) -> Result<Vec<u8>, Fail> {
+    let mut bytes = one.as_bytes().to_vec(alloc)?;
+    bytes.extend_from_slice(other.as_bytes())?;
+    Ok(bytes)
+}
+
+// The file of an office in which one school stands.
+fn with_school(rt: &impl Abort, alloc: Global) -> Result<MemoryDisk, Fail> {
+    let row = ("file", "school,0,1,110,2,12\n", 0, "1 0 accepted 1 noted\n");
+    assert_runs(rt, alloc, EMPTY, &[row])
+}
+
+#[test]
+fn requests_are_answered(rt: HostRuntime) -> Result<(), Fail> {
+    let alloc = rt.alloc();
+    let school = with_school(&rt, alloc)?;
+    for (bytes, end, text) in REQUESTS {
+        assert_session(
+            &rt,
+            alloc,
+            school.image(),
+            bytes.as_bytes(),
+            end,
+            text.as_bytes(),
+        )?;
+    }
+    // A filing twice on one connection.
+    let twice = joined(alloc, FILING, FILING)?;
+    let answers = joined(alloc, CREATED, AGAIN)?;
+    assert_session(&rt, alloc, school.image(), &twice, End::Closed, &answers)?;
+    // The longest body, which is no filing.
+    let head = b"POST /desks/0/filings HTTP/1.1\r\nContent-Length: 65536\r\n\r\n";
+    let mut longest = head.to_vec(alloc)?;
+    longest.resize(head.len() + 65_536, b' ')?;
+    let text = NO_FILING.as_bytes();
+    assert_session(&rt, alloc, school.image(), &longest, End::Closed, text)
+}
+
+const NO_FILING: &str = "\
+HTTP/1.1 400 Bad Request\r\n\
+Content-Length: 13\r\n\
+Content-Type: application/json\r\n\
+\r\n\
+{\"error\":400}";
+
+// A connection's bytes, how its session ends, and what is written.
+const REQUESTS: [(&str, End, &str); 15] = [
+    ("", End::Closed, ""),
+    ("\r\n\n\r", End::Closed, ""),
+    (
+        "GET / HTTP/1.1\r\na b: 1\r\n\r\n",
+        End::Rejected,
+        "\
+HTTP/1.1 400 Bad Request\r\n\
+Content-Length: 13\r\n\
+Content-Type: application/json\r\n\
+Connection: close\r\n\
+\r\n\
+{\"error\":400}",
+    ),
+    ("GET / HTTP/1.1\r\na b: 1\r\n", End::Cut, ""),
+    (
+        "POST /desks/0/filings HTTP/1.1\r\nContent-Length: 2\r\n\r\n{",
+        End::Cut,
+        "",
+    ),
+    (
+        "GET /desks/1000000/quote/1/2025/1 HTTP/1.1\r\n\r\n",
+        End::Closed,
+        "\
+HTTP/1.1 404 Not Found\r\n\
+Content-Length: 13\r\n\
+Content-Type: application/json\r\n\
+\r\n\
+{\"error\":404}",
+    ),
+    (
+        "DELETE /standing/1/2025 HTTP/1.1\r\n\r\n",
+        End::Closed,
+        "\
+HTTP/1.1 405 Method Not Allowed\r\n\
+Content-Length: 13\r\n\
+Content-Type: application/json\r\n\
+\r\n\
+{\"error\":405}",
+    ),
+    (
+        "GET /standing/1/2025 HTTP/1.1\n\n",
+        End::Closed,
+        "\
+HTTP/1.1 200 OK\r\n\
+Content-Length: 117\r\n\
+Content-Type: application/json\r\n\
+\r\n\
+{\"answer\":\"standing\",\"formula\":\"A\",\"front\":1,\"paid\":0,\"sai\":0,\"scheduled\":0,\"transaction\":0,\"used\":0,\"way\":\"nothing\"}",
+    ),
+    (
+        "POST /desks/0/filings HTTP/1.1\r\nContent-Length: 2\r\n\r\n[]",
+        End::Closed,
+        "\
+HTTP/1.1 400 Bad Request\r\n\
+Content-Length: 13\r\n\
+Content-Type: application/json\r\n\
+\r\n\
+{\"error\":400}",
+    ),
+    (
+        "\
+POST /desks/0/filings HTTP/1.1\r\n\
+Content-Length: 409\r\n\
+\r\n\
+{\"kind\":[[[[[[[[[[[[[[[[[[[[[[[[[[[[[[[[[[[[[[[[[[[[[[[[[[[[[[[[[[[[[[[[[[[[[[[[[[[[[[[[[[[[[[[[[[[[[[[[[[[[[[[[[[[[[[[[[[[[[[[[[[[[[[[[[[[[[[[[[[[[[[[[[[[[[[[[[[[[[[[[[[[[[[[[[[[[[[[[[[[[[[[[[[[[[[[[[[[[[[[[]]]]]]]]]]]]]]]]]]]]]]]]]]]]]]]]]]]]]]]]]]]]]]]]]]]]]]]]]]]]]]]]]]]]]]]]]]]]]]]]]]]]]]]]]]]]]]]]]]]]]]]]]]]]]]]]]]]]]]]]]]]]]]]]]]]]]]]]]]]]]]]]]]]]]]]]]]]]]]]]]]]]]]]]]]]]]]]]]]]]]]]]]]]]]]]]]]]]]]]]}",
+        End::Closed,
+        "\
+HTTP/1.1 400 Bad Request\r\n\
+Content-Length: 13\r\n\
+Content-Type: application/json\r\n\
+\r\n\
+{\"error\":400}",
+    ),
+    (
+        "\
+POST /desks/0/filings HTTP/1.1\r\n\
+Content-Length: 66\r\n\
+\r\n\
+{\"kind\":\"prior\",\"number\":2,\"student\":5001,\"units\":550000,\"note\":1}",
+        End::Closed,
+        "\
+HTTP/1.1 400 Bad Request\r\n\
+Content-Length: 13\r\n\
+Content-Type: application/json\r\n\
+\r\n\
+{\"error\":400}",
+    ),
+    (
+        "\
+POST /desks/0/filings HTTP/1.1\r\n\
+Content-Length: 69\r\n\
+\r\n\
+{\"kind\":\"prior\",\"number\":2,\"student\":5001,\"units\":\"x\",\"units\":550000}",
+        End::Closed,
+        "\
+HTTP/1.1 201 Created\r\n\
+Content-Length: 62\r\n\
+Content-Type: application/json\r\n\
+\r\n\
+{\"answer\":\"accepted\",\"front\":1,\"outcome\":\"noted\",\"position\":2}",
+    ),
+    (
+        "\
+POST /desks/0/filings HTTP/1.1\r\n\
+Content-Length: 59\r\n\
+\r\n\
+{\"kind\":\"school\",\"number\":2,\"code\":110,\"full\":24,\"terms\":3}",
+        End::Closed,
+        "\
+HTTP/1.1 422 Unprocessable Entity\r\n\
+Content-Length: 61\r\n\
+Content-Type: application/json\r\n\
+\r\n\
+{\"answer\":\"refused\",\"bound\":110,\"front\":1,\"kept\":1,\"rule\":13}",
+    ),
+    (
+        "GET / HTTP/1.0\r\n\r\nGET / HTTP/1.1\r\n\r\n",
+        End::Closed,
+        "\
+HTTP/1.1 404 Not Found\r\n\
+Content-Length: 13\r\n\
+Content-Type: application/json\r\n\
+Connection: close\r\n\
+\r\n\
+{\"error\":404}",
+    ),
+    (
+        "GET / HTTP/1.1\r\nCONNECTION: Close\r\n\r\nGET / HTTP/1.1\r\n\r\n",
+        End::Closed,
+        "\
+HTTP/1.1 404 Not Found\r\n\
+Content-Length: 13\r\n\
+Content-Type: application/json\r\n\
+Connection: close\r\n\
+\r\n\
+{\"error\":404}",
+    ),
+];
+
+// The calls that fail, of the disk and of a connection's reads and writes, how the session over two filings ends, and what is
+// written. The disk is opened by four calls, one makes the file longer, the record is written and synced by two more, and its gate
+// by another two.
+const FAULTS: [(&[u64], &[u64], &[u64], End, &str); 5] = [
+    (&[6], &[], &[], End::Closed, NONE_UNDECIDED),
+    (&[8], &[], &[], End::Closed, ONE_UNDECIDED),
+    (&[], &[1], &[], End::LinkFault, ""),
+    (&[], &[], &[1], End::LinkFault, ""),
+    (&[], &[], &[2], End::LinkFault, HALF),
+];
+
+const NONE_UNDECIDED: &str = "\
+HTTP/1.1 503 Service Unavailable\r\n\
+Content-Length: 40\r\n\
+Content-Type: application/json\r\n\
+\r\n\
+{\"answer\":\"disk fault\",\"undecided\":null}\
+HTTP/1.1 201 Created\r\n\
+Content-Length: 62\r\n\
+Content-Type: application/json\r\n\
+\r\n\
+{\"answer\":\"accepted\",\"front\":1,\"outcome\":\"noted\",\"position\":2}";
+
+// The next turn settles the filing.
+const ONE_UNDECIDED: &str = "\
+HTTP/1.1 503 Service Unavailable\r\n\
+Content-Length: 37\r\n\
+Content-Type: application/json\r\n\
+\r\n\
+{\"answer\":\"disk fault\",\"undecided\":2}\
+HTTP/1.1 200 OK\r\n\
+Content-Length: 59\r\n\
+Content-Type: application/json\r\n\
+\r\n\
+{\"answer\":\"again\",\"front\":2,\"outcome\":\"noted\",\"position\":2}";
+
+// The first 50 bytes of an answer.
+const HALF: &str = "HTTP/1.1 201 Created\r\nContent-Length: 62\r\nContent-";
+
+#[test]
+fn faults_on_a_connection(rt: HostRuntime) -> Result<(), Fail> {
+    let alloc = rt.alloc();
+    let school = with_school(&rt, alloc)?;
+    for (calls, reads, writes, end, text) in FAULTS {
+        let disk = disk(alloc, school.image(), calls, None)?;
+        let bytes = joined(alloc, FILING, FILING)?;
+        let mut link = MemoryLink::new(
+            alloc,
+            bytes,
+            50,
+            reads.to_vec(alloc)?,
+            writes.to_vec(alloc)?,
+        );
+        let ended = serve(&rt, alloc, disk, &mut link);
+        assert_eq!(rt; link.text(), text.as_bytes());
+        assert_eq!(rt; ended, Some(end));
+    }
+    Ok(())
+}
+
+// What a peer sends, and what it has read before.
+type Part<'a> = (&'a [u8], &'a [u8]);
+
+// A peer in memory that sends the next bytes once it has read what is due before them, and leaves its side open. A read that would
+// wait for it for good fails.
+#[derive(Drop)]
+struct Peer<'a> {
+    rest: &'a [u8],
+    later: &'a [Part<'a>],
+    text: Vec<u8>,
+    faults: u64,
+}
+
+impl<'a> Peer<'a> {
+    // Sends what is due next, if anything is.
+    fn send(&mut self)
+        ensures { self.new.faults ≡ self.old.faults }
+    {
+        if let [(bytes, due), later @ ..] = self.later {
+            if self.text.as_slice() == *due {
+                self.rest = bytes;
+                self.later = later;
+            }
+        }
+    }
+
+    // One fault more.
+    fn fail(&mut self) -> Failed
+        ensures later { self.old.faults ≤ self.new.faults }
+        ensures cause { Rose self.old.faults self.new.faults }
+    {
+        self.faults = self.faults.saturating_add(1);
+        Failed
+    }
+}
+
+impl<'a> Link for Peer<'a> {
+    ghost use Rattle.std.specs.Prelude.{[], false};
+
+    ghost tells = { λ _. record { honest = false; left = []; text = [] } };
+
+    ghost faults = { λ p. p.faults };
+
+    fn read(&mut self, buffer: &mut [u8]) -> Result<usize, Failed> {
+        if self.rest.is_empty() {
+            self.send();
+        }
+        if self.rest.is_empty() {
+            return Err(self.fail());
+        }
+        let n = self.rest.len().min(buffer.len());
+        let (front, rest) = self.rest.split_at(n);
+        buffer[..n].copy_from_slice(front);
+        self.rest = rest;
+        Ok(n)
+    }
+
+    fn write(&mut self, bytes: &[u8]) -> Result<usize, Failed> {
+        match self.text.extend_from_slice(bytes) {
+            Ok(()) => Ok(bytes.len()),
+            Err(_) => Err(self.fail()),
+        }
+    }
+}
+
+// A session with a peer that sends these parts ends so, and has written this.
+fn assert_answered(
+    rt: &(impl Abort + Wait),
+    alloc: Global,
+    image: &[u8],
+    parts: &[Part],
+    end: End,
+    text: &[u8],
+) -> Result<(), Fail> {
+    let mut peer = Peer {
+        rest: &[],
+        later: parts,
+        text: Vec::new(alloc),
+        faults: 0,
+    };
+    let ended = serve(rt, alloc, disk(alloc, image, &[], None)?, &mut peer);
+    assert_eq!(rt; peer.text.as_slice(), text);
+    assert_eq!(rt; ended, Some(end));
+    assert_eq!(rt; peer.faults, 0);
+    Ok(())
+}
+
+#[test]
+fn answers_come_before_the_next_read(rt: HostRuntime) -> Result<(), Fail> {
+    let alloc = rt.alloc();
+    let school = with_school(&rt, alloc)?;
+    let parts = [
+        (FILING.as_bytes(), b"".as_slice()),
+        (LAST_FRONT.as_bytes(), CREATED.as_bytes()),
+        (LAST_REST.as_bytes(), CREATED.as_bytes()),
+    ];
+    assert_answered(
+        &rt,
+        alloc,
+        school.image(),
+        &parts,
+        End::Closed,
+        BOTH_ANSWERS.as_bytes(),
+    )?;
+    let mut long = b"GET / HTTP/1.1\r\na: ".to_vec(alloc)?;
+    long.resize(16_384, b'v')?;
+    let parts = [(long.as_slice(), b"".as_slice())];
+    let text = rejection(alloc, "431 Request Header Fields Too Large")?;
+    assert_answered(
+        &rt,
+        alloc,
+        school.image(),
+        &parts,
+        End::Rejected,
+        text.as_bytes(),
+    )?;
+    for (head, line) in REJECTED {
+        let parts = [(head.as_bytes(), b"".as_slice())];
+        let text = rejection(alloc, line)?;
+        assert_answered(
+            &rt,
+            alloc,
+            school.image(),
+            &parts,
+            End::Rejected,
+            text.as_bytes(),
+        )?;
+    }
+    Ok(())
+}
+
+// The filing again, as the last request of its connection, cut in its head.
+const LAST_FRONT: &str = "POST /desks/0/filings HTTP/1.1\r\nConnec";
+
+const LAST_REST: &str = "\
+tion: close\r\n\
+Content-Length: 57\r\n\
+\r\n\
+{\"kind\":\"prior\",\"number\":2,\"student\":5001,\"units\":550000}";
+
+// The answers to both.
+const BOTH_ANSWERS: &str = "\
+HTTP/1.1 201 Created\r\n\
+Content-Length: 62\r\n\
+Content-Type: application/json\r\n\
+\r\n\
+{\"answer\":\"accepted\",\"front\":1,\"outcome\":\"noted\",\"position\":2}HTTP/1.1 200 OK\r\n\
+Content-Length: 59\r\n\
+Content-Type: application/json\r\n\
+Connection: close\r\n\
+\r\n\
+{\"answer\":\"again\",\"front\":2,\"outcome\":\"noted\",\"position\":2}";
+
+// A head that is rejected, and the status and phrase of the answer.
+const REJECTED: [(&str, &str); 11] = [
+    ("GET / HTTP/1.1\r\na b: 1\r\n\r\n", "400 Bad Request"),
+    ("GET /\r\n\r\n", "400 Bad Request"),
+    ("GET / HTTP/2.0\r\n\r\n", "400 Bad Request"),
+    (
+        "POST /desks/0/filings HTTP/1.1\r\nContent-Length: 1\r\nContent-Length: 1\r\n\r\n",
+        "400 Bad Request",
+    ),
+    (
+        "POST /desks/0/filings HTTP/1.1\r\nContent-Length: +1\r\n\r\n",
+        "400 Bad Request",
+    ),
+    (
+        "POST /desks/0/filings HTTP/1.1\r\nTransfer-Encoding: chunked\r\n\r\n",
+        "501 Not Implemented",
+    ),
+    (
+        "GET / HTTP/1.1\r\nContent-Encoding: gzip\r\n\r\n",
+        "501 Not Implemented",
+    ),
+    (
+        "POST /desks/0/filings HTTP/1.1\r\nExpect: 100-continue\r\nContent-Length: 65537\r\n\r\n",
+        "501 Not Implemented",
+    ),
+    (
+        "POST /desks/0/filings HTTP/1.1\r\nContent-Length: 65537\r\n\r\n",
+        "413 Payload Too Large",
+    ),
+    (
+        "GET / HTTP/1.1\r\nContent-Length: 99999999999999999999999\r\n\r\n",
+        "413 Payload Too Large",
+    ),
+    (
+        "POST /desks/0/filings HTTP/1.1\r\n\r\n",
+        "411 Length Required",
+    ),
+];
+
+// The answer to a rejected head, by its status and phrase.
+fn rejection(alloc: Global, line: &str) -> Result<String, Fail> {
+    let (status, _) = line.split_once(' ').unwrap_or((line, ""));
+    Ok(format!(in alloc;
+        "HTTP/1.1 {line}\r\nContent-Length: 13\r\nContent-Type: application/json\r\nConnection: close\r\n\r\n{{\"error\":{status}}}"
+    )?)
+}
+
+// The peer files, reads the answer, files again, reads that answer, and shuts its side.
+fn file_twice(mut peer: TcpStream) -> io::Result<bool> {
+    let mut created = [0; 138];
+    peer.write_all(FILING.as_bytes())?;
+    peer.read_exact(&mut created)?;
+    let mut again = [0; 130];
+    peer.write_all(FILING.as_bytes())?;
+    peer.read_exact(&mut again)?;
+    peer.shutdown(Shutdown::Write)?;
+    let more = peer.read(&mut [0; 1])?;
+    Ok(
+        created.as_slice() == CREATED.as_bytes()
+            && again.as_slice() == AGAIN.as_bytes()
+            && more == 0,
+    )
+}
+
+// The session over a socket, which is closed then.
+fn serve_socket<H: Wait>(
+    rt: &H,
+    alloc: Global,
+    disk: MemoryDisk,
+    stream: TcpStream,
+) -> Option<End> {
+    let mut link = SocketEdge::new(stream);
+    let ended = serve(rt, alloc, disk, &mut link);
+    link.close();
+    ended
+}
+
+#[test]
+fn a_filing_twice_over_a_socket(rt: HostRuntime) -> Result<(), Fail> {
+    let alloc = rt.alloc();
+    let school = with_school(&rt, alloc)?;
+    let listener = TcpListener::bind(&rt, (Ipv4Addr::LOCALHOST, 0))?;
+    let peer = TcpStream::connect(&rt, listener.local_addr()?)?;
+    let (stream, _) = listener.accept()?;
+    let host = &rt;
+    let (ended, read) = join(
+        host,
+        move || -> Option<End> { serve_socket(host, alloc, school, stream) },
+        move || -> io::Result<bool> { file_twice(peer) },
+    );
+    assert_eq!(rt; ended, Some(End::Closed));
+    assert!(rt; read?);
+    Ok(())
+}

@@ -1,0 +1,77 @@
+// A file in memory that tells nothing of itself and keeps no record of its calls, so that a long run takes no long time.
+ghost use Rattle.std.specs.Prelude.{◌≡◌, ◌≤◌};
+ghost use Rattle.disk_model.specs.Faults.{Rose};
+
+use disk_model::{Disk, Failed};
+
+#[derive(Drop)]
+pub(crate) struct PlainFile {
+    bytes: Vec<u8>,
+    faults: u64,
+}
+
+impl PlainFile {
+    // A file with these bytes.
+    pub(crate) fn new(bytes: Vec<u8>) -> Self {
+        PlainFile { bytes, faults: 0 }
+    }
+
+    fn fault(&mut self) -> Failed
+        ensures rose { Rose self.old.faults self.new.faults }
+        ensures later { self.old.faults ≤ self.new.faults }
+    {
+        self.faults = self.faults.saturating_add(1);
+        Failed
+    }
+}
+
+impl Disk for PlainFile {
+    ghost use Rattle.disk_model.specs.Silent.{silent};
+    ghost use Rattle.disk_model.specs.Laws.{not_honest};
+
+    ghost tells = { λ _. silent };
+
+    ghost faults = { λ f. f.faults };
+
+    fn len(&mut self) -> Result<u64, Failed> {
+        Ok(self.bytes.len() as u64)
+    }
+
+    fn read_at(&mut self, at: u64, buf: &mut [u8]) -> Result<usize, Failed> {
+        let Some(rest) = self.bytes.get(at as usize..) else {
+            return Ok(0);
+        };
+        let n = rest.len().min(buf.len());
+        buf[..n].copy_from_slice(&rest[..n]);
+        Ok(n)
+    }
+
+    fn write_at(&mut self, at: u64, bytes: &[u8]) -> Result<(), Failed> {
+        let Some(rest) = self.bytes.get_mut(at as usize..) else {
+            return Err(self.fault());
+        };
+        let n = rest.len().min(bytes.len());
+        rest[..n].copy_from_slice(&bytes[..n]);
+        match self.bytes.extend_from_slice(&bytes[n..]) {
+            Ok(()) => Ok(()),
+            Err(_) => Err(self.fault()),
+        }
+    }
+
+    fn cut(&mut self, len: u64) -> Result<(), Failed> {
+        self.bytes.truncate(len as usize);
+        Ok(())
+    }
+
+    fn sync(&mut self) -> Result<(), Failed> {
+        Ok(())
+    }
+
+    ghost reads_as_image = { λ d honest. not_honest honest };
+
+    ghost bounded = { λ d honest. not_honest honest };
+
+    ghost counts_now = { λ d t c honest le now. not_honest honest };
+
+    ghost only_now = { λ d c honest since. not_honest honest };
+}

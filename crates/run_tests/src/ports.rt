@@ -1,0 +1,192 @@
+// What the web desk writes on connections in memory: a worked row, a port that fails, and two ports in either order.
+ghost use Rattle.std.specs.Prelude.{◌≡◌, ◌<◌, IfOk};
+ghost use Rattle.web_edges.specs.Ports.{IsUnused};
+
+use crate::connections::{AGAIN, CREATED, FILING};
+use crate::runs::{EMPTY, assert_runs, disk};
+use aid_edges::{HoldGate, MemorySink};
+use disk_model::MemoryDisk;
+use kept_web::WebDesk;
+use run_web::{OfficeWebDesk, run_web};
+use std::alloc::Global;
+use std::process::Abort;
+use std::sync::Wait;
+use std::test::Fail;
+use std::thread::Threads;
+use web_edges::{GatedPort, MemoryLink, MemoryPort, Port};
+
+// The filing of a student's earlier use under another number.
+const OTHER: &[u8] =
+    b"POST /desks/0/filings HTTP/1.1\r\nHost: localhost\r\nContent-Length: 57\r\n\r\n{\"kind\":\"prior\",\"number\":3,\"student\":5001,\"units\":550000}";
+
+// What is written where the first of two filings of a student's earlier use comes, and where the second does.
+const FIRST: &[u8] =
+    b"HTTP/1.1 201 Created\r\nContent-Length: 62\r\nContent-Type: application/json\r\n\r\n{\"answer\":\"accepted\",\"front\":0,\"outcome\":\"noted\",\"position\":1}";
+
+const SECOND: &[u8] =
+    b"HTTP/1.1 422 Unprocessable Entity\r\nContent-Length: 62\r\nContent-Type: application/json\r\n\r\n{\"answer\":\"refused\",\"bound\":5001,\"front\":1,\"kept\":1,\"rule\":80}";
+
+// A connection that brings these bytes, at most so many a read.
+fn link(alloc: Global, bytes: &[u8], piece: usize) -> Result<MemoryLink, Fail>
+    requires { 0 < piece }
+    ensures { IfOk result (λ link. IsUnused link) }
+{
+    Ok(MemoryLink::new(
+        alloc,
+        bytes.to_vec(alloc)?,
+        piece,
+        Vec::new(alloc),
+        Vec::new(alloc),
+    ))
+}
+
+// A port of one connection.
+fn port_of_one(alloc: Global, bytes: &[u8]) -> Result<MemoryPort, Fail> {
+    let link = link(alloc, bytes, 100_000)?;
+    let mut links = Vec::new(alloc);
+    links.push(link)?;
+    Ok(MemoryPort::new(alloc, links, Vec::new(alloc))?)
+}
+
+// A port of two connections that bring the same.
+fn port_of_two(
+    alloc: Global,
+    bytes: &[u8],
+    piece: usize,
+    failing: &[u64],
+) -> Result<MemoryPort, Fail>
+    requires { 0 < piece }
+{
+    let one = link(alloc, bytes, piece)?;
+    let other = link(alloc, bytes, piece)?;
+    let mut links = Vec::new(alloc);
+    links.push(one)?;
+    links.push(other)?;
+    Ok(MemoryPort::new(alloc, links, failing.to_vec(alloc)?)?)
+}
+
+// A founded file.
+fn founded(alloc: Global) -> Result<MemoryDisk, Fail> {
+    disk(alloc, EMPTY, &[], None)
+}
+
+// A file with one school.
+fn with_school(rt: &impl Abort, alloc: Global) -> Result<MemoryDisk, Fail> {
+    let row = ("file", "school,0,1,110,2,12\n", 0, "1 0 accepted 1 noted\n");
+    assert_runs(rt, alloc, EMPTY, &[row])
+}
+
+// The ports are served, so many connections each, which ends with this status and this text.
+fn serve<P: Port + Send, H: Threads + Wait + Abort + Sync>(
+    rt: &H,
+    alloc: Global,
+    desks: &mut [OfficeWebDesk<P>],
+    sessions: u32,
+    disk: MemoryDisk,
+    ends: (u8, &str),
+)
+where
+    P::Link: Send,
+{
+    let mut sink = MemorySink::new(alloc, Vec::new(alloc));
+    let (status, _) = run_web(rt, alloc, desks, sessions, disk, &mut sink);
+    assert!(rt; status == ends.0);
+    assert!(rt; sink.text() == ends.1.as_bytes());
+}
+
+// A port of two connections, which come in pieces, hands back connections with these texts.
+fn serve_two<H: Threads + Wait + Abort + Sync>(
+    rt: &H,
+    alloc: Global,
+    piece: usize,
+    failing: &[u64],
+    texts: &[&[u8]],
+    ends: (u8, &str),
+) -> Result<(), Fail> {
+    assert!(rt; piece > 0);
+    let mut desks = Vec::new(alloc);
+    desks.push(WebDesk::new(port_of_two(alloc, FILING.as_bytes(), piece, failing)?))?;
+    serve(rt, alloc, &mut desks, 2, with_school(rt, alloc)?, ends);
+    let [desk] = desks.as_slice() else {
+        return Err(Fail::new("not one desk"));
+    };
+    let back = desk.port().back();
+    assert!(rt; back.len() == texts.len());
+    for i in 0..texts.len() {
+        assert!(rt; back[i].text() == texts[i]);
+    }
+    Ok(())
+}
+
+#[test]
+fn a_filing_on_each_of_two_connections(rt: HostRuntime) -> Result<(), Fail> {
+    let alloc = rt.alloc();
+    serve_two(
+        &rt,
+        alloc,
+        1,
+        &[],
+        &[CREATED.as_bytes(), AGAIN.as_bytes()],
+        (0, ""),
+    )?;
+    serve_two(
+        &rt,
+        alloc,
+        100_000,
+        &[],
+        &[CREATED.as_bytes(), AGAIN.as_bytes()],
+        (0, ""),
+    )
+}
+
+#[test]
+fn a_port_fails(rt: HostRuntime) -> Result<(), Fail> {
+    let alloc = rt.alloc();
+    serve_two(
+        &rt,
+        alloc,
+        7,
+        &[2],
+        &[CREATED.as_bytes()],
+        (10, "fault socket\n"),
+    )?;
+    serve_two(&rt, alloc, 7, &[1], &[], (10, "fault socket\n"))
+}
+
+// The text of the one connection that was taken back.
+fn is_back<H: Abort>(rt: &H, port: &MemoryPort, text: &[u8]) {
+    let back = port.back();
+    assert!(rt; back.len() == 1);
+    assert!(rt; back[0].text() == text);
+}
+
+// Two ports, each with one connection, are served behind a gate, and these texts are written.
+fn serve_gated<H: Threads + Wait + Abort + Sync>(
+    rt: &H,
+    alloc: Global,
+    gate: &HoldGate,
+    texts: (&[u8], &[u8]),
+) -> Result<(), Fail> {
+    let mut desks = Vec::new(alloc);
+    desks.push(WebDesk::new(GatedPort::new(port_of_one(alloc, FILING.as_bytes())?, gate, 1)))?;
+    desks.push(WebDesk::new(GatedPort::new(port_of_one(alloc, OTHER)?, gate, 2)))?;
+    serve(rt, alloc, &mut desks, 1, founded(alloc)?, (0, ""));
+    let [one, other] = desks.as_slice() else {
+        return Err(Fail::new("not two desks"));
+    };
+    is_back(rt, one.port().inner(), texts.0);
+    is_back(rt, other.port().inner(), texts.1);
+    Ok(())
+}
+
+#[test]
+fn port_2_files_first(rt: HostRuntime) -> Result<(), Fail> {
+    let gate = HoldGate::new(1, 2, 1000000);
+    serve_gated(&rt, rt.alloc(), &gate, (SECOND, FIRST))
+}
+
+#[test]
+fn port_1_files_first(rt: HostRuntime) -> Result<(), Fail> {
+    let gate = HoldGate::new(2, 1, 1000000);
+    serve_gated(&rt, rt.alloc(), &gate, (FIRST, SECOND))
+}

@@ -1,0 +1,237 @@
+// The worked year of two schools: its rows, reports and rounds, what is answered over a connection, and generated years.
+use crate::connections::assert_session;
+use crate::plain_file::PlainFile;
+use crate::runs::{EMPTY, Run, assert_runs, ran_over, with_book};
+use aid_edges::SteadySource;
+use specimen::{BOOK_TEXT, YEAR_LINES, YEAR_ROWS};
+use std::test::Fail;
+use web_desk::End;
+
+#[test]
+fn a_worked_year(rt: HostRuntime) -> Result<(), Fail> {
+    let alloc = rt.alloc();
+    let book = with_book(&rt, alloc)?;
+    let nine = assert_runs(&rt, alloc, book.image(), &FIRST_NINE)?;
+    assert_session(
+        &rt,
+        alloc,
+        nine.image(),
+        QUOTE.as_bytes(),
+        End::Closed,
+        QUOTED.as_bytes(),
+    )?;
+    let year = assert_runs(
+        &rt,
+        alloc,
+        book.image(),
+        &[("file", YEAR_ROWS, 0, YEAR_LINES)],
+    )?;
+    assert_runs(&rt, alloc, year.image(), &REPORTS)?;
+    assert_session(
+        &rt,
+        alloc,
+        year.image(),
+        STANDING.as_bytes(),
+        End::Closed,
+        STANDS.as_bytes(),
+    )?;
+    for runs in ROUNDS {
+        assert_runs(&rt, alloc, year.image(), runs)?;
+    }
+    Ok(())
+}
+
+// The first nine rows, up to the student's origination at the first school.
+const FIRST_NINE: [Run; 2] = [
+    (
+        "file",
+        "\
+school,0,2,110,2,12\n\
+school,0,3,120,3,12\n\
+calendar,110,1,2025,1,0,2025-08-25,2025-12-12,1,2025-11-22,2025-11-30\n\
+calendar,110,2,2025,2,0,2026-01-12,2026-05-01,0\n\
+calendar,120,1,2025,1,0,2025-09-22,2025-12-05,0\n\
+calendar,120,2,2025,2,0,2026-01-05,2026-03-20,0\n\
+apply,110,3,5001,2025,1,2006,0,4,0,0,0,0,0,0,0,0,0,0,1,6000,0,0,0,0,0,0,0,0,0,6000,0,0,900,0,0,1,1,48,85000,0,0,0,0,0,0,0,0,5200,50000,35000,0,12000,20000,0\n\
+enrol,110,4,5001,2025,1,12\n\
+originate,110,5,5001,2025,24000\n",
+        0,
+        "\
+1 1 accepted 2 noted\n\
+2 2 accepted 3 noted\n\
+3 3 accepted 4 noted\n\
+4 4 accepted 5 noted\n\
+5 5 accepted 6 noted\n\
+6 6 accepted 7 noted\n\
+7 7 accepted 8 index A 5104 calculated 2290\n\
+8 8 accepted 9 noted\n\
+9 9 accepted 10 noted\n",
+    ),
+    ("quote 110 5001 2025 1", "", 0, "quote 1145\n"),
+];
+
+// What is printed behind the year, and where its rows are filed once more.
+const REPORTS: [Run; 5] = [
+    (
+        "report standing 2025",
+        "",
+        0,
+        "        5001 A    5104 calculated   2290      1791.26   78221\nrows 1\n",
+    ),
+    (
+        "report awards 2025",
+        "",
+        0,
+        "   110         5001 1 unsub      1000.00\n   110         5001 1 pell       1145.00\n   120         5001 2 pell        646.26\nrows 3\n",
+    ),
+    (
+        "report returns 2025",
+        "",
+        0,
+        "   120         5001 2  34.7        65.30        51.44         0.00 2026-03-22\nrows 1\n",
+    ),
+    (
+        "report lifetime",
+        "",
+        0,
+        "        5001       0   78221\nrows 1\n",
+    ),
+    ("file", YEAR_ROWS, 0, AGAIN),
+];
+
+const AGAIN: &str = "\
+1 18 again 2 noted\n\
+2 18 again 3 noted\n\
+3 18 again 4 noted\n\
+4 18 again 5 noted\n\
+5 18 again 6 noted\n\
+6 18 again 7 noted\n\
+7 18 again 8 index A 5104 calculated 2290\n\
+8 18 again 9 noted\n\
+9 18 again 10 noted\n\
+10 18 again 11 paid 1145.00 50000\n\
+11 18 again 12 paid 1000.00 50000\n\
+12 18 again 13 noted\n\
+13 18 again 14 noted\n\
+14 18 refused 58 110 120\n\
+15 18 again 15 noted\n\
+16 18 again 16 paid 1908.00 83319\n\
+17 18 refused 93 114500 85500\n\
+18 18 again 17 returned 34.7 65.30 51.44 0.00\n\
+19 18 again 18 noted\n\
+20 18 refused 70 5145 5144\n";
+
+const QUOTE: &str = "GET /desks/110/quote/5001/2025/1 HTTP/1.1\r\n\r\n";
+
+const QUOTED: &str = "\
+HTTP/1.1 200 OK\r\n\
+Content-Length: 45\r\n\
+Content-Type: application/json\r\n\r\n\
+{\"answer\":\"quoted\",\"cents\":114500,\"front\":10}";
+
+const STANDING: &str = "GET /standing/5001/2025 HTTP/1.1\r\n\r\n";
+
+const STANDS: &str = "\
+HTTP/1.1 200 OK\r\n\
+Content-Length: 136\r\n\
+Content-Type: application/json\r\n\r\n\
+{\"answer\":\"standing\",\"formula\":\"A\",\"front\":18,\"paid\":179126,\"sai\":5104,\"scheduled\":2290,\
+\"transaction\":1,\"used\":78221,\"way\":\"calculated\"}";
+
+// A fund whose amount runs out, and then is used up; one of each policy, on the year anew; and a policy that isn't there.
+const ROUNDS: [&[Run]; 4] = [
+    &[
+        (
+            "fund 110 2025 1 600 level 50",
+            "",
+            0,
+            "1 18 accepted 19 paid 600.00 78221\nleft 0\n",
+        ),
+        ("fund 110 2025 1 600 level 50", "", 0, "left 0\n"),
+    ],
+    &[(
+        "fund 110 2025 1 20000 level 60",
+        "",
+        0,
+        "1 18 accepted 19 paid 1000.00 78221\nleft 19000\n",
+    )],
+    &[(
+        "fund 110 2025 1 20000 quarter 60",
+        "",
+        0,
+        "1 18 accepted 19 paid 4000.00 78221\nleft 16000\n",
+    )],
+    &[("fund 110 2025 1 600 other 50", "", 2, "fault usage\n")],
+];
+
+#[test]
+fn generated_years(rt: HostRuntime) -> Result<(), Fail> {
+    for runs in GENERATED {
+        assert_runs(&rt, rt.alloc(), EMPTY, runs)?;
+    }
+    Ok(())
+}
+
+// A year that is generated again pays nobody a second time.
+const GENERATED: [&[Run]; 3] = [
+    &[
+        (
+            "generate 11 3",
+            BOOK_TEXT,
+            0,
+            "accepted 25\nrefused 0\npell 3374.00\nreturned 1054.00\n",
+        ),
+        (
+            "generate 11 3",
+            BOOK_TEXT,
+            0,
+            "accepted 23\nrefused 0\npell 0.00\nreturned 0.00\n",
+        ),
+        (
+            "report returns 2025",
+            "",
+            0,
+            "   102            1 1  47.3      1054.00         0.00         0.00 2025-12-06\nrows 1\n",
+        ),
+    ],
+    &[
+        (
+            "generate 7 20",
+            BOOK_TEXT,
+            0,
+            "accepted 92\nrefused 0\npell 40511.00\nreturned 0.00\n",
+        ),
+        (
+            "generate 7 20",
+            BOOK_TEXT,
+            0,
+            "accepted 74\nrefused 0\npell 0.00\nreturned 0.00\n",
+        ),
+    ],
+    &[
+        (
+            "generate 7 200",
+            BOOK_TEXT,
+            0,
+            "accepted 794\nrefused 0\npell 330887.00\nreturned 5081.53\n",
+        ),
+        (
+            "generate 7 200",
+            BOOK_TEXT,
+            0,
+            "accepted 623\nrefused 0\npell 0.00\nreturned 0.00\n",
+        ),
+    ],
+];
+
+#[test]
+fn a_long_generated_year(rt: HostRuntime) -> Result<(), Fail> {
+    let alloc = rt.alloc();
+    let file = PlainFile::new(EMPTY.to_vec(alloc)?);
+    let mut source = SteadySource::new(BOOK_TEXT.as_bytes().to_vec(alloc)?);
+    let (status, sink, _) = ran_over(alloc, "generate 7 5000", &mut source, file, &[])?;
+    let text = b"accepted 19459\nrefused 0\npell 8275700.00\nreturned 174994.03\n";
+    assert_eq!(rt; sink.text(), text.as_slice());
+    assert_eq!(rt; status, 0);
+    Ok(())
+}

@@ -1,0 +1,101 @@
+#!/usr/bin/env python3
+"""Names rows that are filings and look wrong: of kinds that can't be mended once they stand, and of what no rule holds. The
+thresholds are its own. Ends with 1 where a row looks wrong.
+
+usage: lint.py < ROWS.csv
+"""
+import csv
+import datetime
+import io
+import signal
+import sys
+
+sys.dont_write_bytecode = True
+import sheet
+
+day = datetime.date.fromisoformat
+csv.field_size_limit(sys.maxsize)
+# Cents of a student's year by the law's annual limits of loans (34 CFR 685.203) and TEACH (34 CFR 686.21), which the office doesn't hold.
+MOST = {"sub": 550_000, "unsub": 2_050_000, "teach": 400_000}
+
+
+def cents(text):
+    return int(text.replace(".", ""))
+
+
+def around(year):
+    """The days in which a term of an award year, and a withdrawal from it, will lie."""
+    return datetime.date(int(year), 5, 1), datetime.date(int(year) + 1, 9, 15)
+
+
+def school(_code, _terms, full):
+    if not 6 <= int(full) <= 18:
+        yield f"full time at {full} credits"
+
+
+def calendar(year, _term, _extra, first, last, *_breaks):
+    begins, ends = around(year)
+    if day(first) < begins or day(last) > ends:
+        yield f"a term of {year} from {first} to {last}, outside {begins} to {ends}"
+    days = (day(last) - day(first)).days + 1
+    if not 21 <= days <= 200:
+        yield f"a term of {days} days"
+
+
+def prior(_student, units):
+    if 550_000 < int(units) <= 600_000:
+        yield f"{int(units) / 1000:.3f} percent of lifetime use, which leaves less than half a year's award"
+
+
+def apply(_student, year, _transaction, birth, *_rest):
+    age = int(year) - int(birth)
+    if not 14 <= age <= 90:
+        yield f"a student who is {age} in the award year"
+
+
+def originate(_student, _year, cost):
+    if not 2_000 <= int(cost) <= 150_000:
+        yield f"a cost of attendance of {cost} dollars"
+
+
+def pay(_student, _year, _term, program, amount):
+    if cents(amount) > MOST.get(program, 10**12):
+        yield f"{program} of {amount}, where the office has no limit but the cost of attendance"
+
+
+def withdraw(_student, year, _term, last, determined, *_amounts):
+    begins, ends = around(year)
+    if not begins <= day(last) <= ends:
+        yield f"a withdrawal in {year} with the last day {last}, outside {begins} to {ends}"
+    days = (day(determined) - day(last)).days
+    if days > 60:
+        yield f"a withdrawal that was determined {days} days behind the last day"
+
+
+KINDS = {look.__name__: look for look in (school, calendar, prior, apply, originate, pay, withdraw)}
+
+
+def looks_wrong(kind, *columns):
+    """What looks wrong of a row. Of a row that is no filing nothing is said, since `check rows` says it."""
+    try:
+        return list(KINDS.get(kind, lambda *_: ())(*columns[2:]))
+    except (ValueError, TypeError, OverflowError):
+        return []
+
+
+def main():
+    text = sheet.text_of(sys.stdin.buffer.read())
+    rows = [row for row in csv.reader(io.StringIO(text, newline="")) if row]
+    found = [(number, row[0], sentence) for number, row in enumerate(rows, 1) for sentence in looks_wrong(*row)]
+    for number, kind, sentence in found:
+        print(f"{number} {kind}: {sentence}")
+    print(f"looked at {len(rows)} rows, {len({number for number, *_ in found})} look wrong")
+    return 1 if found else 0
+
+
+if __name__ == "__main__":
+    signal.signal(signal.SIGINT, signal.SIG_DFL)
+    signal.signal(signal.SIGPIPE, signal.SIG_DFL)
+    if len(sys.argv) > 1:
+        sheet.refuse("lint takes no words: office lint < ROWS.csv", 2)
+    sys.exit(main())
