@@ -13,6 +13,7 @@ import json
 import os
 import re
 import sys
+import textwrap
 from datetime import date, timedelta
 
 TOP = os.path.dirname(os.path.dirname(os.path.abspath(__file__)))
@@ -31,20 +32,23 @@ FRONT = """\
 This page is printed by `scripts/make_filings.py` from the table that the office itself reads rows by.
 What it says in words stands in [fields.tsv](fields.tsv).
 
-A desk files rows of comma-separated values. Column 1 is the name of the kind, columns 2 and 3 are the key under which the
-filing stands, and the columns behind them are those of its kind. Whole numbers have no leading zeros, no plus and no point.
-Days are written 2025-08-25, and dollars and cents with two decimals, as 1145.00. Spaces count: none is passed over.
-A year book is a text of its own, and stands at the end of this page.
+A desk files rows of comma-separated values. Column 1 is the name of the kind. Columns 2 and 3 are the key
+under which the filing stands, and the columns behind them are those of its kind. Whole numbers have no
+leading zeros, no plus and no point. Days are written 2025-08-25, and dollars and cents with two decimals, as
+1145.00. Spaces count: none is passed over. A year book is a text of its own, and stands at the end of this
+page.
 
-Below its purpose each kind has example rows, and below them the bodies of the same filings over HTTP ([HTTP.md](HTTP.md)).
+Below its purpose each kind has example rows, and below them the bodies of the same filings over HTTP
+([HTTP.md](HTTP.md)).
 """
 BOOK_FRONT = """\
-It is a TOML text, as examples/2025.toml: `pell.maximum` is the key `maximum` of the section `[pell]`, and a table is an array
-of tables, as `[[age]]`. Every number is a whole number. Rates are in ten-thousandths: 50 is 0.50 percent, 10000 is the whole.
-Errors name a field by its number here. A row of a table that doesn't begin or go on as said below is error 5, and any other
-number out of its range is error 4.
+It is a TOML text, as examples/2025.toml: `pell.maximum` is the key `maximum` of the section `[pell]`, and a
+table is an array of tables, as `[[age]]`. Every number is a whole number. Rates are in ten-thousandths: 50 is
+0.50 percent, 10000 is the whole. Errors name a field by its number here. A row of a table that doesn't begin
+or go on as said below is error 5, and any other number out of its range is error 4.
 """
 COLUMNS = "| column | name | what it is | form and range |\n|---|---|---|---|"
+EXAMPLES = "| rows, and the bodies of the same filings |\n|---|"
 FIELDS = "| field | key | what it is | range |\n|---|---|---|---|"
 TOKEN = re.compile(r'''"[^"]*"|\d[\d_]*|[$']?\w+|::|=>|\S''')
 CLOSING = {"(": ")", "[": "]", "{": "}"}
@@ -200,6 +204,11 @@ def limit_of(field):
     return ", " + said[kind].format(*ends)
 
 
+def wrapped(text):
+    """A paragraph in lines that are not too long."""
+    return "\n".join(textwrap.wrap(text, 108, break_long_words=False, break_on_hyphens=False))
+
+
 def print_row(number, name, words, rest):
     print(f"| {number} | {name} | {words} | {rest} |")
 
@@ -246,9 +255,10 @@ def print_columns(kind, parts):
 def print_kind(kind, parts):
     """A kind with its examples and its columns."""
     examples = WORDS_OF.all_of(kind, "example")
-    print(f"\n## {kind}\n\n{WORDS_OF.heading(kind)}\n")
-    print("".join(f"    {example}\n" for example in examples))
-    print("".join(f"    {body_of(kind, parts, example)}\n" for example in examples))
+    print(f"\n## {kind}\n\n{wrapped(WORDS_OF.heading(kind))}\n\n{EXAMPLES}")
+    for example in [*examples, *(body_of(kind, parts, example) for example in examples)]:
+        print(f"| `{example}` |")
+    print()
     print(COLUMNS)
     print_columns(kind, parts)
 

@@ -1,4 +1,4 @@
-// What is filed and what the office answers, as crates aid_filings and aid_replies have it. A book's year stands in it; terms
+// What is filed and what the office answers, as the crate aid_filings has it. A book's year stands in it; terms
 // have no breaks; nothing is repaid.
 
 use super::arithmetic::{Application, Book, Formula, Way};

@@ -12,10 +12,10 @@ use Rattle.desk_forms.proofs.row.numbers_of.Goals as goal
 
 pub loop-field-init : goal.loop-field-init
 loop-field-init c =
-    let d = c.new_draft.result in
+    let d = c.new_draft-draft.result in
     let texts = texts_of c.args.texts.now in
-    ap (λ (k : ℕ). numbers_with (row_source c.args.row) d (drop k texts)) (ap (λ zs. length zs + 1) c.new_draft.ensures.none)
-    ∙ numbers_with-none (row_source c.args.row) (slots_of_kind c.args.kind) d (drop 1 texts) c.new_draft.ensures.to_come c.new_draft.ensures.none
+    ap (λ (k : ℕ). numbers_with (row_source c.args.row) d (drop k texts)) (ap (λ zs. length zs + 1) c.new_draft-draft.ensures.none)
+    ∙ numbers_with-none (row_source c.args.row) (slots_of_kind c.args.kind) d (drop 1 texts) c.new_draft-draft.ensures.to_come c.new_draft-draft.ensures.none
 
 pub returns-in_err-number : goal.returns-in_err-number
 returns-in_err-number c =

@@ -10,10 +10,10 @@ use Rattle.aid_reports.proofs.lines.StandingOfLine.put.Goals as goal
 pub returns : goal.returns
 returns c =
     let s = c.args.self.now in
-    let formula = rw (c.as_bytes.ensures.value, c.formula_name.ensures) at c.in_ok-put_text.ensures in
+    let formula = rw (c.as_bytes.ensures.value, c.formula_name.ensures.text) at c.in_ok-put_text.ensures in
     let same : to_z w32 (of_z w32 s.row.sai) ≡ s.row.sai = search rules in
     let sai = rw same at c.in_ok-put_whole.ensures in
-    let way = rw (c.as_bytes-2.ensures.value, c.way_name.ensures) at c.in_ok-put_left.ensures in
+    let way = rw (c.as_bytes-2.ensures.value, c.way_name.ensures.text) at c.in_ok-put_left.ensures in
     let scheduled = rw c.from.ensures at c.in_ok-put_number.ensures in
     let used = rw c.from-2.ensures at c.put_number-2.ensures in
     on_ok_weaker c.put_number-2.result
