@@ -1,20 +1,21 @@
 -- What a row of a kind means, by its parts, and that what rows say tells them.
-use Rattle.std.proofs.Common.{◌≡◌, ℕ, ℤ, List, [], ◌∷◌, drop, true, false, refl, ap, subst, ◌∙◌}
-use Rattle.std.specs.Prelude.{Some, Result, Ok, Err, IfOk, if◌then◌else◌, map}
+use Rattle.std.proofs.Common.{◌≡◌, ◌≤◌, ℕ, length, arith, ℤ, List, [], ◌∷◌, drop, true, false, refl, ap, subst, ◌∙◌}
+use Rattle.std.specs.Prelude.{Some, option_and_then, Result, Ok, Err, IfOk, if◌then◌else◌, map}
 use Rattle.std.specs.Result.{result_map_both}
 use Rattle.aid_filings.specs.declared.filing.Filing.{Filing}
-use Rattle.filing_kinds.specs.Kinds.{slots_of_kind}
+use Rattle.csv.specs.Records.{field_at}
+use Rattle.filing_kinds.specs.Kinds.{kind_named, slots_of_kind, words_of_programs}
 use Rattle.field_table.specs.Layout.{AreNumbers}
 use Rattle.filing_kinds.specs.Drafts.{numbers_of_kind}
 use Rattle.filing_kinds.specs.declared.kind.Kind.{Kind}
 use Rattle.field_table.proofs.WalkLaws.{numbers_of_slots-are}
 use Rattle.filing_numbers.specs.Numbers.{kind_of}
 use Rattle.filing_numbers.proofs.Same.{same_filing}
-use Rattle.desk_forms.specs.Fields.{are_as_many}
-use Rattle.desk_forms.specs.Numbers.{refused, row_source}
+use Rattle.field_rows.specs.Fields.{are_as_many}
+use Rattle.field_rows.specs.Numbers.{refused, row_source}
 use Rattle.desk_forms.specs.Rows.{has_rows, row_of, row_of_kind, said}
-use Rattle.desk_forms.specs.declared.error.Cause.TheVariants.{UnknownKind, WrongCount}
-use Rattle.desk_forms.specs.declared.error.RowError.{RowError}
+use Rattle.field_rows.specs.declared.error.Cause.TheVariants.{UnknownKind, WrongCount}
+use Rattle.field_rows.specs.declared.error.RowError.{RowError}
 
 -- ---- a row of a kind
 -- numbers with it
@@ -26,20 +27,27 @@ pub of_kind : (row : ℕ) (texts : List (List ℕ)) (kind : Kind) → has_rows k
 of_kind row texts kind h = ap (λ b. if b then row_of_kind row kind (drop 1 texts) else Err (refused row 1 UnknownKind)) h
 
 -- a wrong number of fields
-pub wrong_count : (row : ℕ) (kind : Kind) (texts : List (List ℕ)) → are_as_many (slots_of_kind kind) texts ≡ false → row_of_kind row kind texts ≡ Err (refused row 0 WrongCount)
+pub wrong_count : (row : ℕ) (kind : Kind) (texts : List (List ℕ)) → are_as_many words_of_programs (slots_of_kind kind) texts ≡ false → row_of_kind row kind texts ≡ Err (refused row 0 WrongCount)
 unfolding row_of_kind
-wrong_count row kind texts many = ap (λ b. if b then with_kind kind (numbers_of_kind (row_source row) kind texts) else Err (refused row 0 WrongCount)) many
+wrong_count row kind texts many = ap (λ b. if b then with_kind kind (numbers_of_kind (row_source words_of_programs row) kind texts) else Err (refused row 0 WrongCount)) many
 
 -- the right one
-pub right_count : (row : ℕ) (kind : Kind) (texts : List (List ℕ)) (read : Result (List ℤ) RowError) → are_as_many (slots_of_kind kind) texts ≡ true → numbers_of_kind (row_source row) kind texts ≡ read
+pub right_count : (row : ℕ) (kind : Kind) (texts : List (List ℕ)) (read : Result (List ℤ) RowError) → are_as_many words_of_programs (slots_of_kind kind) texts ≡ true → numbers_of_kind (row_source words_of_programs row) kind texts ≡ read
     → row_of_kind row kind texts ≡ with_kind kind read
 unfolding row_of_kind
 right_count row kind texts read many is =
-    ap (λ b. if b then with_kind kind (numbers_of_kind (row_source row) kind texts) else Err (refused row 0 WrongCount)) many ∙ ap (with_kind kind) is
+    ap (λ b. if b then with_kind kind (numbers_of_kind (row_source words_of_programs row) kind texts) else Err (refused row 0 WrongCount)) many ∙ ap (with_kind kind) is
 
 -- numbers that were read are those of a kind
-pub read-are : (row : ℕ) (kind : Kind) (texts : List (List ℕ)) (zs : List ℤ) → numbers_of_kind (row_source row) kind texts ≡ Ok zs → AreNumbers (slots_of_kind kind) [] zs
-read-are row kind texts zs r = subst (λ (x : Result (List ℤ) RowError). IfOk x (AreNumbers (slots_of_kind kind) [])) r (numbers_of_slots-are (row_source row) (slots_of_kind kind) texts)
+pub read-are : (row : ℕ) (kind : Kind) (texts : List (List ℕ)) (zs : List ℤ) → numbers_of_kind (row_source words_of_programs row) kind texts ≡ Ok zs → AreNumbers (slots_of_kind kind) [] zs
+read-are row kind texts zs r = subst (λ (x : Result (List ℤ) RowError). IfOk x (AreNumbers (slots_of_kind kind) [])) r (numbers_of_slots-are (row_source words_of_programs row) (slots_of_kind kind) texts)
+
+-- ---- the texts and the parts
+-- a row whose first text names a kind has a text
+pub named_text : (texts : List (List ℕ)) (kind : Kind) → option_and_then kind_named (field_at texts 0) ≡ Some kind → 1 ≤ length texts
+unfolding field_at
+named_text [] kind e = absurd cc
+named_text (text ∷ texts) kind e = omega arith
 
 -- ---- what is said tells the row
 kind_said : Kind → Result (Kind × List ℤ) RowError → Kind

@@ -1,9 +1,5 @@
 pub use Rattle.aid_num.specs.Whole
-pub mod Causes
-pub mod Fields
-pub mod Left
 pub mod Lines
-pub mod Numbers
 pub mod Rows
 pub mod BookLines
 pub mod BookRows

@@ -1,7 +1,7 @@
 -- The lines of a row that is no filing, of one that is, and of a text. Own format.
 use Rattle.std.specs.Prelude.{ℕ, List, ◌++◌, codes, decimal}
-use Rattle.desk_forms.specs.Causes.{number_of}
-use Rattle.desk_forms.specs.declared.error.RowError.{RowError}
+use Rattle.field_rows.specs.Causes.{number_of}
+use Rattle.field_rows.specs.declared.error.RowError.{RowError}
 
 -- ROW error FIELD CAUSE
 abbrev pub error_line : RowError → List ℕ

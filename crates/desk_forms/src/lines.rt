@@ -3,8 +3,8 @@ ghost use Rattle.std.specs.Prelude.{◌≡◌, ◌+◌, ◌≤◌, ◌++◌, IsO
 ghost use Rattle.arrayvec.specs.ArrayString.{array_string_len};
 ghost use Rattle.desk_forms.specs.Lines.{error_line, fine_line, tally_line};
 
-use crate::error::RowError;
 use arrayvec::ArrayString;
+use field_rows::RowError;
 use itoa::Buffer;
 use std::alloc::AllocError;
 

@@ -10,10 +10,10 @@ use Rattle.aid_filings.specs.declared.reply.Ask.{Ask}
 use Rattle.aid_filings.specs.declared.reply.Ask.TheVariants.{File, Quote, Standing}
 use Rattle.aid_filings.specs.declared.reply.Verdict.{Verdict}
 use Rattle.aid_filings.specs.declared.reply.Verdict.TheVariants as verdict
-use Rattle.desk_forms.specs.Causes.{number_of}
+use Rattle.field_rows.specs.Causes.{number_of}
 use Rattle.desk_forms.specs.Lines.{error_line}
 use Rattle.desk_forms.specs.Rows.{row_meaning}
-use Rattle.desk_forms.specs.declared.error.RowError.{RowError}
+use Rattle.field_rows.specs.declared.error.RowError.{RowError}
 use Rattle.filing_codec.specs.Spelling.{spelling}
 use Rattle.filing_journal.specs.Stands.{ArePayloads, body_of, front_of}
 use Rattle.filing_journal.specs.Header.{header_bytes}

@@ -13,15 +13,15 @@ use Rattle.aid_filings.specs.declared.filing.What.{What}
 use Rattle.aid_filings.specs.declared.filing.What.TheVariants.{Book, School, Calendar, Prior, Apply, Enrol, Originate, Pay, Withdraw, Repay, Adjust}
 use Rattle.csv.specs.Records.{field_at}
 use Rattle.desk_forms.proofs.RowsLemmas.{of_kind, read-are, right_count, with_kind}
-use Rattle.desk_forms.specs.Fields.{are_as_many, count_within, fields_counted, go_on, number_in}
-use Rattle.desk_forms.specs.Numbers.{cause_of, first_number, refused, row_source}
+use Rattle.field_rows.specs.Fields.{are_as_many, count_within, fields_counted, go_on, number_in}
+use Rattle.field_rows.specs.Numbers.{cause_of, first_number, refused, row_source}
 use Rattle.desk_forms.specs.Rows.{has_rows, row_meaning, row_of, row_of_kind}
-use Rattle.desk_forms.specs.declared.error.Cause.TheVariants.{UnknownKind, WrongCount}
-use Rattle.desk_forms.specs.declared.error.RowError.{RowError}
+use Rattle.field_rows.specs.declared.error.Cause.TheVariants.{UnknownKind, WrongCount}
+use Rattle.field_rows.specs.declared.error.RowError.{RowError}
 use Rattle.filing_kinds.proofs.Laws.{few_numbers}
 use Rattle.field_table.proofs.WalkLaws.{firsts, found_leads, led_to}
 use Rattle.field_table.specs.Forms.{most_numbers}
-use Rattle.filing_kinds.specs.Kinds.{first_and_last, kind_named, kinds, name_of, slots_of_kind, table_row_of, withdraw_slots}
+use Rattle.filing_kinds.specs.Kinds.{first_and_last, kind_named, kinds, name_of, slots_of_kind, table_row_of, withdraw_slots, words_of_programs}
 use Rattle.field_table.specs.Layout.{AreNumbers, after, plain, rows, rows_again}
 use Rattle.field_table.specs.Limits.{fits}
 use Rattle.field_table.specs.Parts.{Line, Slot}
@@ -94,9 +94,9 @@ reached low high (Begins greatest) earlier z r f = absurd cc
 -- ---- how many texts
 -- so many texts, and behind them as the fields behind
 abbrev with_front : ℕ → List Slot → Texts → Bool
-with_front n slots texts = nat_le n (length texts) && are_as_many slots (drop n texts)
+with_front n slots texts = nat_le n (length texts) && are_as_many words_of_programs slots (drop n texts)
 
-none_in_front : (slots : List Slot) (texts : Texts) → are_as_many slots texts ≡ with_front 0 slots texts
+none_in_front : (slots : List Slot) (texts : Texts) → are_as_many words_of_programs slots texts ≡ with_front 0 slots texts
 none_in_front slots texts = let least = le-leb 0 (length texts) (omega arith) in rw least refl
 
 -- so many, and so many more
@@ -107,7 +107,7 @@ front_twice a b slots texts = elim (cases_lt (length texts) (a + b)) [
       let first = le-leb a (length texts) (omega arith) in
       let more = le-leb b (length (drop a texts)) (omega (arith, length-drop a texts)) in
       let both = le-leb (a + b) (length texts) room in
-      rw (first, more, both) (ap (are_as_many slots) (drop-drop b a texts))
+      rw (first, more, both) (ap (are_as_many words_of_programs slots) (drop-drop b a texts))
 ]
   where
     too_short : (a b : ℕ) (slots : List Slot) (texts : Texts) → length texts < a + b → (nat_le a (length texts) && with_front b slots (drop a texts)) ≡ with_front (a + b) slots texts
@@ -128,51 +128,51 @@ one_longer n m = elim (cases_lt m n) [
 ]
 
 -- the fields of a row
-plain_front : (lines : List Line) (slots : List Slot) (texts : Texts) → are_as_many (map plain lines ++ slots) texts ≡ with_front (length lines) slots texts
+plain_front : (lines : List Line) (slots : List Slot) (texts : Texts) → are_as_many words_of_programs (map plain lines ++ slots) texts ≡ with_front (length lines) slots texts
 unfolding are_as_many
 plain_front [] slots texts = none_in_front slots texts
 plain_front (line ∷ lines) slots [] = let none = lt-leb (length (line ∷ lines)) 0 (omega arith) in rw none refl
 plain_front (line ∷ lines) slots (text ∷ texts) =
     sym (none_in_front (map plain lines ++ slots) texts) ∙ plain_front lines slots texts
-    ∙ ap (λ (b : Bool). b && are_as_many slots (drop (length lines) texts)) (one_longer (length lines) (length texts))
+    ∙ ap (λ (b : Bool). b && are_as_many words_of_programs slots (drop (length lines) texts)) (one_longer (length lines) (length texts))
 
 -- the fields of rows that are alike, and those of rows the first of which is of its own
-rows_again_front : (n : ℕ) (lines : List Line) (slots : List Slot) (texts : Texts) → are_as_many (rows_again n lines ++ slots) texts ≡ with_front (n * length lines) slots texts
+rows_again_front : (n : ℕ) (lines : List Line) (slots : List Slot) (texts : Texts) → are_as_many words_of_programs (rows_again n lines ++ slots) texts ≡ with_front (n * length lines) slots texts
 rows_again_front zero lines slots texts = let none : 0 ≡ 0 * length lines = omega arith in none_in_front slots texts ∙ ap (λ (n : ℕ). with_front n slots texts) none
 rows_again_front (suc n) lines slots texts =
     let more : length lines + n * length lines ≡ suc n * length lines = omega arith in
-    ap (λ (ss : List Slot). are_as_many ss texts) (append_assoc (map plain lines) (rows_again n lines) slots)
+    ap (λ (ss : List Slot). are_as_many words_of_programs ss texts) (append_assoc (map plain lines) (rows_again n lines) slots)
     ∙ plain_front lines (rows_again n lines ++ slots) texts
     ∙ ap (λ (b : Bool). nat_le (length lines) (length texts) && b) (rows_again_front n lines slots (drop (length lines) texts))
     ∙ front_twice (length lines) (n * length lines) slots texts
     ∙ ap (λ (n : ℕ). with_front n slots texts) more
 
-rows_front : (n : ℕ) (first later : List Line) (slots : List Slot) (texts : Texts) → length first ≡ length later → are_as_many (rows n first later ++ slots) texts ≡ with_front (n * length first) slots texts
+rows_front : (n : ℕ) (first later : List Line) (slots : List Slot) (texts : Texts) → length first ≡ length later → are_as_many words_of_programs (rows n first later ++ slots) texts ≡ with_front (n * length first) slots texts
 rows_front n [] later slots texts e = let none : 0 ≡ n * 0 = omega arith in none_in_front slots texts ∙ ap (λ (n : ℕ). with_front n slots texts) none
 rows_front zero (line ∷ lines) later slots texts e =
     let none : 0 ≡ 0 * length (line ∷ lines) = omega arith in none_in_front slots texts ∙ ap (λ (n : ℕ). with_front n slots texts) none
 rows_front (suc n) (line ∷ lines) later slots texts e =
     let columns = length (line ∷ lines) in
     let more : columns + n * length later ≡ suc n * columns = ap (λ (k : ℕ). columns + n * k) (sym e) ∙ omega arith in
-    ap (λ (ss : List Slot). are_as_many ss texts) (append_assoc (map plain (line ∷ lines)) (rows_again n later) slots)
+    ap (λ (ss : List Slot). are_as_many words_of_programs ss texts) (append_assoc (map plain (line ∷ lines)) (rows_again n later) slots)
     ∙ plain_front (line ∷ lines) (rows_again n later ++ slots) texts
     ∙ ap (λ (b : Bool). nat_le columns (length texts) && b) (rows_again_front n later slots (drop columns texts))
     ∙ front_twice columns (n * length later) slots texts
     ∙ ap (λ (n : ℕ). with_front n slots texts) more
 
 -- how many fields the rows have that a text counts
-counted : (first : List Line) (line : Line) (text : List ℕ) (z : ℤ) → fits line.limit [] z ≡ true → number_in line.form text ≡ Ok z → fields_counted first line text ≡ Some (unsigned_abs z * length first)
+counted : (first : List Line) (line : Line) (text : List ℕ) (z : ℤ) → fits line.limit [] z ≡ true → number_in words_of_programs line.form text ≡ Ok z → fields_counted words_of_programs first line text ≡ Some (unsigned_abs z * length first)
 counted [] line text z fit is = let none : 0 ≡ unsigned_abs z * 0 = omega arith in ap (λ (n : ℕ). Some n) none
 counted (column ∷ columns) line text z fit is =
     ap (λ (r : Result ℤ Malformed). option_map (λ n. n * length (column ∷ columns)) (count_within line r)) is
     ∙ ap (λ (b : Bool). option_map (λ n. n * length (column ∷ columns)) (if b then Some (unsigned_abs z) else None)) fit
 
 -- one text more
-one_text : (slot : Slot) (slots : List Slot) (text : List ℕ) (texts : Texts) (z : ℤ) → length slot.first ≡ length slot.later → fits slot.line.limit [] z ≡ true → number_in slot.line.form text ≡ Ok z
-    → are_as_many (slot ∷ slots) (text ∷ texts) ≡ are_as_many (after (slot ∷ slots) z) texts
+one_text : (slot : Slot) (slots : List Slot) (text : List ℕ) (texts : Texts) (z : ℤ) → length slot.first ≡ length slot.later → fits slot.line.limit [] z ≡ true → number_in words_of_programs slot.line.form text ≡ Ok z
+    → are_as_many words_of_programs (slot ∷ slots) (text ∷ texts) ≡ are_as_many words_of_programs (after (slot ∷ slots) z) texts
 unfolding are_as_many
 one_text slot slots text texts z even fit is =
-    ap (λ (o : Option ℕ). go_on o (length slots) (λ behind. are_as_many slots behind) texts) (counted slot.first slot.line text z fit is)
+    ap (λ (o : Option ℕ). go_on o (length slots) (λ behind. are_as_many words_of_programs slots behind) texts) (counted slot.first slot.line text z fit is)
     ∙ sym (rows_front (unsigned_abs z) slot.first slot.later slots texts even)
 
 -- ---- numbers that are read are spelled
@@ -189,37 +189,37 @@ found_in number place texts (Ok z) found h =
 found_in number place texts (Err e) found h = absurd cc
 
 record FirstRead (number most : ℕ) (slot : Slot) (slots : List Slot) (earlier : List ℤ) (text : List ℕ) (texts : Texts) (z : ℤ) (zs : List ℤ) : Type 0 where
-  reads : number_in slot.line.form text ≡ Ok z
+  reads : number_in words_of_programs slot.line.form text ≡ Ok z
   within : fits slot.line.limit earlier z ≡ true
-  rest : numbers_from (row_source number) most (after (slot ∷ slots) z) (z ∷ earlier) texts ≡ Ok zs
+  rest : numbers_from (row_source words_of_programs number) most (after (slot ∷ slots) z) (z ∷ earlier) texts ≡ Ok zs
 
 -- the number of the first text, and those behind it
 first_read : (number most : ℕ) (slot : Slot) (slots : List Slot) (earlier : List ℤ) (text : List ℕ) (texts : Texts) (z : ℤ) (zs : List ℤ)
-    → numbers_from (row_source number) (suc most) (slot ∷ slots) earlier (text ∷ texts) ≡ Ok (z ∷ zs) → FirstRead number most slot slots earlier text texts z zs
+    → numbers_from (row_source words_of_programs number) (suc most) (slot ∷ slots) earlier (text ∷ texts) ≡ Ok (z ∷ zs) → FirstRead number most slot slots earlier text texts z zs
 first_read number most slot slots earlier text texts z zs h =
-    let f = firsts (row_source number) most slot slots earlier (text ∷ texts) (z ∷ zs) h in
-    let at = found_in number (length earlier + 2) texts (number_in slot.line.form text) f.found f.found_is in
+    let f = firsts (row_source words_of_programs number) most slot slots earlier (text ∷ texts) (z ∷ zs) h in
+    let at = found_in number (length earlier + 2) texts (number_in words_of_programs slot.line.form text) f.found f.found_is in
     let all = f.numbers_are in
     let is : f.found.number ≡ z = cc all in
     let others : f.others ≡ zs = cc all in
-    let from = λ (x : ℤ) (ts : Texts). numbers_from (row_source number) most (after (slot ∷ slots) x) (x ∷ earlier) ts in
+    let from = λ (x : ℤ) (ts : Texts). numbers_from (row_source words_of_programs number) most (after (slot ∷ slots) x) (x ∷ earlier) ts in
     record {
       reads = at.0 ∙ ap (λ (x : ℤ). Ok x) is;
       within = subst (λ (x : ℤ). fits slot.line.limit earlier x ≡ true) is f.within;
       rest = (λ i. from (sym is i) (sym at.1 i)) ∙ (f.others_are ∙ ap (λ (ys : List ℤ). Ok ys) others);
     }
 
-none_read : (number : ℕ) (slot : Slot) (slots : List Slot) (earlier : List ℤ) (texts : Texts) (zs : List ℤ) → numbers_from (row_source number) zero (slot ∷ slots) earlier texts ≡ Ok zs → ⊥
+none_read : (number : ℕ) (slot : Slot) (slots : List Slot) (earlier : List ℤ) (texts : Texts) (zs : List ℤ) → numbers_from (row_source words_of_programs number) zero (slot ∷ slots) earlier texts ≡ Ok zs → ⊥
 unfolding numbers_from
 none_read number slot slots earlier texts zs h = cc
 
-too_many : (text : List ℕ) (texts : Texts) → are_as_many [] (text ∷ texts) ≡ true → ⊥
+too_many : (text : List ℕ) (texts : Texts) → are_as_many words_of_programs [] (text ∷ texts) ≡ true → ⊥
 unfolding are_as_many
 too_many text texts many = omega (arith, eqb-true (length (text ∷ texts)) 0 many)
 
 -- each text spells the number that was read of it
-spelled : (number most : ℕ) (slots : List Slot) (earlier : List ℤ) (texts : Texts) (ns : List Number) → take_all slots ns ≡ true → are_as_many slots texts ≡ true
-    → numbers_from (row_source number) most slots earlier texts ≡ Ok (map value ns) → Spell ns texts
+spelled : (number most : ℕ) (slots : List Slot) (earlier : List ℤ) (texts : Texts) (ns : List Number) → take_all slots ns ≡ true → are_as_many words_of_programs slots texts ≡ true
+    → numbers_from (row_source words_of_programs number) most slots earlier texts ≡ Ok (map value ns) → Spell ns texts
 unfolding are_as_many
 spelled number most [] earlier [] [] t many h = tt
 spelled number most [] earlier (text ∷ texts) [] t many h = absurd (too_many text texts many)
@@ -236,14 +236,14 @@ spelled number (suc most) (slot ∷ slots) earlier (text ∷ texts) (n ∷ ns) t
 
 -- ---- and spelled ones are read
 record AreRead (number most : ℕ) (slots : List Slot) (earlier : List ℤ) (texts : Texts) (zs : List ℤ) : Type 0 where
-  many : are_as_many slots texts ≡ true
-  numbers : numbers_from (row_source number) most slots earlier texts ≡ Ok zs
+  many : are_as_many words_of_programs slots texts ≡ true
+  numbers : numbers_from (row_source words_of_programs number) most slots earlier texts ≡ Ok zs
 
-read_first : (number most : ℕ) (slot : Slot) (slots : List Slot) (earlier : List ℤ) (text : List ℕ) (texts : Texts) (z : ℤ) (zs : List ℤ) → number_in slot.line.form text ≡ Ok z → fits slot.line.limit earlier z ≡ true
-    → numbers_from (row_source number) most (after (slot ∷ slots) z) (z ∷ earlier) texts ≡ Ok zs → numbers_from (row_source number) (suc most) (slot ∷ slots) earlier (text ∷ texts) ≡ Ok (z ∷ zs)
+read_first : (number most : ℕ) (slot : Slot) (slots : List Slot) (earlier : List ℤ) (text : List ℕ) (texts : Texts) (z : ℤ) (zs : List ℤ) → number_in words_of_programs slot.line.form text ≡ Ok z → fits slot.line.limit earlier z ≡ true
+    → numbers_from (row_source words_of_programs number) most (after (slot ∷ slots) z) (z ∷ earlier) texts ≡ Ok zs → numbers_from (row_source words_of_programs number) (suc most) (slot ∷ slots) earlier (text ∷ texts) ≡ Ok (z ∷ zs)
 read_first number most slot slots earlier text texts z zs reads within rest =
-    found_leads (row_source number) most slot slots earlier (text ∷ texts) (found_text z texts) (ap (with_rest number (length earlier + 2) texts) reads)
-    ∙ ap (led_to (row_source number) most (slot ∷ slots) earlier (text ∷ texts) (found_text z texts)) within ∙ ap (number_first z) rest
+    found_leads (row_source words_of_programs number) most slot slots earlier (text ∷ texts) (found_text z texts) (ap (with_rest number (length earlier + 2) texts) reads)
+    ∙ ap (led_to (row_source words_of_programs number) most (slot ∷ slots) earlier (text ∷ texts) (found_text z texts)) within ∙ ap (number_first z) rest
 
 -- texts that spell numbers of these fields are as many, and are read as them
 are_read : (number most : ℕ) (slots : List Slot) (earlier : List ℤ) (texts : Texts) (ns : List Number) → length ns ≤ most → take_all slots ns ≡ true → AreNumbers slots earlier (map value ns) → Spell ns texts
@@ -370,11 +370,11 @@ all_taken f lists has = taken f.what lists has
 record Means (number : ℕ) (name : List ℕ) (texts : Texts) (kind : Kind) (zs : List ℤ) : Type 0 where
   named : kind_named name ≡ Some kind
   has : has_rows kind ≡ true
-  many : are_as_many (slots_of_kind kind) texts ≡ true
-  numbers : numbers_of_kind (row_source number) kind texts ≡ Ok zs
+  many : are_as_many words_of_programs (slots_of_kind kind) texts ≡ true
+  numbers : numbers_of_kind (row_source words_of_programs number) kind texts ≡ Ok zs
 
-means_read : (number : ℕ) (name : List ℕ) (texts : Texts) (kind k : Kind) (zs : List ℤ) (r : Result (List ℤ) RowError) → kind_named name ≡ Some k → has_rows k ≡ true → are_as_many (slots_of_kind k) texts ≡ true
-    → numbers_of_kind (row_source number) k texts ≡ r → with_kind k r ≡ Ok (kind, zs) → Means number name texts kind zs
+means_read : (number : ℕ) (name : List ℕ) (texts : Texts) (kind k : Kind) (zs : List ℤ) (r : Result (List ℤ) RowError) → kind_named name ≡ Some k → has_rows k ≡ true → are_as_many words_of_programs (slots_of_kind k) texts ≡ true
+    → numbers_of_kind (row_source words_of_programs number) k texts ≡ r → with_kind k r ≡ Ok (kind, zs) → Means number name texts kind zs
 means_read number name texts kind k zs (Err e) named has many numbers h = absurd cc
 means_read number name texts kind k zs (Ok ys) named has many numbers h =
     let both : (k, ys) ≡ (kind, zs) = cc in
@@ -383,19 +383,19 @@ means_read number name texts kind k zs (Ok ys) named has many numbers h =
     record {
       named = named ∙ ap (λ (x : Kind). Some x) is;
       has = ap has_rows (sym is) ∙ has;
-      many = ap (λ (x : Kind). are_as_many (slots_of_kind x) texts) (sym is) ∙ many;
-      numbers = ap (λ (x : Kind). numbers_of_kind (row_source number) x texts) (sym is) ∙ (numbers ∙ ap (λ (xs : List ℤ). Ok xs) all);
+      many = ap (λ (x : Kind). are_as_many words_of_programs (slots_of_kind x) texts) (sym is) ∙ many;
+      numbers = ap (λ (x : Kind). numbers_of_kind (row_source words_of_programs number) x texts) (sym is) ∙ (numbers ∙ ap (λ (xs : List ℤ). Ok xs) all);
     }
 
-means_counted : (number : ℕ) (name : List ℕ) (texts : Texts) (kind k : Kind) (zs : List ℤ) (b : Bool) → kind_named name ≡ Some k → has_rows k ≡ true → are_as_many (slots_of_kind k) texts ≡ b
-    → (if b then with_kind k (numbers_of_kind (row_source number) k texts) else Err (refused number 0 WrongCount)) ≡ Ok (kind, zs) → Means number name texts kind zs
-means_counted number name texts kind k zs true named has many h = means_read number name texts kind k zs (numbers_of_kind (row_source number) k texts) named has many refl h
+means_counted : (number : ℕ) (name : List ℕ) (texts : Texts) (kind k : Kind) (zs : List ℤ) (b : Bool) → kind_named name ≡ Some k → has_rows k ≡ true → are_as_many words_of_programs (slots_of_kind k) texts ≡ b
+    → (if b then with_kind k (numbers_of_kind (row_source words_of_programs number) k texts) else Err (refused number 0 WrongCount)) ≡ Ok (kind, zs) → Means number name texts kind zs
+means_counted number name texts kind k zs true named has many h = means_read number name texts kind k zs (numbers_of_kind (row_source words_of_programs number) k texts) named has many refl h
 means_counted number name texts kind k zs false named has many h = absurd cc
 
 means_of_kind : (number : ℕ) (name : List ℕ) (texts : Texts) (kind k : Kind) (zs : List ℤ) (b : Bool) → kind_named name ≡ Some k → has_rows k ≡ b
     → (if b then row_of_kind number k texts else Err (refused number 1 UnknownKind)) ≡ Ok (kind, zs) → Means number name texts kind zs
 unfolding row_of_kind
-means_of_kind number name texts kind k zs true named has h = means_counted number name texts kind k zs (are_as_many (slots_of_kind k) texts) named has refl h
+means_of_kind number name texts kind k zs true named has h = means_counted number name texts kind k zs (are_as_many words_of_programs (slots_of_kind k) texts) named has refl h
 means_of_kind number name texts kind k zs false named has h = absurd cc
 
 means_named : (number : ℕ) (name : List ℕ) (texts : Texts) (kind : Kind) (zs : List ℤ) (o : Option Kind) → kind_named name ≡ o → row_of number (name ∷ texts) o ≡ Ok (kind, zs) → Means number name texts kind zs
@@ -490,27 +490,27 @@ rest_named : (number place : ℕ) (texts : Texts) (r : Result ℤ Malformed) →
 rest_named number place texts (Ok z) = tt
 rest_named number place texts (Err e) = refl
 
-first_named : (number place : ℕ) (form : Form) (texts : Texts) → IsNamed number (first_number number place form texts)
+first_named : (number place : ℕ) (form : Form) (texts : Texts) → IsNamed number (first_number words_of_programs number place form texts)
 first_named number place form [] = refl
-first_named number place form (text ∷ texts) = rest_named number place texts (number_in form text)
+first_named number place form (text ∷ texts) = rest_named number place texts (number_in words_of_programs form text)
 
 then_named : {A B : Type 0} (number : ℕ) (first : Result A RowError) (more : A → Result B RowError) → IsNamed number first → ((x : A) → IsNamed number (more x)) → IsNamed number (and_then first more)
 then_named number (Ok x) more h k = k x
 then_named number (Err e) more h k = h
 
 led_named : (number most : ℕ) (slot : Slot) (slots : List Slot) (earlier : List ℤ) (texts : Texts) (found : Found Texts) (b : Bool)
-    → IsNamed number (numbers_from (row_source number) most (after (slot ∷ slots) found.number) (found.number ∷ earlier) found.rest)
-    → IsNamed number (led_to (row_source number) most (slot ∷ slots) earlier texts found b)
+    → IsNamed number (numbers_from (row_source words_of_programs number) most (after (slot ∷ slots) found.number) (found.number ∷ earlier) found.rest)
+    → IsNamed number (led_to (row_source words_of_programs number) most (slot ∷ slots) earlier texts found b)
 led_named number most slot slots earlier texts found false h = refl
 led_named number most slot slots earlier texts found true h =
-    then_named number (numbers_from (row_source number) most (after (slot ∷ slots) found.number) (found.number ∷ earlier) found.rest) (λ zs. Ok (found.number ∷ zs)) h (λ zs. tt)
+    then_named number (numbers_from (row_source words_of_programs number) most (after (slot ∷ slots) found.number) (found.number ∷ earlier) found.rest) (λ zs. Ok (found.number ∷ zs)) h (λ zs. tt)
 
-numbers_named : (number most : ℕ) (slots : List Slot) (earlier : List ℤ) (texts : Texts) → IsNamed number (numbers_from (row_source number) most slots earlier texts)
+numbers_named : (number most : ℕ) (slots : List Slot) (earlier : List ℤ) (texts : Texts) → IsNamed number (numbers_from (row_source words_of_programs number) most slots earlier texts)
 unfolding numbers_from
 numbers_named number most [] earlier texts = tt
 numbers_named number zero (slot ∷ slots) earlier texts = refl
 numbers_named number (suc most) (slot ∷ slots) earlier texts =
-    then_named number (first_number number (length earlier + 2) slot.line.form texts) (λ found. led_to (row_source number) most (slot ∷ slots) earlier texts found (fits slot.line.limit earlier found.number))
+    then_named number (first_number words_of_programs number (length earlier + 2) slot.line.form texts) (λ found. led_to (row_source words_of_programs number) most (slot ∷ slots) earlier texts found (fits slot.line.limit earlier found.number))
     (first_named number (length earlier + 2) slot.line.form texts)
     (λ found. led_named number most slot slots earlier texts found (fits slot.line.limit earlier found.number) (numbers_named number most (after (slot ∷ slots) found.number) (found.number ∷ earlier) found.rest))
 
@@ -519,14 +519,14 @@ with_kind_named number kind (Ok zs) h = tt
 with_kind_named number kind (Err e) h = h
 
 counted_named : (number : ℕ) (kind : Kind) (texts : Texts) (b : Bool)
-    → IsNamed number (if b then with_kind kind (numbers_of_kind (row_source number) kind texts) else Err (refused number 0 WrongCount))
+    → IsNamed number (if b then with_kind kind (numbers_of_kind (row_source words_of_programs number) kind texts) else Err (refused number 0 WrongCount))
 counted_named number kind texts true =
-    with_kind_named number kind (numbers_of_kind (row_source number) kind texts) (numbers_named number most_numbers (slots_of_kind kind) [] texts)
+    with_kind_named number kind (numbers_of_kind (row_source words_of_programs number) kind texts) (numbers_named number most_numbers (slots_of_kind kind) [] texts)
 counted_named number kind texts false = refl
 
 of_kind_named : (number : ℕ) (kind : Kind) (texts : Texts) (b : Bool) → IsNamed number (if b then row_of_kind number kind texts else Err (refused number 1 UnknownKind))
 unfolding row_of_kind
-of_kind_named number kind texts true = counted_named number kind texts (are_as_many (slots_of_kind kind) texts)
+of_kind_named number kind texts true = counted_named number kind texts (are_as_many words_of_programs (slots_of_kind kind) texts)
 of_kind_named number kind texts false = refl
 
 row_of_named : (number : ℕ) (row : Texts) (o : Option Kind) → IsNamed number (row_of number row o)

@@ -24,7 +24,7 @@ use Rattle.filing_kinds.specs.Kinds.{words_of_programs}
 use Rattle.field_table.specs.declared.field.Form.{Form}
 use Rattle.field_table.specs.declared.field.Form.TheVariants.{Cents, Day, Word}
 use Rattle.filing_numbers.specs.Numbers.{day_number}
-use Rattle.desk_forms.specs.Fields.{number_in}
+use Rattle.field_rows.specs.Fields.{number_in}
 use Rattle.headline.proofs.KeptBytes.{value}
 use Rattle.headline.specs.Written.{IsDateOf, Number, Spells, whole, ranged, money, day, word}
 
@@ -66,13 +66,13 @@ before f (Ok n) z h = (n, refl, cc)
 before f (Err e) z h = absurd cc
 
 -- ---- cents
-cents_spelled : (text : List ℕ) (n : ℕ) → number_in Cents text ≡ Ok (pos n) → text ≡ cents_text n
+cents_spelled : (text : List ℕ) (n : ℕ) → number_in words_of_programs Cents text ≡ Ok (pos n) → text ≡ cents_text n
 cents_spelled text n h =
     let read = before (λ n. pos n) (cents_up_to 99999999 (cents_of text)) (pos n) h in
     let same : read.0 ≡ n = omega (arith, ints, read.2) in
     (((IsCentsReading-cents_up_to 99999999 text).ok read.0).0 read.1).0 ∙ ap cents_text same
 
-cents_read : (text : List ℕ) (n : ℕ) → pos n ≤ℤ pos 99999999 → text ≡ cents_text n → number_in Cents text ≡ Ok (pos n)
+cents_read : (text : List ℕ) (n : ℕ) → pos n ≤ℤ pos 99999999 → text ≡ cents_text n → number_in words_of_programs Cents text ≡ Ok (pos n)
 cents_read text n high h =
     let most : n ≤ 99999999 = omega (arith, ints, high) in
     ap (result_map_both (λ n. pos n) (λ e. e)) (((IsCentsReading-cents_up_to 99999999 text).ok n).1 (h, most))
@@ -115,12 +115,12 @@ text_of-date text d within h =
 same_day : (m n : ℕ) → day_number m ≡ day_number n → m ≡ n
 same_day m n h = omega (arith, ints, h)
 
-day_spelled : (text : List ℕ) (d : ℕ) → number_in Day text ≡ Ok (day_number d) → IsDateOf d text
+day_spelled : (text : List ℕ) (d : ℕ) → number_in words_of_programs Day text ≡ Ok (day_number d) → IsDateOf d text
 day_spelled text d h =
     let read = before day_number (day_in text) (day_number d) h in
     date_of-text text d (((IsDayReading-day_in text).ok d).0 (read.1 ∙ ap Ok (same_day read.0 d read.2)))
 
-day_read : (text : List ℕ) (d : ℕ) → IsDay (day_number d) → IsDateOf d text → number_in Day text ≡ Ok (day_number d)
+day_read : (text : List ℕ) (d : ℕ) → IsDay (day_number d) → IsDateOf d text → number_in words_of_programs Day text ≡ Ok (day_number d)
 day_read text d within h = ap (result_map_both day_number (λ e. e)) (((IsDayReading-day_in text).ok d).1 (text_of-date text d within h))
 
 -- ---- words
@@ -128,14 +128,14 @@ place_of : (o : Option ℕ) (z : ℤ) → ok_or (option_map (λ place. pos place
 place_of None z h = absurd cc
 place_of (Some n) z h = (n, refl, cc)
 
-word_spelled : (text : List ℕ) (p : ProgramOf) → number_in Word text ≡ Ok (pos (rank p)) → text ≡ get_or words_of_programs (rank p) []
+word_spelled : (text : List ℕ) (p : ProgramOf) → number_in words_of_programs Word text ≡ Ok (pos (rank p)) → text ≡ get_or words_of_programs (rank p) []
 word_spelled text p h =
     let place = place_of (position (λ word. bytes_eq word text) words_of_programs) (pos (rank p)) h in
     let same : place.0 ≡ rank p = omega (arith, ints, place.2) in
     let there = (position-Some (λ word. bytes_eq word text) words_of_programs place.0 [] place.1).1 in
     sym ((bytes_eq-Decides (get_or words_of_programs place.0 []) text).0 there) ∙ ap (λ (n : ℕ). get_or words_of_programs n []) same
 
-its_word : (p : ProgramOf) → number_in Word (get_or words_of_programs (rank p) []) ≡ Ok (pos (rank p))
+its_word : (p : ProgramOf) → number_in words_of_programs Word (get_or words_of_programs (rank p) []) ≡ Ok (pos (rank p))
 its_word Unsub = refl
 its_word Sub = refl
 its_word Plus = refl
@@ -145,7 +145,7 @@ its_word Teach = refl
 
 -- ---- in any form
 -- a text that is read as the number spells it
-pub read_spells : (n : Number) (form : Form) (text : List ℕ) → has_form n form ≡ true → number_in form text ≡ Ok (value n) → Spells n text
+pub read_spells : (n : Number) (form : Form) (text : List ℕ) → has_form n form ≡ true → number_in words_of_programs form text ≡ Ok (value n) → Spells n text
 read_spells (money cents) Cents text f h = cents_spelled text cents h
 read_spells (money cents) _ text f h = absurd cc
 read_spells (day d) Day text f h = day_spelled text d h
@@ -159,12 +159,12 @@ read_spells (whole width z) _ text f h = whole_spelled text z h
 read_spells (ranged width low high n) _ text f h = whole_spelled text (pos n) h
 
 -- and one that spells it is read so
-pub spelled_reads : (n : Number) (form : Form) (text : List ℕ) → has_form n form ≡ true → least n ≤ℤ value n → value n ≤ℤ greatest n → Spells n text → number_in form text ≡ Ok (value n)
+pub spelled_reads : (n : Number) (form : Form) (text : List ℕ) → has_form n form ≡ true → least n ≤ℤ value n → value n ≤ℤ greatest n → Spells n text → number_in words_of_programs form text ≡ Ok (value n)
 spelled_reads (money cents) Cents text f low high h = cents_read text cents high h
 spelled_reads (money cents) _ text f low high h = absurd cc
 spelled_reads (day d) Day text f low high h = day_read text d (low, high) h
 spelled_reads (day d) _ text f low high h = absurd cc
-spelled_reads (word program) Word text f low high h = ap (number_in Word) h ∙ its_word program
+spelled_reads (word program) Word text f low high h = ap (number_in words_of_programs Word) h ∙ its_word program
 spelled_reads (word program) _ text f low high h = absurd cc
 spelled_reads _ Cents text f low high h = absurd cc
 spelled_reads _ Day text f low high h = absurd cc

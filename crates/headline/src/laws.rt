@@ -3,7 +3,7 @@ ghost use Rattle.std.specs.Prelude.{◌≡◌, ℕ, List, Result};
 ghost use Rattle.aid_filings.specs.declared.filing.Filing.{Filing};
 ghost use Rattle.aid_filings.specs.declared.reply.Ask.{Ask};
 ghost use Rattle.desk_forms.specs.Rows.{row_meaning};
-ghost use Rattle.desk_forms.specs.declared.error.RowError.{RowError};
+ghost use Rattle.field_rows.specs.declared.error.RowError.{RowError};
 ghost use Rattle.headline.specs.Office.{Answered, Recovers};
 ghost use Rattle.kept_office.specs.Recovers.{Recovers as KeptRecovers};
 ghost use Rattle.kept_office.specs.Turns.{office_judging};

@@ -2,7 +2,7 @@
 ghost use Rattle.std.specs.Prelude.{◌≡◌, ◌↔◌, ℕ, List, Ok, Err};
 ghost use Rattle.aid_filings.specs.declared.filing.Filing.{Filing};
 ghost use Rattle.desk_forms.specs.Rows.{row_meaning};
-ghost use Rattle.desk_forms.specs.declared.error.RowError.{RowError};
+ghost use Rattle.field_rows.specs.declared.error.RowError.{RowError};
 ghost use Rattle.filing_numbers.specs.Numbers.{IsFiling, kind_of, numbers_of};
 ghost use Rattle.headline.specs.Written.{Files};
 

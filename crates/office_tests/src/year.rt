@@ -6,7 +6,8 @@ ghost use Rattle.office_history.specs.Answer.{answer_of};
 use aid_filings::{Ask, Filing, Verdict, What};
 use aid_types::Program::{self, Pell, Unsub};
 use aid_types::{School, Student, Year};
-use desk_forms::{Rows, book_filing, put_answer};
+use desk_forms::{FilingForm, book_filing, put_answer};
+use field_rows::TextRows;
 use office_answers::{answer, quote, standing};
 use office_core::Office;
 use plain_list::{Plain, is_legal};
@@ -50,7 +51,7 @@ fn by_index_and_list<L: Ledger>(rt: &impl Abort, alloc: Global, blank: Blank) ->
     lines.clear();
     let text = YEAR_ROWS.as_bytes().to_vec(alloc)?;
     assert!(rt; text.len() <= 10_000);
-    let mut rows = Rows::new(alloc, text);
+    let mut rows = TextRows::<FilingForm>::new(alloc, text);
     for row in 1..=20 {
         let Some(Ok(filing)) = rows.next()? else {
             return Err(Fail::new("no row"));

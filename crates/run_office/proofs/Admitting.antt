@@ -10,7 +10,7 @@ use Rattle.aid_filings.specs.declared.reply.Outcome.{Outcome}
 use Rattle.aid_filings.specs.declared.reply.Verdict.{Verdict}
 use Rattle.aid_filings.specs.declared.reply.Verdict.TheVariants as verdict
 use Rattle.desk_forms.specs.Rows.{meanings_from, row_meaning}
-use Rattle.desk_forms.specs.declared.error.RowError.{RowError}
+use Rattle.field_rows.specs.declared.error.RowError.{RowError}
 use Rattle.headline.specs.AtOnce.{Admitted, row_at}
 use Rattle.headline.specs.AtOnce as many
 use Rattle.headline.specs.Filed.{Row}

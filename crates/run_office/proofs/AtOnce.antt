@@ -6,7 +6,7 @@ use Rattle.aid_edges.specs.declared.source.Source.{Ghosts as SourceGhosts}
 use Rattle.aid_edges.specs.declared.sink.Sink.{Ghosts as SinkGhosts}
 use Rattle.aid_filings.specs.declared.filing.Filing.{Filing}
 use Rattle.desk_forms.specs.Rows.{meanings_from}
-use Rattle.desk_forms.specs.declared.error.RowError.{RowError}
+use Rattle.field_rows.specs.declared.error.RowError.{RowError}
 use Rattle.disk_model.specs.Telling.{EachImage, EachMoment, IsHonest}
 use Rattle.disk_model.specs.declared.disk.Disk.{Ghosts}
 use Rattle.disk_model.proofs.Moments.{started, weaken}

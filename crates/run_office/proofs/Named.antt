@@ -7,7 +7,7 @@ use Rattle.std.specs.List.{flat_map}
 use Rattle.std.specs.Prelude.{Contains}
 use Rattle.aid_filings.specs.declared.filing.Filing.{Filing}
 use Rattle.aid_filings.specs.declared.reply.Ask.{Ask}
-use Rattle.desk_forms.specs.declared.error.RowError.{RowError}
+use Rattle.field_rows.specs.declared.error.RowError.{RowError}
 use Rattle.office_lock.specs.Passes.{IsOlder, Known, numbered}
 use Rattle.office_lock.specs.declared.turned.Stand.{Stand}
 use Rattle.kept_desks.specs.Answered.{Answer, Ends, Follows}

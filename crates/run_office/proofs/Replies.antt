@@ -7,7 +7,7 @@ use Rattle.std.proofs.lemmas.List.Folds.{list_any_at}
 use Rattle.aid_filings.specs.declared.filing.Filing.{Filing}
 use Rattle.aid_filings.specs.declared.reply.Ask.{Ask}
 use Rattle.desk_forms.specs.Rows.{meanings_from, row_meaning}
-use Rattle.desk_forms.specs.declared.error.RowError.{RowError}
+use Rattle.field_rows.specs.declared.error.RowError.{RowError}
 use Rattle.headline.specs.AtOnce.{DeskText, DeskTexts, Replies}
 use Rattle.headline.specs.AtOnce as many
 use Rattle.headline.specs.Filed.{IsFault, Row}

@@ -8,7 +8,7 @@ use Rattle.aid_filings.specs.declared.reply.Verdict.{Verdict}
 use Rattle.award_rounds.specs.Planned.{IsPlanned}
 use Rattle.award_rounds.specs.declared.request.RoundRequest.{RoundRequest}
 use Rattle.desk_forms.specs.Lines.{error_line}
-use Rattle.desk_forms.specs.declared.error.RowError.{RowError}
+use Rattle.field_rows.specs.declared.error.RowError.{RowError}
 use Rattle.kept_list.specs.Texts.{Texts}
 use Rattle.run_words.specs.declared.command.Command.{Command}
 use Rattle.run_words.specs.declared.command.Command.TheVariants.{Fund}

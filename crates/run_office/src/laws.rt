@@ -2,7 +2,7 @@
 ghost use Rattle.std.specs.Prelude.{◌≡◌, ◌+◌, ◌<◌, ◌≤◌, ℕ, List, Some, Contains, get_or, length};
 ghost use Rattle.aid_filings.specs.declared.filing.Filing.{Filing};
 ghost use Rattle.aid_filings.specs.declared.reply.Ask.{Ask};
-ghost use Rattle.desk_forms.specs.declared.error.RowError.{RowError};
+ghost use Rattle.field_rows.specs.declared.error.RowError.{RowError};
 ghost use Rattle.kept_desks.specs.Answered.{Answer};
 ghost use Rattle.kept_list.specs.Names.{entries_of};
 ghost use Rattle.kept_list.specs.declared.names.Filed.{Filed};

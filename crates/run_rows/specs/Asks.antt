@@ -9,7 +9,7 @@ use Rattle.desk_forms.specs.BookLines.{book_error_line}
 use Rattle.desk_forms.specs.BookRows.{book_meaning, book_said}
 use Rattle.desk_forms.specs.Lines.{error_line}
 use Rattle.desk_forms.specs.Rows.{meanings}
-use Rattle.desk_forms.specs.declared.error.RowError.{RowError}
+use Rattle.field_rows.specs.declared.error.RowError.{RowError}
 use Rattle.filing_kinds.specs.declared.kind.Kind.{Kind}
 use Rattle.filing_numbers.specs.Numbers.{kind_of, numbers_of}
 use Rattle.kept_list.specs.Texts.{Texts}

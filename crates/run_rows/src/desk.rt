@@ -1,6 +1,7 @@
 // The rows that the desks file.
 use aid_filings::{Ask, Filing, Verdict};
-use desk_forms::{RowError, put_answer, put_error, put_fine};
+use desk_forms::{FilingForm, put_answer, put_error, put_fine};
+use field_rows::{RowError, TextRows};
 use filing_rules::MOST_FILINGS;
 use kept_list::{Docket, Forms, Rows};
 use std::alloc::{AllocError, Global};
@@ -8,7 +9,7 @@ use std::alloc::{AllocError, Global};
 /// The rows of a text that weren't filed yet.
 #[derive(Drop)]
 pub struct DeskRows {
-    rows: desk_forms::Rows,
+    rows: TextRows<FilingForm>,
 }
 
 impl<R: Docket<Ask = Ask, Verdict = Verdict>> Rows<R> for DeskRows {
@@ -67,7 +68,7 @@ impl<R: Docket<Ask = Ask, Verdict = Verdict>> Forms<R> for DeskForms {
 
     fn read(&self, alloc: Global, text: Vec<u8>) -> Result<DeskRows, AllocError> {
         Ok(DeskRows {
-            rows: desk_forms::Rows::new(alloc, text),
+            rows: TextRows::new(alloc, text),
         })
     }
 

@@ -1,6 +1,7 @@
 // A quote that is asked.
 use aid_filings::{Ask, Verdict};
-use desk_forms::{RowError, put_error, put_quote};
+use desk_forms::{put_error, put_quote};
+use field_rows::RowError;
 use filing_rules::MOST_FILINGS;
 use kept_list::{Docket, Rows};
 use run_words::QuoteRequest;

@@ -1,0 +1,20 @@
+//! Rows of a text, each read by a form.
+#![tactic(auto)]
+
+mod count;
+mod error;
+mod field;
+mod form;
+mod laws;
+mod row;
+mod rows;
+mod table_form;
+
+pub use count::has_fields;
+pub use error::{Cause, RowError};
+pub use field::number_in;
+pub use form::RowForm;
+pub use laws::one_text;
+pub use row::{entry_of_row, numbers_of};
+pub use rows::TextRows;
+pub use table_form::{RowSaid, TableForm};
