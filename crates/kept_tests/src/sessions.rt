@@ -2,7 +2,7 @@
 use crate::{AllNumbers, ByteForms, Rising, file_numbers};
 use aid_edges::{MemorySink, SteadySource};
 use disk_model::MemoryDisk;
-use kept_session::{Tally, check, found, write_report};
+use kept_session::{CheckTally, check, found, write_report};
 use std::test::Fail;
 
 #[test]
@@ -54,7 +54,7 @@ fn numbers_are_looked_at(rt: HostRuntime) -> Result<(), Fail> {
         &mut source,
         &mut sink,
     )?;
-    assert_eq!(rt; tally, Tally { rows: 4, errors: 1 });
+    assert_eq!(rt; tally, CheckTally { rows: 4, errors: 1 });
     let lines: &[u8] = b"fine\nfine\nno number\nfine\n";
     assert_eq!(rt; sink.text(), lines);
     Ok(())

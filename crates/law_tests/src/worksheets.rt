@@ -21,6 +21,8 @@ const SHEETS: [(u32, u32, u64, u64, u64, (u16, u64, u64, u64)); 10] = [
 #[test]
 fn worksheets(rt: HostRuntime) {
     for (completed, total, charges, net, could, wanted) in SHEETS {
+        assert!(rt; 0 < completed && completed <= total && total <= 1_000);
+        assert!(rt; charges < 100_000_000 && net < 100_000_000 && could < 100_000_000);
         let inputs = Inputs {
             completed,
             total,

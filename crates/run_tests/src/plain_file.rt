@@ -47,12 +47,11 @@ impl Disk for PlainFile {
     }
 
     fn write_at(&mut self, at: u64, bytes: &[u8]) -> Result<(), Failed> {
-        let Some(rest) = self.bytes.get_mut(at as usize..) else {
-            return Err(self.fault());
-        };
-        let n = rest.len().min(bytes.len());
-        rest[..n].copy_from_slice(&bytes[..n]);
-        match self.bytes.extend_from_slice(&bytes[n..]) {
+        let from = self.bytes.len().min(at as usize);
+        let over = (self.bytes.len() - from).min(bytes.len());
+        let kept = &mut self.bytes.as_mut_slice()[from..];
+        kept[..over].copy_from_slice(&bytes[..over]);
+        match self.bytes.extend_from_slice(&bytes[over..]) {
             Ok(()) => Ok(()),
             Err(_) => Err(self.fault()),
         }

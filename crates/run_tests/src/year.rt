@@ -172,7 +172,7 @@ fn generated_years(rt: HostRuntime) -> Result<(), Fail> {
     Ok(())
 }
 
-// A year that is generated again pays nobody a second time.
+// A year that is generated again pays nobody a second time. A return of nothing has a day too, on which it would be due.
 const GENERATED: [&[Run]; 3] = [
     &[
         (
@@ -206,6 +206,12 @@ const GENERATED: [&[Run]; 3] = [
             BOOK_TEXT,
             0,
             "accepted 74\nrefused 0\npell 0.00\nreturned 0.00\n",
+        ),
+        (
+            "report returns 2025",
+            "",
+            0,
+            "   103           10 1 100.0         0.00         0.00         0.00 2025-12-24\nrows 1\n",
         ),
     ],
     &[
