@@ -1,24 +1,24 @@
 -- What the connections of all desks were told, of the list at the end.
-use Rattle.std.proofs.Common.{◌≡◌, ◌⊎◌, inl, inr, ⊎_elim, ℕ, suc, ◌+◌, ◌<◌, IsTrue, List, [], ◌∷◌, ◌++◌, Option, Some, length, get_or, subst, arith}
+use Rattle.std.proofs.Common.{◌≡◌, ◌⊎◌, inl, inr, ⊎_elim, ℕ, zero, suc, ◌+◌, ◌<◌, ◌≤◌, IsTrue, List, [], ◌∷◌, ◌++◌, Option, Some, length, get_or, sym, subst, arith, zero-lt-suc}
 use Rattle.std.specs.Prelude.{Contains}
-use Rattle.std.specs.List.{flat_map}
+use Rattle.std.specs.List.{flat_map, sum_by}
 use Rattle.std.proofs.lemmas.List.Elements.{Contains-append_cases}
 use Rattle.std.proofs.lemmas.List.Sorted.{Contains-permutation}
+use Rattle.std.proofs.lemmas.List.Sums.{sum_by-cons}
 use Rattle.kept_list.specs.Scheme.{Judging}
 use Rattle.kept_list.specs.Turns.{is_fault}
 use Rattle.kept_list.specs.declared.reply.ListReply.{ListReply}
 use Rattle.office_lock.specs.declared.turned.Stand.{Stand}
 use Rattle.office_lock.specs.Passes.{IsOlder, numbered}
-use Rattle.kept_desks.specs.Desks.{left_in, mine_in, seen_in, settled_in}
+use Rattle.office_lock.specs.Turning.{RoseBy}
+use Rattle.kept_desks.specs.Desks.{faults_in, left_in, mine_in, seen_in, settled_in}
 use Rattle.kept_list.specs.Names.{entries_of}
 use Rattle.kept_list.specs.declared.names.Filed.{Filed}
 use Rattle.kept_desks.proofs.Turning.{entries_older}
 use Rattle.web_desk.specs.Asks.{Scheme}
-use Rattle.web_desk.specs.Exchange.{Judge}
-use Rattle.web_desk.specs.Heads.{IsJudge}
 use Rattle.web_desk.specs.declared.status.Status.TheVariants.{Unavailable}
-use Rattle.kept_web.specs.AllTold.{EachIsBrought, EachIsTold}
-use Rattle.kept_web.specs.Closed.{IsBroughtBy}
+use Rattle.kept_web.specs.AllTold.{AllHonest, AreCounted, EachIsBrought, EachIsTold, all_unavailable, below_suc, sum_below}
+use Rattle.kept_web.specs.Closed.{IsBroughtBy, times_unavailable}
 use Rattle.web_edges.specs.Ports.{PortTelling}
 use Rattle.kept_web.specs.Workers.{HasServed, WebView}
 use Rattle.kept_web.proofs.Closing.{told_sessions}
@@ -36,17 +36,31 @@ in_one {X} f (x ∷ xs) a has = pick (in_one f xs a) (Contains-append_cases (f x
 none_in : {X : Type 0} (xs : List X) (x : X) → xs ≡ [] → Contains xs x → ⊥
 none_in xs x none has = let bad : Contains [] x = subst (λ l. Contains l x) none has in omega (arith, bad.1)
 
-module _ {Entry Ask Verdict P : Type 0} (judging : Judging Entry Ask Verdict) (own : Ask → Option Entry) (scheme : Scheme Ask (ListReply Verdict)) (own_added : (past : List Entry) (ask : Ask) (entry : Entry) → judging.added past ask ≡ Some entry → own ask ≡ Some entry) (unavailable : (said : ListReply Verdict) → scheme.status said ≡ Unavailable → IsTrue (is_fault said)) (tells : P → PortTelling) (faults : P → ℕ) (limit : ℕ) (opening closed : Stand (Filed Entry)) (before after : List (WebView Entry P)) (served : HasServed judging own scheme tells faults limit opening closed before after) (judge : Judge) (is_judge : IsJudge judge) where
-  pub each_told : EachIsTold judging own scheme tells faults limit opening closed before after served judge
+-- numbers that are no greater than those of a list have no greater sum
+sum_below-le : {X : Type 0} (g : X → ℕ) (d : X) (n : ℕ) (xs : List X) (f : (k : ℕ) → k < n → ℕ) → length xs ≡ n → ((k : ℕ) (below : k < n) → f k below ≤ g (get_or xs k d)) → sum_below n f ≤ sum_by g xs
+sum_below-le g d zero xs f size le = omega arith
+sum_below-le g d (suc n) [] f size le = absurd (omega (arith, size))
+sum_below-le g d (suc n) (x ∷ xs) f size le =
+    let one : f 0 (zero-lt-suc n) ≤ g x = le 0 (zero-lt-suc n) in
+    let more = sum_below-le g d n xs (λ k below. f (suc k) (below_suc k n below)) (omega (arith, size)) (λ k below. le (suc k) (below_suc k n below)) in
+    omega (arith, one, more, sum_by-cons g x xs)
+
+rose_less : (m n old new : ℕ) → m ≤ n → RoseBy n old new → RoseBy m old new
+rose_less m n old new le (inl rose) = inl (omega (arith, le, rose))
+rose_less m n old new le (inr last) = inr last
+
+module _ {Entry Ask Verdict P : Type 0} (judging : Judging Entry Ask Verdict) (own : Ask → Option Entry) (scheme : Scheme Ask (ListReply Verdict)) (own_added : (past : List Entry) (ask : Ask) (entry : Entry) → judging.added past ask ≡ Some entry → own ask ≡ Some entry) (unavailable : (said : ListReply Verdict) → scheme.status said ≡ Unavailable → IsTrue (is_fault said)) (tells : P → PortTelling) (faults : P → ℕ) (limit : ℕ) (opening closed : Stand (Filed Entry)) (before after : List (WebView Entry P)) (served : HasServed judging own scheme tells faults limit opening closed before after) where
+  pub each_told : EachIsTold judging own scheme tells faults limit opening closed before after served
   each_told k d inside honest =
       let one = served.each k d inside in
       let seen : IsOlder (seen_in (get_or served.desks k d).pass) closed.list = served.ran.seen k d (omega (arith, inside, served.count)) in
       let older : IsOlder one.last.seen closed.list = subst (λ p. IsOlder (seen_in p) closed.list) one.has seen in
-      (told_sessions judging own scheme own_added unavailable judge is_judge (k + 1) _ honest (entries_of closed.list) 1 one.first one.served.sessions one.last (entries_older one.last.seen closed.list older) one.served.each).have
+      (told_sessions judging own scheme own_added unavailable (k + 1) _ honest (entries_of closed.list) 1 one.first one.served.sessions one.last (entries_older one.last.seen closed.list older) one.served.each).have
 
-  module _ (honest : (k : ℕ) (d : WebView Entry P) → k < length before → IsTrue (tells (get_or before k d).port).honest) (entry : ℕ × Filed Entry) where
+  module _ (told : EachIsTold judging own scheme tells faults limit opening closed before after served) (honest : AllHonest tells before) (entry : ℕ × Filed Entry) where
     abbrev IsBrought : Type 0
-    IsBrought = (k : ℕ) × (d : WebView Entry P) × (inside : k < length before) × IsBroughtBy judging own scheme judge (k + 1) 1 (served.each k d inside).served.sessions entry.1
+    IsBrought = (k : ℕ) × (d : WebView Entry P) × (inside : k < length before)
+        × IsBroughtBy judging own scheme (k + 1) (entries_of closed.list) (served.each k d inside).last.mine 1 (served.each k d inside).served.sessions (told k d inside (honest k d inside)).told entry.1
 
     -- the desks are some, since one of them has the entry
     first_of : (k : ℕ) (desks : List (WebView Entry P)) → k < length desks → WebView Entry P
@@ -60,7 +74,7 @@ module _ {Entry Ask Verdict P : Type 0} (judging : Judging Entry Ask Verdict) (o
         let inside : k < length before = omega (arith, lt, served.count) in
         let one = served.each k d inside in
         let there : Contains one.last.mine entry = subst (λ p. Contains (mine_in p) entry) one.has (is d) in
-        (k, d, inside, ⊎_elim (λ old. absurd (none_in one.first.mine entry one.fresh.mine old)) (λ new. new) ((each_told k d inside (honest k d inside)).mine entry there))
+        (k, d, inside, ⊎_elim (λ old. absurd (none_in one.first.mine entry one.fresh.mine old)) (λ new. new) ((told k d inside (honest k d inside)).mine entry there))
 
     of_left : Contains (flat_map (λ (d : WebView Entry P). left_in d.pass) served.desks) entry → IsBrought
     of_left has =
@@ -69,14 +83,30 @@ module _ {Entry Ask Verdict P : Type 0} (judging : Judging Entry Ask Verdict) (o
         let inside : k < length before = omega (arith, lt, served.count) in
         let one = served.each k d inside in
         let there : Contains one.last.left entry = subst (λ p. Contains (left_in p) entry) one.has (is d) in
-        (k, d, inside, ⊎_elim (λ old. absurd (none_in one.first.left entry one.fresh.left old)) (λ new. new) ((each_told k d inside (honest k d inside)).left entry there))
+        (k, d, inside, ⊎_elim (λ old. absurd (none_in one.first.left entry one.fresh.left old)) (λ new. new) ((told k d inside (honest k d inside)).left entry there))
 
     of_either : Contains (flat_map (λ (d : WebView Entry P). mine_in d.pass) served.desks) entry ⊎ Contains (flat_map (λ (d : WebView Entry P). settled_in d.pass) served.desks) entry → IsBrought
     of_either (inl mine) = of_mine mine
     of_either (inr settled) = of_left (served.ran.settled entry settled)
 
-  pub each_brought : EachIsBrought judging own scheme tells faults limit opening closed before after served judge
-  each_brought honest entry has =
-      of_either honest entry
+  pub each_brought : (told : EachIsTold judging own scheme tells faults limit opening closed before after served) → EachIsBrought judging own scheme tells faults limit opening closed before after served told
+  each_brought told honest entry has =
+      of_either told honest entry
       (Contains-append_cases (flat_map (λ (d : WebView Entry P). mine_in d.pass) served.desks) (flat_map (λ (d : WebView Entry P). settled_in d.pass) served.desks) entry
       (Contains-permutation (numbered (length opening.list) served.ran.added) (flat_map (λ (d : WebView Entry P). mine_in d.pass) served.desks ++ flat_map (λ (d : WebView Entry P). settled_in d.pass) served.desks) entry served.ran.once has))
+
+  -- the disk's count of faults rose by all 503
+  pub are_counted : (told : EachIsTold judging own scheme tells faults limit opening closed before after served) → AreCounted judging own scheme tells faults limit opening closed before after served told
+  are_counted told honest d =
+      rose_less (all_unavailable judging own scheme tells faults limit opening closed before after served told honest d) (sum_by (λ (d : WebView Entry P). faults_in d.pass) served.desks) opening.faults closed.faults
+      (sum_below-le (λ (d : WebView Entry P). faults_in d.pass) d (length before) served.desks _ served.count at_most)
+      served.ran.faults
+    where
+      at_most : (k : ℕ) (inside : k < length before)
+          → times_unavailable judging own scheme (k + 1) (entries_of closed.list) (served.each k d inside).last.mine 1 (served.each k d inside).served.sessions (told k d inside (honest k d inside)).told ≤ faults_in (get_or served.desks k d).pass
+      at_most k inside =
+          let one = served.each k d inside in
+          let times = times_unavailable judging own scheme (k + 1) (entries_of closed.list) one.last.mine 1 one.served.sessions (told k d inside (honest k d inside)).told in
+          let le = (told k d inside (honest k d inside)).faults in
+          let fewer : times ≤ one.last.faults = omega (arith, le) in
+          subst (λ p. times ≤ faults_in p) (sym one.has) fewer

@@ -10,8 +10,7 @@ use Rattle.office_lock.specs.Passes.{Known}
 use Rattle.kept_list.specs.declared.names.Filed.{Filed}
 use Rattle.kept_list.specs.declared.names.RowName.{RowName}
 use Rattle.web_desk.specs.Asks.{Scheme}
-use Rattle.web_desk.specs.Exchange.{Judge, Serves}
-use Rattle.web_desk.specs.Heads.{IsJudge}
+use Rattle.web_desk.specs.Exchange.{Serves, ServesNear}
 use Rattle.web_edges.specs.LinkTelling.{IsHonest, Telling}
 use Rattle.web_desk.specs.declared.end.End.{End}
 use Rattle.web_desk.specs.declared.end.End.TheVariants.{LinkFault}
@@ -46,7 +45,7 @@ module _ {Entry Ask Verdict : Type 0} (judging : Judging Entry Ask Verdict) (own
   -- the next connection came, was served and taken back
   pub next_served : (by : RowName) (before after : Known (Filed Entry)) (old mid new : PortTelling) (link link' : Telling) (faults faults' : ℕ) (end : End)
       → mid.honest ≡ old.honest → (IsTrue old.honest → HandsOut old mid link) → faults ≡ 0
-      → ((judge : Judge) → IsJudge judge → IsHonest link → Serves judge (PassAnswers judging own scheme) 10000 link.left (record { by = by; pass = before }) (record { by = by; pass = after }) link.text link'.text end)
+      → (IsHonest link → ServesNear (PassAnswers judging own scheme) 10000 link.left link'.left (record { by = by; pass = before }) (record { by = by; pass = after }) link.text link'.text end)
       → PassReaches judging own scheme (record { by = by; pass = before }) (record { by = by; pass = after })
       → (end ≡ LinkFault → Rose faults faults')
       → new.honest ≡ mid.honest → (IsTrue mid.honest → TakesBack mid new (record { text = link'.text; faults = faults' }))
@@ -54,7 +53,7 @@ module _ {Entry Ask Verdict : Type 0} (judging : Judging Entry Ask Verdict) (own
   next_served by before after old mid new link link' faults faults' end same handed none exchange reached cause same' taken = record {
     session = record { bytes = link.left; text = link'.text; faults = faults'; end = end; after = after };
     is = record {
-      exchange = λ honest judge is. subst (λ t. Serves judge (PassAnswers judging own scheme) 10000 link.left (record { by = by; pass = before }) (record { by = by; pass = after }) t link'.text end) (handed honest).empty (exchange judge is (handed honest).honest);
+      exchange = λ honest. subst (λ t. Serves (PassAnswers judging own scheme) 10000 link.left (record { by = by; pass = before }) (record { by = by; pass = after }) t link'.text end) (handed honest).empty (exchange (handed honest).honest).0;
       reached = reached;
       fault = λ is. subst (λ n. Rose n faults') none (cause is);
     };

@@ -7,3 +7,5 @@ pub mod AllPorts
 pub mod Rejections
 pub mod Closing
 pub mod AllTelling
+pub mod Creating
+pub mod Parts

@@ -23,7 +23,7 @@ use Rattle.web_desk.specs.declared.call.Call.{Call}
 use Rattle.web_desk.specs.declared.status.Status.{Status}
 use Rattle.web_desk.specs.declared.status.Status.TheVariants.{Okay, Created, BadRequest, NotFound, MethodNotAllowed, LengthRequired, ContentTooLarge, Unprocessable, HeadTooLarge, NotImplemented, Unavailable, NoStorage}
 use Rattle.kept_web.specs.Clerks.{Clerking, AsksTurn, PassAnswers, clerk_faults}
-use Rattle.kept_web.specs.Told.{AreAnswersTo, HasTold, IsAnswerTo, IsAvailable, IsOwnOf, IsSaidOf, Rise, ask_by, ask_in, count_unavailable, one_if_unavailable}
+use Rattle.kept_web.specs.Told.{AreAnswersTo, HasTold, IsAnswerTo, IsAvailable, IsOwnOf, IsSaidOf, Rise, ask_by, ask_in, count_unavailable, one_if_unavailable, refusal_of}
 
 -- ---- 503
 not_one : (s : Status) → s ≢ Unavailable → one_if_unavailable s ≡ 0
@@ -78,15 +78,15 @@ module _ {Entry Ask Verdict : Type 0} (judging : Judging Entry Ask Verdict) (own
     said_later ask (reply.DiskFault undecided) of = tt
     said_later ask reply.NoMemory of = tt
 
-    answer_later : (o : Option Ask) (answer : Answer) → IsAnswerTo judging own scheme by seen mine o answer → IsAnswerTo judging own scheme by seen' mine' o answer
-    answer_later None answer is = is
-    answer_later (Some ask) answer (said, is, of) = (said, is, said_later ask said of)
+    answer_later : (refusal : Status) (o : Option Ask) (answer : Answer) → IsAnswerTo judging own scheme by seen mine refusal o answer → IsAnswerTo judging own scheme by seen' mine' refusal o answer
+    answer_later refusal None answer is = is
+    answer_later refusal (Some ask) answer (said, is, of) = (said, is, said_later ask said of)
 
     pub answers_later : (requests : List Request) (answers : List Answer) → AreAnswersTo judging own scheme by seen mine requests answers → AreAnswersTo judging own scheme by seen' mine' requests answers
     answers_later [] [] all = tt
     answers_later [] (answer ∷ answers) all = all
     answers_later (request ∷ requests) [] all = all
-    answers_later (request ∷ requests) (answer ∷ answers) all = (answer_later (ask_in judging own scheme by request) answer all.0, answers_later requests answers all.1)
+    answers_later (request ∷ requests) (answer ∷ answers) all = (answer_later (refusal_of request.head.call) (ask_in judging own scheme by request) answer all.0, answers_later requests answers all.1)
 
   pub own_more : (front requests rest : List Request) (filed : Filed Entry) → IsOwnOf judging own scheme by requests filed → IsOwnOf judging own scheme by (front ++ (requests ++ rest)) filed
   own_more front requests rest filed (request, ask, has, is, same) = (request, ask, Contains-append_right front (requests ++ rest) request (Contains-append_left requests rest request has), is, same)
@@ -132,7 +132,7 @@ module _ {Entry Ask Verdict : Type 0} (judging : Judging Entry Ask Verdict) (own
     pub told_more : HasTold judging own scheme by (request ∷ requests) (answer ∷ answers) before after
     told_more = record {
       each = (
-        answer_later (entries_of mid.seen) (entries_of after.seen) mid.mine after.mine rest.seen (λ entry has. subst (λ l. Contains l entry) (sym rest.mine) (Contains-append_left mid.mine rest.added entry has)) (ask_in judging own scheme by request) answer one.each.0,
+        answer_later (entries_of mid.seen) (entries_of after.seen) mid.mine after.mine rest.seen (λ entry has. subst (λ l. Contains l entry) (sym rest.mine) (Contains-append_left mid.mine rest.added entry has)) (refusal_of request.head.call) (ask_in judging own scheme by request) answer one.each.0,
         rest.each,
       );
       added = one.added ++ rest.added;
@@ -152,10 +152,13 @@ module _ {Entry Ask Verdict : Type 0} (judging : Judging Entry Ask Verdict) (own
   -- ---- one request
   module _ (request : Request) (answer : Answer) where
     -- it asks nobody
-    told_nobody : (before after : Known (Filed Entry)) (status : Status) → ask_in judging own scheme by request ≡ None → answer ≡ failure_of status → (IsAvailable request → status ≢ Unavailable) → after ≡ before → HasTold judging own scheme by (request ∷ []) (answer ∷ []) before after
-    told_nobody before after status none is available same =
+    told_nobody : (before after : Known (Filed Entry)) (status : Status) → ask_in judging own scheme by request ≡ None → refusal_of request.head.call ≡ status → answer ≡ failure_of status → (IsAvailable request → status ≢ Unavailable) → after ≡ before → HasTold judging own scheme by (request ∷ []) (answer ∷ []) before after
+    told_nobody before after status none refused is available same =
         subst (λ a. HasTold judging own scheme by (request ∷ []) (answer ∷ []) before a) (sym same) (record {
-          each = (subst (λ o. IsAnswerTo judging own scheme by (entries_of before.seen) before.mine o answer) (sym none) (status, is), tt);
+          each = (
+            subst (λ o. IsAnswerTo judging own scheme by (entries_of before.seen) before.mine (refusal_of request.head.call) o answer) (sym none) (is ∙ ap failure_of (sym refused)),
+            tt,
+          );
           added = [];
           mine = sym (append-nil before.mine);
           rise = omega arith;
@@ -187,7 +190,7 @@ module _ {Entry Ask Verdict : Type 0} (judging : Judging Entry Ask Verdict) (own
         told_said : (said : ListReply Verdict) → answer ≡ record { status = scheme.status said; text = scheme.text said } → Replies Unit judging own by ask said before after → HasTold judging own scheme by (request ∷ []) (answer ∷ []) before after
         told_said (reply.Answered verdict front) is (past, judged, size, on) = record {
           each = (
-            subst (λ o. IsAnswerTo judging own scheme by (entries_of after.seen) after.mine o answer) (sym asks) (
+            subst (λ o. IsAnswerTo judging own scheme by (entries_of after.seen) after.mine (refusal_of request.head.call) o answer) (sym asks) (
               reply.Answered verdict front,
               is,
               record {
@@ -222,7 +225,7 @@ module _ {Entry Ask Verdict : Type 0} (judging : Judging Entry Ask Verdict) (own
             older_with None past = older_refl past
             older_with (Some e) past = (e ∷ [], refl)
         told_said (reply.DiskFault undecided) is failed = record {
-          each = (subst (λ o. IsAnswerTo judging own scheme by (entries_of after.seen) after.mine o answer) (sym asks) (reply.DiskFault undecided, is, tt), tt);
+          each = (subst (λ o. IsAnswerTo judging own scheme by (entries_of after.seen) after.mine (refusal_of request.head.call) o answer) (sym asks) (reply.DiskFault undecided, is, tt), tt);
           added = [];
           mine = failed.mine ∙ sym (append-nil before.mine);
           rise = let le = older_length (entries_of before.seen) (entries_of after.seen) failed.earlier in omega (arith, le, entries_length before.seen, entries_length after.seen);
@@ -239,7 +242,7 @@ module _ {Entry Ask Verdict : Type 0} (judging : Judging Entry Ask Verdict) (own
             left_now entry (inl had) = inl had
             left_now entry (inr (at, of)) = inr (own_here entry.1 of)
         told_said reply.NoMemory is starved = record {
-          each = (subst (λ o. IsAnswerTo judging own scheme by (entries_of after.seen) after.mine o answer) (sym asks) (reply.NoMemory, is, tt), tt);
+          each = (subst (λ o. IsAnswerTo judging own scheme by (entries_of after.seen) after.mine (refusal_of request.head.call) o answer) (sym asks) (reply.NoMemory, is, tt), tt);
           added = [];
           mine = starved.mine ∙ sym (append-nil before.mine);
           rise = let le = older_length (entries_of before.seen) (entries_of after.seen) starved.earlier in omega (arith, le, entries_length before.seen, entries_length after.seen);
@@ -255,19 +258,19 @@ module _ {Entry Ask Verdict : Type 0} (judging : Judging Entry Ask Verdict) (own
         }
 
       module _ (before after : Clerking Entry) (named : before.by ≡ by) where
-        told_ask : (o : Option Ask) → ask_in judging own scheme by request ≡ o → AnswersAsk scheme (AsksTurn judging own) clerk_faults before o answer after
+        told_ask : (o : Option Ask) → ask_in judging own scheme by request ≡ o → refusal_of request.head.call ≡ BadRequest → AnswersAsk scheme (AsksTurn judging own) clerk_faults before o answer after
             → HasTold judging own scheme by (request ∷ []) (answer ∷ []) before.pass after.pass × (after.by ≡ by)
-        told_ask None none (is, same) =
-            (told_nobody before.pass after.pass BadRequest none is (λ a e. let no : ⊥ = cc in no) (ap (λ (c : Clerking Entry). c.pass) same), ap (λ (c : Clerking Entry). c.by) same ∙ named)
-        told_ask (Some ask) some (said, asked, is) =
+        told_ask None none refused (is, same) =
+            (told_nobody before.pass after.pass BadRequest none refused is (λ a e. let no : ⊥ = cc in no) (ap (λ (c : Clerking Entry). c.pass) same), ap (λ (c : Clerking Entry). c.by) same ∙ named)
+        told_ask (Some ask) some refused (said, asked, is) =
             let turn = asked.step in
             (told_said ask some before.pass after.pass turn.lock turn.share said is (subst (λ n. Replies Unit judging own n ask said before.pass after.pass) named turn.replies), turn.by ∙ named)
 
         told_call : (call : Result Call Status) → request.head.call ≡ call → AnswersCall scheme (AsksTurn judging own) clerk_faults before call request.body answer after
             → HasTold judging own scheme by (request ∷ []) (answer ∷ []) before.pass after.pass × (after.by ≡ by)
         told_call (Err status) at (is, same) =
-            (told_nobody before.pass after.pass status (ap (λ c. ask_by judging own scheme by c request.body) at) is (λ available bad. available (at ∙ ap Err bad)) (ap (λ (c : Clerking Entry). c.pass) same), ap (λ (c : Clerking Entry). c.by) same ∙ named)
-        told_call (Ok call) at asked = told_ask (scheme.ask_of call request.body) (ap (λ c. ask_by judging own scheme by c request.body) at) asked
+            (told_nobody before.pass after.pass status (ap (λ c. ask_by judging own scheme by c request.body) at) (ap refusal_of at) is (λ available bad. available (at ∙ ap Err bad)) (ap (λ (c : Clerking Entry). c.pass) same), ap (λ (c : Clerking Entry). c.by) same ∙ named)
+        told_call (Ok call) at asked = told_ask (scheme.ask_of call request.body) (ap (λ c. ask_by judging own scheme by c request.body) at) (ap refusal_of at) asked
 
   -- ---- a run of requests
   module _ (own_added : (past : List Entry) (ask : Ask) (entry : Entry) → judging.added past ask ≡ Some entry → own ask ≡ Some entry) (unavailable : (said : ListReply Verdict) → scheme.status said ≡ Unavailable → IsTrue (is_fault said)) where

@@ -8,8 +8,7 @@ use Rattle.office_lock.specs.Passes.{Known}
 use Rattle.kept_list.specs.declared.names.Filed.{Filed}
 use Rattle.kept_list.specs.declared.names.RowName.{RowName}
 use Rattle.web_desk.specs.Asks.{Scheme}
-use Rattle.web_desk.specs.Exchange.{Judge, Serves}
-use Rattle.web_desk.specs.Heads.{IsJudge}
+use Rattle.web_desk.specs.Exchange.{Serves}
 use Rattle.web_desk.specs.declared.end.End.{End}
 use Rattle.web_desk.specs.declared.end.End.TheVariants.{LinkFault, NoMemory}
 use Rattle.kept_web.specs.Clerks.{PassAnswers, PassReaches}
@@ -39,8 +38,8 @@ was_starved s = is_starved_end s.end
 -- What was written on a connection is the exchange of its bytes for the turns of the pass, under one name. Of a connection
 -- that isn't honest only the turns are known. A session ends with `LinkFault` only where the connection's count of faults rose.
 pub record IsSession {Entry Ask Verdict : Type 0} (judging : Judging Entry Ask Verdict) (own : Ask → Option Entry) (scheme : Scheme Ask (ListReply Verdict)) (honest : Bool) (by : RowName) (before : Known (Filed Entry)) (s : Session Entry) : Type 0 where
-  pub exchange : IsTrue honest → (judge : Judge) → IsJudge judge
-      → Serves judge (PassAnswers judging own scheme) 10000 s.bytes (record { by = by; pass = before }) (record { by = by; pass = s.after }) [] s.text s.end
+  pub exchange : IsTrue honest
+      → Serves (PassAnswers judging own scheme) 10000 s.bytes (record { by = by; pass = before }) (record { by = by; pass = s.after }) [] s.text s.end
   pub reached : PassReaches judging own scheme (record { by = by; pass = before }) (record { by = by; pass = s.after })
   pub fault : s.end ≡ LinkFault → Rose 0 s.faults
 

@@ -14,7 +14,7 @@ use Rattle.web_desk.specs.Asks.{Scheme, Request}
 use Rattle.web_desk.specs.Responses.{Answer, failure_of}
 use Rattle.web_desk.specs.declared.call.Call.{Call}
 use Rattle.web_desk.specs.declared.status.Status.{Status}
-use Rattle.web_desk.specs.declared.status.Status.TheVariants.{Unavailable}
+use Rattle.web_desk.specs.declared.status.Status.TheVariants.{BadRequest, Unavailable}
 
 -- how many of these answers are 503
 abbrev pub one_if_unavailable : Status → ℕ
@@ -33,6 +33,11 @@ Rise low high (entry ∷ entries) = low < entry.0 × Rise entry.0 high entries
 -- the status that rejects a request's target isn't 503
 abbrev pub IsAvailable : Request → Type 0
 IsAvailable request = request.head.call ≢ Err Unavailable
+
+-- the status of a request that asks nothing: that which rejects its target, or 400
+abbrev pub refusal_of : Result Call Status → Status
+refusal_of (Err status) = status
+refusal_of (Ok call) = BadRequest
 
 module _ {Entry Ask Verdict : Type 0} (judging : Judging Entry Ask Verdict) (own : Ask → Option Entry) (scheme : Scheme Ask (ListReply Verdict)) (by : RowName) where
   -- what a request asks, where it is an ask
@@ -62,17 +67,17 @@ module _ {Entry Ask Verdict : Type 0} (judging : Judging Entry Ask Verdict) (own
   IsSaidOf seen mine ask (reply.DiskFault undecided) = Unit {0}
   IsSaidOf seen mine ask reply.NoMemory = Unit {0}
 
-  -- the answer to a request: that of a reply to its ask, or a status alone where it is none
-  abbrev pub IsAnswerTo : List Entry → List (ℕ × Filed Entry) → Option Ask → Answer → Type 0
-  IsAnswerTo seen mine None answer = (status : Status) × (answer ≡ failure_of status)
-  IsAnswerTo seen mine (Some ask) answer = (said : ListReply Verdict) × (answer ≡ record { status = scheme.status said; text = scheme.text said }) × IsSaidOf seen mine ask said
+  -- the answer to a request: that of a reply to its ask, or this status alone where it asks nothing
+  abbrev pub IsAnswerTo : List Entry → List (ℕ × Filed Entry) → Status → Option Ask → Answer → Type 0
+  IsAnswerTo seen mine refusal None answer = answer ≡ failure_of refusal
+  IsAnswerTo seen mine refusal (Some ask) answer = (said : ListReply Verdict) × (answer ≡ record { status = scheme.status said; text = scheme.text said }) × IsSaidOf seen mine ask said
 
   -- each of these requests has its answer
   abbrev pub AreAnswersTo : List Entry → List (ℕ × Filed Entry) → List Request → List Answer → Type 0
   AreAnswersTo seen mine [] [] = Unit {0}
   AreAnswersTo seen mine [] (answer ∷ answers) = ⊥
   AreAnswersTo seen mine (request ∷ requests) [] = ⊥
-  AreAnswersTo seen mine (request ∷ requests) (answer ∷ answers) = IsAnswerTo seen mine (ask_in request) answer × AreAnswersTo seen mine requests answers
+  AreAnswersTo seen mine (request ∷ requests) (answer ∷ answers) = IsAnswerTo seen mine (refusal_of request.head.call) (ask_in request) answer × AreAnswersTo seen mine requests answers
 
   -- What these requests and answers made of what a pass knows. What it admitted besides is of these requests alone, each entry
   -- once and past the list that it had seen; so is what it left undecided besides. It was told of a fault for each 503.

@@ -1,8 +1,7 @@
 //! One connection is served by the turns of one pass.
 ghost use Rattle.std.specs.Prelude.{◌≡◌, ◌≤◌};
 ghost use Rattle.aid_edges.specs.Faults.{Rose};
-ghost use Rattle.web_desk.specs.Exchange.{Judge, Serves};
-ghost use Rattle.web_desk.specs.Heads.{IsJudge};
+ghost use Rattle.web_desk.specs.Exchange.{ServesNear};
 ghost use Rattle.web_edges.specs.LinkTelling.{IsHonest};
 ghost use Rattle.kept_web.specs.Clerks.{PassAnswers, PassReaches};
 
@@ -71,8 +70,8 @@ pub fn serve_desk<D: Disk, R: OwnDocket, T: WebTexts<R>, L: Link, H: Wait>(
     link: &mut L,
 ) -> (Pass<Filed<R::Entry>>, End)
     requires { pass.lock ≡ turns.now.id }
-    ensures exchange { (judge : Judge) → IsJudge judge → IsHonest (L.tells link.old)
-        → Serves judge (PassAnswers R.judging R.own T.scheme) 10000 (L.tells link.old).left (record { by = by; pass = pass }) (record { by = by; pass = result.0 }) (L.tells link.old).text (L.tells link.new).text result.1 }
+    ensures exchange { IsHonest (L.tells link.old)
+        → ServesNear (PassAnswers R.judging R.own T.scheme) 10000 (L.tells link.old).left (L.tells link.new).left (record { by = by; pass = pass }) (record { by = by; pass = result.0 }) (L.tells link.old).text (L.tells link.new).text result.1 }
     ensures reached { PassReaches R.judging R.own T.scheme (record { by = by; pass = pass }) (record { by = by; pass = result.0 }) }
     ensures later { L.faults link.old ≤ L.faults link.new }
     ensures cause { result.1 ≡ End.LinkFault → Rose (L.faults link.old) (L.faults link.new) }

@@ -1,14 +1,14 @@
 //! What follows from the definitions alone, said of no call. The functions do nothing.
-ghost use Rattle.std.specs.Prelude.{◌≡◌, ℕ, List};
+ghost use Rattle.std.specs.Prelude.{◌≡◌, ℕ, List, length};
 ghost use Rattle.std.specs.List.{All};
 ghost use Rattle.office_lock.specs.declared.turned.Stand.{Stand};
 ghost use Rattle.kept_list.specs.declared.names.Filed.{Filed};
 ghost use Rattle.web_desk.specs.Asks.{Request};
-ghost use Rattle.web_desk.specs.Exchange.{Judge, Run, requests};
-ghost use Rattle.web_desk.specs.Heads.{IsJudge};
+ghost use Rattle.web_desk.specs.Exchange.{Brings, Ending, Run};
 ghost use Rattle.web_desk.specs.Responses.{Answer};
-ghost use Rattle.kept_web.specs.AllTold.{EachIsBrought, EachIsTold};
+ghost use Rattle.kept_web.specs.AllTold.{AreCounted, CreatedStand, EachIsBrought, EachIsTold};
 ghost use Rattle.kept_web.specs.Clerks.{Clerking, PassAnswers};
+ghost use Rattle.kept_web.specs.Closed.{IsBegunBy, IsPart};
 ghost use Rattle.kept_web.specs.Told.{HasTold, IsAvailable};
 ghost use Rattle.kept_web.specs.Workers.{HasServed, WebView};
 
@@ -26,14 +26,35 @@ pub fn told<R: OwnDocket, T: WebTexts<R>>()
 
 /// A request's target isn't rejected by 503, so each 503 tells of a fault of the disk.
 pub fn available()
-    ensures { (judge : Judge) → IsJudge judge → (limit : ℕ) (bytes : List ℕ) → All IsAvailable (requests judge limit bytes) }
+    ensures { (limit : ℕ) (bytes : List ℕ) (requests : List Request) (ending : Ending) → Brings limit bytes requests ending → All IsAvailable requests }
+{}
+
+/// What a session leaves that can't go on begins the exchange of all the bytes, whatever would be answered to the requests
+/// that weren't.
+pub fn part_begins()
+    ensures { (bytes text : List ℕ) (done : List Request) (answers : List Answer) (requests : List Request) (ending : Ending) → IsPart bytes text done answers → length answers ≡ length done → Brings 10000 bytes requests ending
+        → IsBegunBy text done answers requests ending }
 {}
 
 /// What the connections of all desks were told is of the list at the end, and each entry past the opening list is of a
 /// request that one of them brought.
 pub fn all_told<R: OwnDocket, T: WebTexts<R>, P: Port>()
-    ensures told { (limit : ℕ) (opening closed : Stand (Filed R.Entry)) (before after : List (WebView R.Entry P)) (served : HasServed R.judging R.own T.scheme P.tells P.faults limit opening closed before after) (judge : Judge) → IsJudge judge
-        → EachIsTold R.judging R.own T.scheme P.tells P.faults limit opening closed before after served judge }
-    ensures brought { (limit : ℕ) (opening closed : Stand (Filed R.Entry)) (before after : List (WebView R.Entry P)) (served : HasServed R.judging R.own T.scheme P.tells P.faults limit opening closed before after) (judge : Judge) → IsJudge judge
-        → EachIsBrought R.judging R.own T.scheme P.tells P.faults limit opening closed before after served judge }
+    ensures told { (limit : ℕ) (opening closed : Stand (Filed R.Entry)) (before after : List (WebView R.Entry P)) (served : HasServed R.judging R.own T.scheme P.tells P.faults limit opening closed before after)
+        → EachIsTold R.judging R.own T.scheme P.tells P.faults limit opening closed before after served }
+    ensures brought { (limit : ℕ) (opening closed : Stand (Filed R.Entry)) (before after : List (WebView R.Entry P)) (served : HasServed R.judging R.own T.scheme P.tells P.faults limit opening closed before after)
+        (told : EachIsTold R.judging R.own T.scheme P.tells P.faults limit opening closed before after served) → EachIsBrought R.judging R.own T.scheme P.tells P.faults limit opening closed before after served told }
+{}
+
+/// Over honest ports the disk's count of faults rose by at least the number of all 503 that were answered, or stands at its
+/// last value.
+pub fn faults_are_counted<R: OwnDocket, T: WebTexts<R>, P: Port>()
+    ensures { (limit : ℕ) (opening closed : Stand (Filed R.Entry)) (before after : List (WebView R.Entry P)) (served : HasServed R.judging R.own T.scheme P.tells P.faults limit opening closed before after)
+        (told : EachIsTold R.judging R.own T.scheme P.tells P.faults limit opening closed before after served) → AreCounted R.judging R.own T.scheme P.tells P.faults limit opening closed before after served told }
+{}
+
+/// Where 201 was answered on an honest port with a front, the request's own entry stands in the list at the end behind so
+/// many others, under the name of its connection.
+pub fn created_stand<R: OwnDocket, T: WebTexts<R>, P: Port>()
+    ensures { (limit : ℕ) (opening closed : Stand (Filed R.Entry)) (before after : List (WebView R.Entry P)) (served : HasServed R.judging R.own T.scheme P.tells P.faults limit opening closed before after)
+        (told : EachIsTold R.judging R.own T.scheme P.tells P.faults limit opening closed before after served) → CreatedStand R.judging R.own T.scheme P.tells P.faults limit opening closed before after served told }
 {}

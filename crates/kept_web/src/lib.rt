@@ -13,7 +13,7 @@ mod worker;
 pub use all::serve_ports;
 pub use clerk::serve_desk;
 pub use crew::{close_web, open_web};
-pub use laws::{all_told, available, told};
+pub use laws::{all_told, available, created_stand, faults_are_counted, part_begins, told};
 pub use stop::WebEnd;
 pub use texts::{DocketForms, WebTexts};
 pub use worker::WebDesk;

@@ -336,15 +336,18 @@ fn faults_on_a_connection(rt: HostRuntime) -> Result<(), Fail> {
     Ok(())
 }
 
-// What a peer sends, and what it has read before.
-type Part<'a> = (&'a [u8], &'a [u8]);
+// Up to which of its bytes a peer sends, once it has read so many bytes.
+type Part = (usize, usize);
 
 // A peer in memory that sends the next bytes once it has read what is due before them, and leaves its side open. A read that would
 // wait for it for good fails.
 #[derive(Drop)]
 struct Peer<'a> {
-    rest: &'a [u8],
-    later: &'a [Part<'a>],
+    bytes: &'a [u8],
+    at: usize,
+    end: usize,
+    parts: &'a [Part],
+    sent: usize,
     text: Vec<u8>,
     faults: u64,
 }
@@ -354,10 +357,11 @@ impl<'a> Peer<'a> {
     fn send(&mut self)
         ensures { self.new.faults ≡ self.old.faults }
     {
-        if let [(bytes, due), later @ ..] = self.later {
-            if self.text.as_slice() == *due {
-                self.rest = bytes;
-                self.later = later;
+        if self.sent < self.parts.len() {
+            let (end, due) = self.parts[self.sent];
+            if self.text.len() == due {
+                self.end = end;
+                self.sent += 1;
             }
         }
     }
@@ -380,16 +384,16 @@ impl<'a> Link for Peer<'a> {
     ghost faults = { λ p. p.faults };
 
     fn read(&mut self, buffer: &mut [u8]) -> Result<usize, Failed> {
-        if self.rest.is_empty() {
+        if self.at == self.end {
             self.send();
         }
-        if self.rest.is_empty() {
+        if self.at >= self.end || self.end > self.bytes.len() {
             return Err(self.fail());
         }
-        let n = self.rest.len().min(buffer.len());
-        let (front, rest) = self.rest.split_at(n);
-        buffer[..n].copy_from_slice(front);
-        self.rest = rest;
+        let rest = &self.bytes[self.at..self.end];
+        let n = rest.len().min(buffer.len());
+        buffer[..n].copy_from_slice(&rest[..n]);
+        self.at += n;
         Ok(n)
     }
 
@@ -406,13 +410,17 @@ fn assert_answered(
     rt: &(impl Abort + Wait),
     alloc: Global,
     image: &[u8],
+    bytes: &[u8],
     parts: &[Part],
     end: End,
     text: &[u8],
 ) -> Result<(), Fail> {
     let mut peer = Peer {
-        rest: &[],
-        later: parts,
+        bytes,
+        at: 0,
+        end: 0,
+        parts,
+        sent: 0,
         text: Vec::new(alloc),
         faults: 0,
     };
@@ -427,38 +435,43 @@ fn assert_answered(
 fn answers_come_before_the_next_read(rt: HostRuntime) -> Result<(), Fail> {
     let alloc = rt.alloc();
     let school = with_school(&rt, alloc)?;
+    let bytes = joined(alloc, FILING, LAST)?;
+    let first = FILING.len();
     let parts = [
-        (FILING.as_bytes(), b"".as_slice()),
-        (LAST_FRONT.as_bytes(), CREATED.as_bytes()),
-        (LAST_REST.as_bytes(), CREATED.as_bytes()),
+        (first, 0),
+        (first.saturating_add(LAST_CUT), CREATED.len()),
+        (bytes.len(), CREATED.len()),
     ];
     assert_answered(
         &rt,
         alloc,
         school.image(),
+        bytes.as_slice(),
         &parts,
         End::Closed,
         BOTH_ANSWERS.as_bytes(),
     )?;
     let mut long = b"GET / HTTP/1.1\r\na: ".to_vec(alloc)?;
     long.resize(16_384, b'v')?;
-    let parts = [(long.as_slice(), b"".as_slice())];
+    let parts = [(long.len(), 0)];
     let text = rejection(alloc, "431 Request Header Fields Too Large")?;
     assert_answered(
         &rt,
         alloc,
         school.image(),
+        long.as_slice(),
         &parts,
         End::Rejected,
         text.as_bytes(),
     )?;
     for (head, line) in REJECTED {
-        let parts = [(head.as_bytes(), b"".as_slice())];
+        let parts = [(head.len(), 0)];
         let text = rejection(alloc, line)?;
         assert_answered(
             &rt,
             alloc,
             school.image(),
+            head.as_bytes(),
             &parts,
             End::Rejected,
             text.as_bytes(),
@@ -468,13 +481,15 @@ fn answers_come_before_the_next_read(rt: HostRuntime) -> Result<(), Fail> {
 }
 
 // The filing again, as the last request of its connection, cut in its head.
-const LAST_FRONT: &str = "POST /desks/0/filings HTTP/1.1\r\nConnec";
-
-const LAST_REST: &str = "\
-tion: close\r\n\
+const LAST: &str = "\
+POST /desks/0/filings HTTP/1.1\r\n\
+Connection: close\r\n\
 Content-Length: 57\r\n\
 \r\n\
 {\"kind\":\"prior\",\"number\":2,\"student\":5001,\"units\":550000}";
+
+// So many bytes of it come first.
+const LAST_CUT: usize = 38;
 
 // The answers to both.
 const BOTH_ANSWERS: &str = "\

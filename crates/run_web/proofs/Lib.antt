@@ -1,1 +1,2 @@
 pub mod WebCauses
+pub mod WebAnswers

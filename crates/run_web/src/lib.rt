@@ -5,4 +5,4 @@ mod web;
 mod web_laws;
 
 pub use web::{OfficeTexts, OfficeWebDesk, run_web};
-pub use web_laws::web_causes;
+pub use web_laws::{created_stand, faults_are_counted, web_causes};

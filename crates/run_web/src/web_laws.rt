@@ -1,4 +1,4 @@
-// What a run of the web desk shows of its causes. It follows from the definitions alone; the function does nothing.
+// What a run of the web desk shows of its causes and its answers. It follows from the definitions alone; the functions do nothing.
 ghost use Rattle.std.specs.Prelude.{◌≡◌, ◌⊎◌, ◌<◌, ℕ, List, get_or, length};
 ghost use Rattle.aid_filings.specs.declared.filing.Filing.{Filing};
 ghost use Rattle.disk_model.specs.Telling.{IsHonest};
@@ -6,6 +6,7 @@ ghost use Rattle.kept_list.specs.Recovers.{Recovers};
 ghost use Rattle.kept_office.specs.Scheme.{office_scheme};
 ghost use Rattle.kept_web.specs.Workers.{WebView};
 ghost use Rattle.run_web.specs.RanWeb.{CanServe, HasPortFault, HasServedAll, IsUnrisen, RanWeb};
+ghost use Rattle.run_web.specs.WebAnswers.{CountsFaults, KeepsCreated};
 
 use aid_edges::Sink;
 use disk_model::Disk;
@@ -25,4 +26,18 @@ pub fn web_causes<D: Disk, P: Port, K: Sink>()
         → CanServe (length before) sessions → IsHonest (D.tells old) → (past : List Filing) → Recovers office_scheme (D.tells old).reads past
         → IsUnrisen (D.faults old) (D.faults new) → IsUnrisen (K.faults out) (K.faults out') → (HasPortFault P.faults before after → ⊥)
         → (status ≡ 0) ⊎ (status ≡ 9) }
+{}
+
+/// Unless the desks stayed as they were, they served: over honest ports the disk's count of faults rose by at least the number
+/// of all 503 that were answered, or stands at its last value.
+pub fn faults_are_counted<D: Disk, P: Port, K: Sink>()
+    ensures { (sessions : ℕ) (old new : D) (before after : List (WebView Filing P)) (out out' : K) (status : ℕ) → RanWeb D.Disk K.Sink P.tells P.faults sessions old new before after out out' status
+        → (after ≡ before) ⊎ CountsFaults D.Disk P.tells P.faults sessions old new before after }
+{}
+
+/// Unless the desks stayed as they were, they served: where 201 was answered on an honest port with a front, the request's own
+/// filing stands in the list at the end behind so many others, under the name of its connection.
+pub fn created_stand<D: Disk, P: Port, K: Sink>()
+    ensures { (sessions : ℕ) (old new : D) (before after : List (WebView Filing P)) (out out' : K) (status : ℕ) → RanWeb D.Disk K.Sink P.tells P.faults sessions old new before after out out' status
+        → (after ≡ before) ⊎ KeepsCreated D.Disk P.tells P.faults sessions new before after }
 {}

@@ -1,10 +1,13 @@
+pub mod Brought
 pub mod CallLemmas
 pub mod EndLaws
 pub mod EndWalk
 pub mod HeadLines
 pub mod Joined
 pub mod LookLemmas
+pub mod OneExchange
 pub mod Reached
+pub mod Room
 pub mod RouteLemmas
 pub mod SessionLemmas
 pub mod Steps

@@ -3,8 +3,8 @@ use Rattle.std.proofs.Common.{rules, arith, ◌≡◌, ◌∙◌, sym, ap, subst
 use Rattle.std.proofs.lemmas.List.{take-append-le}
 use Rattle.httparse.proofs.GrammarLemmas.{request_unique}
 use Rattle.web_desk.specs.Ends.{head_end}
-use Rattle.web_desk.specs.Heads.{Judges, IsJudge, head_said}
-use Rattle.web_desk.specs.Exchange.{Judge, Told, more, bad, whole, told, told_head, told_body, request_at}
+use Rattle.web_desk.specs.Heads.{Judges, head_said}
+use Rattle.web_desk.specs.Exchange.{Told, more, bad, whole, Tells, unended, too_large, ended, told_body, request_at}
 use Rattle.std.specs.Prelude.{IfOk}
 use Rattle.web_desk.specs.Looks.{told_of}
 use Rattle.web_desk.specs.declared.look.Look.{Look}
@@ -24,19 +24,17 @@ judges_unique block a b (inr (few, inl (h, is, said))) (inr (few', inr (none, sa
 judges_unique block a b (inr (few, inr (none, said))) (inr (few', inl (h, is, said'))) = absurd (none h is)
 judges_unique block a b (inr (few, inr (none, said))) (inr (few', inr (none', said'))) = said ∙ sym said'
 
--- what was read of the head block among the bytes held
-pub judged : (judge : Judge) → IsJudge judge → (held left : List ℕ) (end : ℕ) (said : Result Head Status) → end ≤ length held → Judges (take end held) said → judge (take end (held ++ left)) ≡ said
-judged judge is held left end said within judges =
-    ap judge (take-append-le end held left within) ∙ judges_unique (take end held) _ said (is (take end held)) judges
-
 le_true : (a b : ℕ) → a ≤ b → nat_le a b ≡ true
 le_true a b le = search rules
 
 le_false : (a b : ℕ) → b < a → nat_le a b ≡ false
 le_false a b lt = search rules
 
-pub tell_bad : (bytes : List ℕ) (end : ℕ) (status : Status) (said : Result Head Status) → said ≡ Err status → bad status ≡ told_body bytes end said
-tell_bad bytes end status said is = sym (ap (told_body bytes end) is)
+-- what was read of the head block among the bytes held is said of all the bytes
+pub tell_end : (held left : List ℕ) (end : ℕ) (said : Result Head Status) (t : Told) → end ≤ length held → head_end (take 16384 held) ≡ Some end → Judges (take end held) said → t ≡ told_body (held ++ left) end said → Tells (held ++ left) t
+tell_end held left end said t within found judges is =
+    subst (λ (x : Told). Tells (held ++ left) x) (sym is)
+    (ended end said (end_room 16384 held left end found) (subst (λ (l : List ℕ). Judges l said) (sym (take-append-le end held left within)) judges))
 
 pub tell_whole : (bytes held left : List ℕ) (end : ℕ) (head : Head) (said : Result Head Status) → said ≡ Ok head → held ++ left ≡ bytes → end + head.length ≤ length held → whole (request_at bytes end head) ≡ told_body bytes end said
 tell_whole bytes held left end head said is all le =
@@ -44,34 +42,27 @@ tell_whole bytes held left end head said is all le =
     sym (ap (told_body bytes end) is ∙ ap (λ (e : Bool). if e then whole (request_at bytes end head) else more) (le_true (end + head.length) (length bytes) enough))
 
 pub tell_short : (bytes held left : List ℕ) (end : ℕ) (head : Head) (said : Result Head Status) → said ≡ Ok head → held ++ left ≡ bytes → left ≡ [] → length held < end + head.length → more ≡ told_body bytes end said
-tell_short bytes held left end head said is all ended lt =
-    let whole_is : held ≡ bytes = sym (append_nil held) ∙ ap (λ (l : List ℕ). held ++ l) (sym ended) ∙ all in
+tell_short bytes held left end head said is all is_over lt =
+    let whole_is : held ≡ bytes = sym (append_nil held) ∙ ap (λ (l : List ℕ). held ++ l) (sym is_over) ∙ all in
     let few : length bytes < end + head.length = omega (arith, lt, ap (λ (l : List ℕ). length l) whole_is) in
     sym (ap (told_body bytes end) is ∙ ap (λ (e : Bool). if e then whole (request_at bytes end head) else more) (le_false (end + head.length) (length bytes) few))
 
 -- the head block is too large
-pub tell_large : (judge : Judge) (held left all : List ℕ) → held ++ left ≡ all → head_end (take 16384 held) ≡ None → 16384 ≤ length held → bad HeadTooLarge ≡ told judge all
-tell_large judge held left all is none le =
+pub tell_large : (held left all : List ℕ) → held ++ left ≡ all → head_end (take 16384 held) ≡ None → 16384 ≤ length held → Tells all (bad HeadTooLarge)
+tell_large held left all is none le =
     let same : head_end (take 16384 all) ≡ None = ap (λ (l : List ℕ). head_end (take 16384 l)) (sym is) ∙ ap head_end (take-append-le 16384 held left le) ∙ none in
     let long : 16384 ≤ length all = omega (arith, le, length-append held left, ap (λ (l : List ℕ). length l) is) in
-    sym (ap (told_head judge all) same ∙ ap (λ (e : Bool). if e then bad HeadTooLarge else more) (le_true 16384 (length all) long))
+    too_large same long
 
 -- the input ended within a head block, or before it
-pub tell_ended : (judge : Judge) (held left all : List ℕ) → held ++ left ≡ all → left ≡ [] → head_end (take 16384 held) ≡ None → length held < 16384 → more ≡ told judge all
-tell_ended judge held left all is ended none lt =
-    let whole_is : held ≡ all = sym (append_nil held) ∙ ap (λ (l : List ℕ). held ++ l) (sym ended) ∙ is in
+pub tell_ended : (held left all : List ℕ) → held ++ left ≡ all → left ≡ [] → head_end (take 16384 held) ≡ None → length held < 16384 → Tells all more
+tell_ended held left all is is_over none lt =
+    let whole_is : held ≡ all = sym (append_nil held) ∙ ap (λ (l : List ℕ). held ++ l) (sym is_over) ∙ is in
     let same : head_end (take 16384 all) ≡ None = ap (λ (l : List ℕ). head_end (take 16384 l)) (sym whole_is) ∙ none in
     let short : length all < 16384 = omega (arith, lt, ap (λ (l : List ℕ). length l) whole_is) in
-    sym (ap (told_head judge all) same ∙ ap (λ (e : Bool). if e then bad HeadTooLarge else more) (le_false 16384 (length all) short))
+    unended same short
 
--- the head block was found
-pub tell_found : (judge : Judge) (held left all : List ℕ) (end : ℕ) (t : Told) → held ++ left ≡ all → head_end (take 16384 held) ≡ Some end → t ≡ told_body all end (judge (take end all)) → t ≡ told judge all
-tell_found judge held left all end t is found body =
-    body ∙ sym (ap (told_head judge all) (ap (λ (l : List ℕ). head_end (take 16384 l)) (sym is) ∙ end_room 16384 held left end found))
-
-pub tell_behind : (judge : Judge) (held left all : List ℕ) (end : ℕ) (r : Result Look Stop) → held ++ left ≡ all → head_end (take 16384 held) ≡ Some end
-    → IfOk r (λ l. told_of (held ++ left) l ≡ told_body (held ++ left) end (judge (take end (held ++ left))))
-    → IfOk r (λ l. told_of all l ≡ told judge all)
-tell_behind judge held left all end (Ok l) is found body =
-    tell_found judge held left all end (told_of all l) is found (subst (λ (x : List ℕ). told_of x l ≡ told_body x end (judge (take end x))) is body)
-tell_behind judge held left all end (Err e) is found body = tt
+-- the same of bytes that are the same
+pub tell_behind : (bytes all : List ℕ) (r : Result Look Stop) → bytes ≡ all → IfOk r (λ l. Tells bytes (told_of bytes l)) → IfOk r (λ l. Tells all (told_of all l))
+tell_behind bytes all (Ok l) is tells = subst (λ (x : List ℕ). Tells x (told_of x l)) is tells
+tell_behind bytes all (Err e) is tells = tt

@@ -106,10 +106,6 @@ Judges block said =
     ((66 < head_lines block) × (said ≡ Err HeadTooLarge))
     ⊎ ((head_lines block ≤ 66) × (((h : RequestHead) × IsHead block h × (said ≡ head_said h)) ⊎ (((h : RequestHead) → ¬ (IsHead block h)) × (said ≡ Err BadRequest))))
 
--- a function that says of each head block what it says
-abbrev pub IsJudge : (List ℕ → Result Head Status) → Type 0
-IsJudge judge = (block : List ℕ) → Judges block (judge block)
-
 -- What the code keeps of a length: no more than a greatest number.
 abbrev pub capped : ℕ → Result (Option ℕ) Status → Result (Option ℕ) Status
 capped most (Ok (Some n)) = Ok (Some (min n most))

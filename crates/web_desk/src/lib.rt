@@ -22,7 +22,7 @@ pub use clerk::Clerk;
 pub use end::End;
 pub use forms::Forms;
 pub use head::Head;
-pub use laws::{first_end, one_judgement};
+pub use laws::{first_end, front_begins, one_exchange, one_judgement, two_exchanges};
 pub use response::Answer;
 pub use session::serve;
 pub use status::Status;

@@ -1,10 +1,10 @@
 //! What the link brings of the next request.
-ghost use Rattle.std.specs.Prelude.{◌≡◌, ◌≤◌, ◌++◌, [], List, ℕ, length, take, IfOk, OnOk, IsErrOf};
+ghost use Rattle.std.specs.Prelude.{◌≡◌, ◌≤◌, ◌+◌, ◌++◌, [], List, ℕ, length, take, Some, IfOk, OnOk, IsErrOf};
 ghost use Rattle.aid_edges.specs.Faults.{Rose};
 ghost use Rattle.web_edges.specs.LinkTelling.{IsHonest, IsPrefix};
 ghost use Rattle.web_desk.specs.Calls.{the_routes};
-ghost use Rattle.web_desk.specs.Heads.{IsJudge};
-ghost use Rattle.web_desk.specs.Exchange.{Judge, told, told_body};
+ghost use Rattle.web_desk.specs.Ends.{head_end};
+ghost use Rattle.web_desk.specs.Exchange.{Tells};
 ghost use Rattle.web_desk.specs.Looks.{LookFits, IsBad, IsMore, told_of};
 
 use crate::Status;
@@ -39,11 +39,11 @@ fn look_behind<L: Link>(
     ensures text { IsHonest (L.tells link.old) → (L.tells link.new).text ≡ (L.tells link.old).text }
     ensures bytes { IsHonest (L.tells link.old)
         → OnOk result (held.new.items ++ (L.tells link.new).left ≡ held.old.items ++ (L.tells link.old).left) }
-    ensures look { (judge : Judge) → IsJudge judge → IsHonest (L.tells link.old)
-        → IfOk result (λ l. told_of (held.old.items ++ (L.tells link.old).left) l
-        ≡ told_body (held.old.items ++ (L.tells link.old).left) end (judge (take end (held.old.items ++ (L.tells link.old).left)))) }
+    ensures look { IsHonest (L.tells link.old) → head_end (take 16384 held.old.items) ≡ Some end
+        → IfOk result (λ l. Tells (held.old.items ++ (L.tells link.old).left) (told_of (held.old.items ++ (L.tells link.old).left) l)) }
     ensures fits { IfOk result (LookFits (length held.new.items)) }
     ensures end { IsHonest (L.tells link.old) → IfOk result (λ l. IsMore l → (L.tells link.new).left ≡ []) }
+    ensures no_further { IsHonest (L.tells link.old) → length held.old.items ≤ 86015 → end ≤ 16384 → length (held.old.items ++ (L.tells link.old).left) ≤ length (L.tells link.new).left + 86015 }
     ensures at_once { IfOk result (λ l. IsBad l → (link.new ≡ link.old) × (held.new ≡ held.old)) }
     ensures later { L.faults link.old ≤ L.faults link.new }
     ensures cause { IsErrOf result Stop.Fault → Rose (L.faults link.old) (L.faults link.new) }
@@ -71,8 +71,9 @@ pub fn next_look<L: Link>(
     ensures text { IsHonest (L.tells link.old) → (L.tells link.new).text ≡ (L.tells link.old).text }
     ensures bytes { IsHonest (L.tells link.old)
         → OnOk result (held.new.items ++ (L.tells link.new).left ≡ held.old.items ++ (L.tells link.old).left) }
-    ensures look { (judge : Judge) → IsJudge judge → IsHonest (L.tells link.old)
-        → IfOk result (λ l. told_of (held.old.items ++ (L.tells link.old).left) l ≡ told judge (held.old.items ++ (L.tells link.old).left)) }
+    ensures look { IsHonest (L.tells link.old)
+        → IfOk result (λ l. Tells (held.old.items ++ (L.tells link.old).left) (told_of (held.old.items ++ (L.tells link.old).left) l)) }
+    ensures no_further { IsHonest (L.tells link.old) → length held.old.items ≤ 86015 → length (held.old.items ++ (L.tells link.old).left) ≤ length (L.tells link.new).left + 86015 }
     ensures fits { IfOk result (LookFits (length held.new.items)) }
     ensures end { IsHonest (L.tells link.old) → IfOk result (λ l. IsMore l → (L.tells link.new).left ≡ []) }
     ensures later { L.faults link.old ≤ L.faults link.new }

@@ -1,5 +1,5 @@
 //! What a link brings, piece by piece.
-ghost use Rattle.std.specs.Prelude.{◌≡◌, ◌++◌, ◌<◌, ◌≤◌, [], true, false, length, take, IfOk, OnOk, IsErrOf};
+ghost use Rattle.std.specs.Prelude.{◌≡◌, ◌++◌, ◌+◌, ◌<◌, ◌≤◌, [], true, false, length, take, IfOk, OnOk, IsErrOf};
 ghost use Rattle.aid_edges.specs.Faults.{Rose};
 ghost use Rattle.web_edges.specs.LinkTelling.{IsHonest, IsPrefix};
 ghost use Rattle.web_desk.specs.Found.{HasGrown, FindsIn};
@@ -31,6 +31,7 @@ pub fn fill<L: Link>(link: &mut L, held: &mut Vec<u8>) -> Result<bool, Stop>
     ensures bytes { IsHonest (L.tells link.old)
         → OnOk result (held.new.items ++ (L.tells link.new).left ≡ held.old.items ++ (L.tells link.old).left) }
     ensures grown { IfOk result (λ more. HasGrown more held.old.items held.new.items) }
+    ensures no_further { IsHonest (L.tells link.old) → length (L.tells link.old).left ≤ length (L.tells link.new).left + 4096 }
     ensures end { IsHonest (L.tells link.old) → IfOk result (λ more. more ≡ false → (L.tells link.new).left ≡ []) }
     ensures later { L.faults link.old ≤ L.faults link.new }
     ensures cause { IsErrOf result Stop.Fault → Rose (L.faults link.old) (L.faults link.new) }
@@ -64,6 +65,7 @@ pub fn find_head<L: Link>(link: &mut L, held: &mut Vec<u8>) -> Result<Found, Sto
     ensures bytes { IsHonest (L.tells link.old)
         → OnOk result (held.new.items ++ (L.tells link.new).left ≡ held.old.items ++ (L.tells link.old).left) }
     ensures finds { IfOk result (FindsIn held.new.items) }
+    ensures no_further { IsHonest (L.tells link.old) → length held.old.items ≤ 86015 → length (held.old.items ++ (L.tells link.old).left) ≤ length (L.tells link.new).left + 86015 }
     ensures end { IsHonest (L.tells link.old) → IfOk result (λ found. found ≡ Found.InputEnded → (L.tells link.new).left ≡ []) }
     ensures later { L.faults link.old ≤ L.faults link.new }
     ensures cause { IsErrOf result Stop.Fault → Rose (L.faults link.old) (L.faults link.new) }
@@ -90,6 +92,7 @@ pub fn await_bytes<L: Link>(link: &mut L, held: &mut Vec<u8>, count: usize) -> R
     ensures bytes { IsHonest (L.tells link.old)
         → OnOk result (held.new.items ++ (L.tells link.new).left ≡ held.old.items ++ (L.tells link.old).left) }
     ensures grown { OnOk result (IsPrefix held.old.items held.new.items) }
+    ensures no_further { IsHonest (L.tells link.old) → length held.old.items ≤ 86015 → count ≤ 81920 → length (held.old.items ++ (L.tells link.old).left) ≤ length (L.tells link.new).left + 86015 }
     ensures enough { IfOk result (λ enough. enough ≡ true → count ≤ length held.new.items) }
     ensures few { IfOk result (λ enough. enough ≡ false → length held.new.items < count) }
     ensures end { IsHonest (L.tells link.old) → IfOk result (λ enough. enough ≡ false → (L.tells link.new).left ≡ []) }

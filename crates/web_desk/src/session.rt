@@ -4,10 +4,9 @@ ghost use Rattle.aid_edges.specs.Faults.{Rose};
 ghost use Rattle.web_edges.specs.LinkTelling.{IsHonest, AppendsFront};
 ghost use Rattle.web_desk.specs.Ends.{has_begun};
 ghost use Rattle.web_desk.specs.Calls.{the_routes};
-ghost use Rattle.web_desk.specs.Heads.{IsJudge};
 ghost use Rattle.web_desk.specs.Responses.{response_of};
 ghost use Rattle.web_desk.specs.Asks.{IsAsked, AnswersCall, Answers, Reaches, IsStopped};
-ghost use Rattle.web_desk.specs.Exchange.{Judge, told, whole, request_at, rejection_of, Serves, IsGoing, IsAnswered, IsHalfAnswered, IsUntouched, end_of};
+ghost use Rattle.web_desk.specs.Exchange.{Tells, whole, request_at, rejection_of, Serves, ServesNear, IsGoing, IsAnswered, IsHalfAnswered, IsUntouched, end_of};
 
 use crate::call::{Call, Route, routes};
 use crate::head::Head;
@@ -125,6 +124,7 @@ fn respond_to<F: Forms, C: Clerk<F>, L: Link>(
 fn reject<L: Link>(alloc: Global, link: &mut L, status: Status) -> Result<(), Stop>
     ensures ok { IsHonest (L.tells link.old) → OnOk result ((L.tells link.new).text ≡ (L.tells link.old).text ++ rejection_of status) }
     ensures err { IsHonest (L.tells link.old) → OnErr result (AppendsFront (L.tells link.old).text (L.tells link.new).text (rejection_of status)) }
+    ensures left { IsHonest (L.tells link.old) → (L.tells link.new).left ≡ (L.tells link.old).left }
     ensures honest { (L.tells link.new).honest ≡ (L.tells link.old).honest }
     ensures later { L.faults link.old ≤ L.faults link.new }
     ensures cause { IsErrOf result Stop.Fault → Rose (L.faults link.old) (L.faults link.new) }
@@ -167,11 +167,12 @@ fn respond<F: Forms, C: Clerk<F>, L: Link>(
     end: usize,
 ) -> Option<End>
     requires { end + head.length ≤ length held.old.items }
-    ensures step { (judge : Judge) → IsHonest (L.tells link.old) → (n : ℕ)
-        → told judge (held.old.items ++ (L.tells link.old).left) ≡ whole (request_at (held.old.items ++ (L.tells link.old).left) end head)
+    ensures step { IsHonest (L.tells link.old) → (n : ℕ)
+        → Tells (held.old.items ++ (L.tells link.old).left) (whole (request_at (held.old.items ++ (L.tells link.old).left) end head))
         → MatchOption result
-        (IsGoing judge (Answers F.scheme C.asked C.faults) (suc n) (held.old.items ++ (L.tells link.old).left) clerk.old clerk.new (L.tells link.old).text (L.tells link.new).text n (held.new.items ++ (L.tells link.new).left))
-        (Serves judge (Answers F.scheme C.asked C.faults) (suc n) (held.old.items ++ (L.tells link.old).left) clerk.old clerk.new (L.tells link.old).text (L.tells link.new).text) }
+        (IsGoing (Answers F.scheme C.asked C.faults) (suc n) (held.old.items ++ (L.tells link.old).left) clerk.old clerk.new (L.tells link.old).text (L.tells link.new).text n (held.new.items ++ (L.tells link.new).left))
+        (Serves (Answers F.scheme C.asked C.faults) (suc n) (held.old.items ++ (L.tells link.old).left) clerk.old clerk.new (L.tells link.old).text (L.tells link.new).text) }
+    ensures left { IsHonest (L.tells link.old) → (L.tells link.new).left ≡ (L.tells link.old).left }
     ensures honest { (L.tells link.new).honest ≡ (L.tells link.old).honest }
     ensures reached { Reaches (IsAsked C.asked C.faults F.scheme.status) clerk.old clerk.new }
     ensures later { L.faults link.old ≤ L.faults link.new }
@@ -200,10 +201,11 @@ fn serve_one<F: Forms, C: Clerk<F>, L: Link>(
     held: &mut Vec<u8>,
 ) -> Option<End>
     requires { router.now ≡ the_routes }
-    ensures step { (judge : Judge) → IsJudge judge → IsHonest (L.tells link.old) → (n : ℕ)
+    ensures step { IsHonest (L.tells link.old) → (n : ℕ)
         → MatchOption result
-        (IsGoing judge (Answers F.scheme C.asked C.faults) (suc n) (held.old.items ++ (L.tells link.old).left) clerk.old clerk.new (L.tells link.old).text (L.tells link.new).text n (held.new.items ++ (L.tells link.new).left))
-        (Serves judge (Answers F.scheme C.asked C.faults) (suc n) (held.old.items ++ (L.tells link.old).left) clerk.old clerk.new (L.tells link.old).text (L.tells link.new).text) }
+        (IsGoing (Answers F.scheme C.asked C.faults) (suc n) (held.old.items ++ (L.tells link.old).left) clerk.old clerk.new (L.tells link.old).text (L.tells link.new).text n (held.new.items ++ (L.tells link.new).left))
+        (Serves (Answers F.scheme C.asked C.faults) (suc n) (held.old.items ++ (L.tells link.old).left) clerk.old clerk.new (L.tells link.old).text (L.tells link.new).text) }
+    ensures no_further { IsHonest (L.tells link.old) → length held.old.items ≤ 86015 → length (held.old.items ++ (L.tells link.old).left) ≤ length (L.tells link.new).left + 86015 }
     ensures honest { (L.tells link.new).honest ≡ (L.tells link.old).honest }
     ensures reached { Reaches (IsAsked C.asked C.faults F.scheme.status) clerk.old clerk.new }
     ensures later { L.faults link.old ≤ L.faults link.new }
@@ -233,8 +235,8 @@ fn serve_up_to<F: Forms, C: Clerk<F>, L: Link>(
     limit: u32,
 ) -> End
     requires { router.now ≡ the_routes }
-    ensures exchange { (judge : Judge) → IsJudge judge → IsHonest (L.tells link.old)
-        → Serves judge (Answers F.scheme C.asked C.faults) limit (L.tells link.old).left clerk.old clerk.new (L.tells link.old).text (L.tells link.new).text result }
+    ensures exchange { IsHonest (L.tells link.old)
+        → ServesNear (Answers F.scheme C.asked C.faults) limit (L.tells link.old).left (L.tells link.new).left clerk.old clerk.new (L.tells link.old).text (L.tells link.new).text result }
     ensures reached { Reaches (IsAsked C.asked C.faults F.scheme.status) clerk.old clerk.new }
     ensures later { L.faults link.old ≤ L.faults link.new }
     ensures cause { result ≡ End.LinkFault → Rose (L.faults link.old) (L.faults link.new) }
@@ -252,10 +254,11 @@ fn serve_up_to<F: Forms, C: Clerk<F>, L: Link>(
 
 /// Serves a connection: what is written is the exchange of its bytes for a run of the clerk, however the link cuts them.
 /// At the ends `LinkFault` and `NoMemory` it is a front of that, and a link that tells nothing is promised the clerk's
-/// part alone: the clerk's asks follow one another, and nothing else changes it.
+/// part alone: the clerk's asks follow one another, and nothing else changes it. Behind the requests answered, no more than a
+/// head, a body and a piece less one byte were taken from the link.
 pub fn serve<F: Forms, C: Clerk<F>, L: Link>(alloc: Global, clerk: &mut C, link: &mut L) -> End
-    ensures exchange { (judge : Judge) → IsJudge judge → IsHonest (L.tells link.old)
-        → Serves judge (Answers F.scheme C.asked C.faults) 10000 (L.tells link.old).left clerk.old clerk.new (L.tells link.old).text (L.tells link.new).text result }
+    ensures exchange { IsHonest (L.tells link.old)
+        → ServesNear (Answers F.scheme C.asked C.faults) 10000 (L.tells link.old).left (L.tells link.new).left clerk.old clerk.new (L.tells link.old).text (L.tells link.new).text result }
     ensures reached { Reaches (IsAsked C.asked C.faults F.scheme.status) clerk.old clerk.new }
     ensures later { L.faults link.old ≤ L.faults link.new }
     ensures cause { result ≡ End.LinkFault → Rose (L.faults link.old) (L.faults link.new) }

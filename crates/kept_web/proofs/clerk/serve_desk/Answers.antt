@@ -1,5 +1,5 @@
 use Rattle.std.proofs.Common.{◌∙◌, ap, subst}
-use Rattle.web_desk.specs.Exchange.{Serves}
+use Rattle.web_desk.specs.Exchange.{ServesNear}
 use Rattle.kept_list.specs.declared.names.Filed.{Filed}
 use Rattle.office_lock.specs.Passes.{Known}
 use Rattle.kept_web.specs.Clerks.{PassAnswers, PassReaches}
@@ -7,11 +7,11 @@ use Rattle.kept_web.proofs.Reached.{clerk_is, same_pass}
 use Rattle.kept_web.proofs.clerk.serve_desk.Goals as goal
 
 pub returns-clause-exchange : goal.returns-clause-exchange
-returns-clause-exchange g c judge is honest =
+returns-clause-exchange g c honest =
     let clerk = c.serve-end.new.clerk in
     let same = same_pass g.R.Docket.judging g.R.OwnDocket.own g.T.WebTexts.scheme.status (record { by = c.args.by; pass = c.args.pass }) clerk c.serve-end.ensures.reached in
-    subst (λ after. Serves judge (PassAnswers g.R.Docket.judging g.R.OwnDocket.own g.T.WebTexts.scheme) 10000 (g.L.Link.tells c.args.link.now).left (record { by = c.args.by; pass = c.args.pass }) after (g.L.Link.tells c.args.link.now).text (g.L.Link.tells c.serve-end.new.link).text c.serve-end.result)
-    (clerk_is clerk c.args.by c.into_pass.result same.by c.into_pass.ensures) (c.serve-end.ensures.exchange judge is honest)
+    subst (λ after. ServesNear (PassAnswers g.R.Docket.judging g.R.OwnDocket.own g.T.WebTexts.scheme) 10000 (g.L.Link.tells c.args.link.now).left (g.L.Link.tells c.serve-end.new.link).left (record { by = c.args.by; pass = c.args.pass }) after (g.L.Link.tells c.args.link.now).text (g.L.Link.tells c.serve-end.new.link).text c.serve-end.result)
+    (clerk_is clerk c.args.by c.into_pass.result same.by c.into_pass.ensures) (c.serve-end.ensures.exchange honest)
 
 pub returns-clause-reached : goal.returns-clause-reached
 returns-clause-reached g c =

@@ -2,4 +2,4 @@ use Rattle.kept_web.proofs.Rejections.{available}
 use Rattle.kept_web.proofs.laws.available.Goals as goal
 
 pub returns : goal.returns
-returns c judge is limit bytes = available judge is limit bytes
+returns c = available

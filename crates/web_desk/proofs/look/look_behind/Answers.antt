@@ -1,24 +1,26 @@
-use Rattle.std.proofs.Common.{Ok, Err, subst, take}
+use Rattle.std.proofs.Common.{Ok, Err, refl, subst, take}
 use Rattle.web_desk.specs.Heads.{Judges}
-use Rattle.web_desk.proofs.LookLemmas.{judged, tell_bad, tell_whole, tell_short}
+use Rattle.web_desk.proofs.LookLemmas.{tell_end, tell_whole, tell_short}
 use Rattle.web_desk.proofs.look.look_behind.Goals as goal
 
 pub returns-in-Err-clause-look : goal.returns-in-Err-clause-look
-returns-in-Err-clause-look g c judge is honest =
-    tell_bad _ c.args.end c.in-Err.status _
-    (judged judge is c.args.held.now.items (g.L.Link.tells c.args.link.now).left c.args.end (Err c.in-Err.status) c.requires.within (subst (λ l. Judges (take c.args.end l) (Err c.in-Err.status)) c.deref.ensures.value c.in-Err.ensures.said))
+returns-in-Err-clause-look g c honest found =
+    tell_end c.args.held.now.items (g.L.Link.tells c.args.link.now).left c.args.end (Err c.in-Err.status) _ c.requires.within found
+    (subst (λ l. Judges (take c.args.end l) (Err c.in-Err.status)) c.deref.ensures.value c.in-Err.ensures.said) refl
 
 pub returns-then-branch-clause-look : goal.returns-then-branch-clause-look
-returns-then-branch-clause-look g c judge is honest =
-    tell_whole _ c.await_bytes.new.held.items (g.L.Link.tells c.await_bytes.new.link).left c.args.end c.in-Ok.head _
-    (judged judge is c.args.held.now.items (g.L.Link.tells c.args.link.now).left c.args.end (Ok c.in-Ok.head) c.requires.within (subst (λ l. Judges (take c.args.end l) (Ok c.in-Ok.head)) c.deref.ensures.value c.in-Ok.ensures.said))
+returns-then-branch-clause-look g c honest found =
+    tell_end c.args.held.now.items (g.L.Link.tells c.args.link.now).left c.args.end (Ok c.in-Ok.head) _ c.requires.within found
+    (subst (λ l. Judges (take c.args.end l) (Ok c.in-Ok.head)) c.deref.ensures.value c.in-Ok.ensures.said)
+    (tell_whole _ c.await_bytes.new.held.items (g.L.Link.tells c.await_bytes.new.link).left c.args.end c.in-Ok.head _ refl
     (c.in_ok-await_bytes-in-Ok.ensures.bytes honest)
-    (c.in_ok-await_bytes-in-Ok.ensures.enough c.if-branch.true)
+    (c.in_ok-await_bytes-in-Ok.ensures.enough c.if-branch.true))
 
 pub returns-else-branch-clause-look : goal.returns-else-branch-clause-look
-returns-else-branch-clause-look g c judge is honest =
-    tell_short _ c.await_bytes.new.held.items (g.L.Link.tells c.await_bytes.new.link).left c.args.end c.in-Ok.head _
-    (judged judge is c.args.held.now.items (g.L.Link.tells c.args.link.now).left c.args.end (Ok c.in-Ok.head) c.requires.within (subst (λ l. Judges (take c.args.end l) (Ok c.in-Ok.head)) c.deref.ensures.value c.in-Ok.ensures.said))
+returns-else-branch-clause-look g c honest found =
+    tell_end c.args.held.now.items (g.L.Link.tells c.args.link.now).left c.args.end (Ok c.in-Ok.head) _ c.requires.within found
+    (subst (λ l. Judges (take c.args.end l) (Ok c.in-Ok.head)) c.deref.ensures.value c.in-Ok.ensures.said)
+    (tell_short _ c.await_bytes.new.held.items (g.L.Link.tells c.await_bytes.new.link).left c.args.end c.in-Ok.head _ refl
     (c.in_ok-await_bytes-in-Ok.ensures.bytes honest)
     (c.in_ok-await_bytes-in-Ok.ensures.end honest c.if-branch.false)
-    (c.in_ok-await_bytes-in-Ok.ensures.few c.if-branch.false)
+    (c.in_ok-await_bytes-in-Ok.ensures.few c.if-branch.false))

@@ -3,49 +3,49 @@ use Rattle.web_desk.specs.Asks.{Answers, IsAsked}
 use Rattle.web_desk.specs.Looks.{IsMore, told_of}
 use Rattle.web_edges.specs.LinkTelling.{AppendsFront}
 use Rattle.web_desk.specs.Ends.{has_begun}
-use Rattle.web_desk.specs.Exchange.{rejection_of}
+use Rattle.web_desk.specs.Exchange.{rejection_of, Tells}
 use Rattle.web_desk.proofs.Reached.{reach_none}
 use Rattle.web_desk.proofs.Steps.{front_none, front_serves, more_serves, step_bad, step_bad_front, one_as, whole_as}
 use Rattle.web_desk.proofs.session.serve_one.Goals as goal
 
 pub returns-in-Err-clause-step : goal.returns-in-Err-clause-step
-returns-in-Err-clause-step g c judge is honest n =
-    front_serves judge (Answers g.F.Forms.scheme g.C.Clerk.asked g.C.Clerk.faults) _ _ _ _ _ _ c.in-Err.stop c.end_of.result c.end_of.ensures
-    (front_none judge (Answers g.F.Forms.scheme g.C.Clerk.asked g.C.Clerk.faults) _ _ _ _ _ _ refl (c.next_look.ensures.text honest))
+returns-in-Err-clause-step g c honest n =
+    front_serves (Answers g.F.Forms.scheme g.C.Clerk.asked g.C.Clerk.faults) _ _ _ _ _ _ c.in-Err.stop c.end_of.result c.end_of.ensures
+    (front_none (Answers g.F.Forms.scheme g.C.Clerk.asked g.C.Clerk.faults) _ _ _ _ _ _ refl (c.next_look.ensures.text honest))
 
 pub returns-then-has_begun-clause-step : goal.returns-then-has_begun-clause-step
-returns-then-has_begun-clause-step g c judge is honest n =
-    more_serves judge (Answers g.F.Forms.scheme g.C.Clerk.asked g.C.Clerk.faults) n (c.args.held.now.items ++ (g.L.Link.tells c.args.link.now).left) c.next_look.new.held.items (g.L.Link.tells c.next_look.new.link).left c.args.clerk.now c.args.clerk.now _ _ (told_of (c.args.held.now.items ++ (g.L.Link.tells c.args.link.now).left) c.in-Ok-More.field-0) true (ap (told_of (c.args.held.now.items ++ (g.L.Link.tells c.args.link.now).left)) c.in-Ok-More.field-0-is)
-    (c.in-Ok-More.ensures.look judge is honest)
+returns-then-has_begun-clause-step g c honest n =
+    more_serves (Answers g.F.Forms.scheme g.C.Clerk.asked g.C.Clerk.faults) n (c.args.held.now.items ++ (g.L.Link.tells c.args.link.now).left) c.next_look.new.held.items (g.L.Link.tells c.next_look.new.link).left c.args.clerk.now c.args.clerk.now _ _ true
+    (subst (λ l. Tells (c.args.held.now.items ++ (g.L.Link.tells c.args.link.now).left) (told_of (c.args.held.now.items ++ (g.L.Link.tells c.args.link.now).left) l)) c.in-Ok-More.field-0-is (c.in-Ok-More.ensures.look honest))
     (c.in-Ok-More.ensures.bytes honest)
     (c.in-Ok-More.ensures.end honest (subst IsMore (sym c.in-Ok-More.field-0-is) tt))
     (sym c.if-has_begun.true ∙ c.has_begun.ensures ∙ ap has_begun c.deref.ensures.value) refl (c.next_look.ensures.text honest)
 
 pub returns-else-has_begun-clause-step : goal.returns-else-has_begun-clause-step
-returns-else-has_begun-clause-step g c judge is honest n =
-    more_serves judge (Answers g.F.Forms.scheme g.C.Clerk.asked g.C.Clerk.faults) n (c.args.held.now.items ++ (g.L.Link.tells c.args.link.now).left) c.next_look.new.held.items (g.L.Link.tells c.next_look.new.link).left c.args.clerk.now c.args.clerk.now _ _ (told_of (c.args.held.now.items ++ (g.L.Link.tells c.args.link.now).left) c.in-Ok-More.field-0) false (ap (told_of (c.args.held.now.items ++ (g.L.Link.tells c.args.link.now).left)) c.in-Ok-More.field-0-is)
-    (c.in-Ok-More.ensures.look judge is honest)
+returns-else-has_begun-clause-step g c honest n =
+    more_serves (Answers g.F.Forms.scheme g.C.Clerk.asked g.C.Clerk.faults) n (c.args.held.now.items ++ (g.L.Link.tells c.args.link.now).left) c.next_look.new.held.items (g.L.Link.tells c.next_look.new.link).left c.args.clerk.now c.args.clerk.now _ _ false
+    (subst (λ l. Tells (c.args.held.now.items ++ (g.L.Link.tells c.args.link.now).left) (told_of (c.args.held.now.items ++ (g.L.Link.tells c.args.link.now).left) l)) c.in-Ok-More.field-0-is (c.in-Ok-More.ensures.look honest))
     (c.in-Ok-More.ensures.bytes honest)
     (c.in-Ok-More.ensures.end honest (subst IsMore (sym c.in-Ok-More.field-0-is) tt))
     (sym c.if-has_begun.false ∙ c.has_begun.ensures ∙ ap has_begun c.deref.ensures.value) refl (c.next_look.ensures.text honest)
 
 pub returns-in-Ok-clause-step : goal.returns-in-Ok-clause-step
-returns-in-Ok-clause-step g c judge is honest n =
-    step_bad judge (Answers g.F.Forms.scheme g.C.Clerk.asked g.C.Clerk.faults) n _ _ _ _ _ c.in-Ok-Bad.status (sym (c.in-Ok-Bad.ensures.look judge is honest) ∙ ap (told_of (c.args.held.now.items ++ (g.L.Link.tells c.args.link.now).left)) c.in-Ok-Bad.field-0-is) refl
+returns-in-Ok-clause-step g c honest n =
+    step_bad (Answers g.F.Forms.scheme g.C.Clerk.asked g.C.Clerk.faults) n _ _ _ _ _ c.in-Ok-Bad.status (subst (λ l. Tells (c.args.held.now.items ++ (g.L.Link.tells c.args.link.now).left) (told_of (c.args.held.now.items ++ (g.L.Link.tells c.args.link.now).left) l)) c.in-Ok-Bad.field-0-is (c.in-Ok-Bad.ensures.look honest)) refl
     (c.in-Ok.ensures.ok (c.next_look.ensures.honest ∙ honest) ∙ ap (λ t. t ++ rejection_of c.in-Ok-Bad.status) (c.next_look.ensures.text honest))
 
 pub returns-in-Err-reject-clause-step : goal.returns-in-Err-reject-clause-step
-returns-in-Err-reject-clause-step g c judge is honest n =
-    front_serves judge (Answers g.F.Forms.scheme g.C.Clerk.asked g.C.Clerk.faults) _ _ _ _ _ _ c.in-Err-reject.stop c.end_of-in-Err-reject.result c.end_of-in-Err-reject.ensures
-    (step_bad_front judge (Answers g.F.Forms.scheme g.C.Clerk.asked g.C.Clerk.faults) n _ _ _ _ _ c.in-Ok-Bad.status (sym (c.in-Ok-Bad.ensures.look judge is honest) ∙ ap (told_of (c.args.held.now.items ++ (g.L.Link.tells c.args.link.now).left)) c.in-Ok-Bad.field-0-is) refl
+returns-in-Err-reject-clause-step g c honest n =
+    front_serves (Answers g.F.Forms.scheme g.C.Clerk.asked g.C.Clerk.faults) _ _ _ _ _ _ c.in-Err-reject.stop c.end_of-in-Err-reject.result c.end_of-in-Err-reject.ensures
+    (step_bad_front (Answers g.F.Forms.scheme g.C.Clerk.asked g.C.Clerk.faults) n _ _ _ _ _ c.in-Ok-Bad.status (subst (λ l. Tells (c.args.held.now.items ++ (g.L.Link.tells c.args.link.now).left) (told_of (c.args.held.now.items ++ (g.L.Link.tells c.args.link.now).left) l)) c.in-Ok-Bad.field-0-is (c.in-Ok-Bad.ensures.look honest)) refl
     (subst (λ old. AppendsFront old (g.L.Link.tells c.reject.new.link).text (rejection_of c.in-Ok-Bad.status)) (c.next_look.ensures.text honest) (c.in-Err-reject.ensures.err (c.next_look.ensures.honest ∙ honest))))
 
 pub returns-in-Ok-Whole-clause-step : goal.returns-in-Ok-Whole-clause-step
-returns-in-Ok-Whole-clause-step g c judge is honest n =
+returns-in-Ok-Whole-clause-step g c honest n =
     let bytes = c.in-Ok-Whole.ensures.bytes honest in
-    let told_is = sym (c.in-Ok-Whole.ensures.look judge is honest) ∙ ap (told_of (c.args.held.now.items ++ (g.L.Link.tells c.args.link.now).left)) c.in-Ok-Whole.field-0-is in
-    one_as judge (Answers g.F.Forms.scheme g.C.Clerk.asked g.C.Clerk.faults) n _ _ _ _ _ _ _ _ c.respond.result bytes (c.next_look.ensures.text honest)
-    (c.respond.ensures.step judge (c.next_look.ensures.honest ∙ honest) n (whole_as judge _ _ _ _ (sym bytes) told_is))
+    let tells = subst (λ l. Tells (c.args.held.now.items ++ (g.L.Link.tells c.args.link.now).left) (told_of (c.args.held.now.items ++ (g.L.Link.tells c.args.link.now).left) l)) c.in-Ok-Whole.field-0-is (c.in-Ok-Whole.ensures.look honest) in
+    one_as (Answers g.F.Forms.scheme g.C.Clerk.asked g.C.Clerk.faults) n _ _ _ _ _ _ _ _ c.respond.result bytes (c.next_look.ensures.text honest)
+    (c.respond.ensures.step (c.next_look.ensures.honest ∙ honest) n (whole_as _ _ _ _ (sym bytes) tells))
 
 pub returns-in-Err-clause-reached : goal.returns-in-Err-clause-reached
 returns-in-Err-clause-reached g c =

@@ -1,15 +1,15 @@
-use Rattle.std.proofs.Common.{◌≡◌, ◌≤◌, ◌++◌}
+use Rattle.std.proofs.Common.{◌≡◌, ◌≤◌, ◌++◌, length}
 use Rattle.web_desk.specs.Asks.{Answers, IsAsked, Reaches}
-use Rattle.web_desk.specs.Heads.{IsJudge}
 use Rattle.web_edges.specs.LinkTelling.{IsHonest}
-use Rattle.web_desk.specs.Exchange.{Judge, IsGoing}
+use Rattle.web_desk.specs.Exchange.{IsGoing}
 use Rattle.web_desk.proofs.session.serve_up_to.Given as goal
 
 abbrev pub invariant-loop-room : goal.invariant-loop-room
 invariant-loop-room g l = record {
   honest : (g.L.Link.tells l.link).honest ≡ (g.L.Link.tells l.initial.link).honest;
-  going : (judge : Judge) → IsJudge judge → IsHonest (g.L.Link.tells l.initial.link)
-      → IsGoing judge (Answers g.F.Forms.scheme g.C.Clerk.asked g.C.Clerk.faults) l.limit (g.L.Link.tells l.initial.link).left l.initial.clerk l.clerk (g.L.Link.tells l.initial.link).text (g.L.Link.tells l.link).text l.room (l.held.items ++ (g.L.Link.tells l.link).left);
+  going : IsHonest (g.L.Link.tells l.initial.link)
+      → IsGoing (Answers g.F.Forms.scheme g.C.Clerk.asked g.C.Clerk.faults) l.limit (g.L.Link.tells l.initial.link).left l.initial.clerk l.clerk (g.L.Link.tells l.initial.link).text (g.L.Link.tells l.link).text l.room (l.held.items ++ (g.L.Link.tells l.link).left);
+  room : IsHonest (g.L.Link.tells l.initial.link) → length l.held.items ≤ 86015;
   reached : Reaches (IsAsked g.C.Clerk.asked g.C.Clerk.faults g.F.Forms.scheme.status) l.initial.clerk l.clerk;
   later : g.L.Link.faults l.initial.link ≤ g.L.Link.faults l.link;
 }

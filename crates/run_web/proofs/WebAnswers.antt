@@ -1,0 +1,72 @@
+-- What a run of the web desk shows of what it answered.
+use Rattle.std.proofs.Common.{◌≡◌, ◌⊎◌, inl, inr, ℕ, List, [], Option, None, sym, subst}
+use Rattle.aid_edges.specs.declared.sink.Sink.{Ghosts as SinkGhosts}
+use Rattle.aid_filings.specs.declared.filing.Filing.{Filing}
+use Rattle.disk_model.specs.Telling.{IsHonest}
+use Rattle.disk_model.specs.declared.disk.Disk.{Ghosts}
+use Rattle.kept_desks.proofs.Going.{entries_filed, entry_filed}
+use Rattle.kept_list.specs.Names.{entries_of, entry_of, filed_list, filed_pending}
+use Rattle.kept_desks.specs.Shares.{stand_of}
+use Rattle.kept_list.specs.declared.names.Filed.{Filed}
+use Rattle.kept_list.specs.declared.names.RowName.{RowName}
+use Rattle.kept_list.specs.Kept.{IsSound}
+use Rattle.kept_office.specs.OwnLaws.{own_added, adds_added}
+use Rattle.kept_office.specs.Scheme.{office_scheme}
+use Rattle.kept_office.specs.Turns.{asked as filing_asked, office_judging}
+use Rattle.kept_web.proofs.AllTelling.{are_counted, each_told}
+use Rattle.kept_web.proofs.Creating.{created_stand}
+use Rattle.kept_web.specs.AllTold.{EachIsTold}
+use Rattle.web_edges.specs.Ports.{PortTelling}
+use Rattle.kept_web.specs.Workers.{HasServed, WebView}
+use Rattle.office_history.specs.Answer.{is_admit}
+use Rattle.office_lock.specs.declared.turned.Stand.{Stand}
+use Rattle.run_web.specs.RanWeb.{RanWeb, served, starved, unasked, unopened}
+use Rattle.run_web.specs.WebAnswers.{CountsFaults, HasAnswered, KeepsCreated}
+use Rattle.run_web.specs.WebLaws.{created as created_adds, unavailable}
+use Rattle.run_web.specs.WebTexts.{office_web}
+
+module _ {D K P : Type 0} (disk : Ghosts D) (sink : SinkGhosts K) (tells : P → PortTelling) (faults : P → ℕ) (sessions : ℕ) (old new : D) (before after : List (WebView Filing P)) (out out' : K) (status : ℕ) where
+  module _ (past history : List Filing) (pending : Option Filing) (log : List RowName) (waiting : Option RowName) (at : D) where
+    abbrev opening : Stand (Filed Filing)
+    opening = stand_of past None [] None (disk.faults old) (disk.tells at).honest
+
+    abbrev closed : Stand (Filed Filing)
+    closed = stand_of history pending log waiting (disk.faults new) (disk.tells new).honest
+
+    module _ (has : HasServed office_judging filing_asked office_web tells faults sessions opening closed before after) (sound : IsHonest (disk.tells new) → IsSound office_scheme (disk.tells new) history pending) where
+      abbrev told : EachIsTold office_judging filing_asked office_web tells faults sessions opening closed before after has
+      told = each_told office_judging filing_asked office_web own_added unavailable tells faults sessions opening closed before after has
+
+      abbrev answered : HasAnswered disk tells faults sessions new before after
+      answered = record {
+        opening = opening;
+        closed = closed;
+        served = has;
+        told = told;
+        sound = λ honest. subst (λ (l : List Filing). IsSound office_scheme (disk.tells new) l (entry_of (filed_pending pending waiting))) (sym (entries_filed history log))
+            (subst (λ (o : Option Filing). IsSound office_scheme (disk.tells new) history o) (sym (entry_filed pending waiting)) (sound honest));
+      }
+
+      counts_faults : CountsFaults disk tells faults sessions old new before after
+      counts_faults = record {
+        answered = answered;
+        counted = are_counted office_judging filing_asked office_web own_added unavailable tells faults sessions opening closed before after has told;
+      }
+
+      keeps_created : KeepsCreated disk tells faults sessions new before after
+      keeps_created = record {
+        answered = answered;
+        created = created_stand office_judging filing_asked office_web own_added is_admit adds_added created_adds tells faults sessions opening closed before after has told;
+      }
+
+  pub counted : RanWeb disk sink tells faults sessions old new before after out out' status → (after ≡ before) ⊎ CountsFaults disk tells faults sessions old new before after
+  counted (unasked _ cannot same desks ends) = inl desks
+  counted (unopened error _ can opened cause desks ends) = inl desks
+  counted (starved past _ can opened desks ends) = inl desks
+  counted (served past history pending log waiting at _ can opened has sound ends) = inr (counts_faults past history pending log waiting at has sound)
+
+  pub created : RanWeb disk sink tells faults sessions old new before after out out' status → (after ≡ before) ⊎ KeepsCreated disk tells faults sessions new before after
+  created (unasked _ cannot same desks ends) = inl desks
+  created (unopened error _ can opened cause desks ends) = inl desks
+  created (starved past _ can opened desks ends) = inl desks
+  created (served past history pending log waiting at _ can opened has sound ends) = inr (keeps_created past history pending log waiting at has sound)
