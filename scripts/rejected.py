@@ -42,8 +42,13 @@ def main(path, left):
     told, status = handed_on()
     out = [number for number in range(1, len(rows) + 1) if told.get(number) not in STANDS]
     if left:
-        with open(left, "w", **TEXT) as file:
-            csv.writer(file, lineterminator="\n").writerows(rows[number - 1] for number in out)
+        try:
+            with open(left, "w", **TEXT) as file:
+                csv.writer(file, lineterminator="\n").writerows(rows[number - 1] for number in out)
+        except OSError as error:
+            sentence = f"{left} can't be written: {error.strerror}; run it again with another file"
+            print(f"office: {sentence}", file=sys.stderr)
+            left, status = "", status or 4
     answers = list(told.values())
     counts = ", ".join(f"{answers.count(word)} {name}" for word, name in (
         ("accepted", "accepted"), ("again", "again"), ("refused", "refused"), ("error", "no filings"),

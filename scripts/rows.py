@@ -38,6 +38,12 @@ def columns():
     return kinds
 
 
+def said(name):
+    """A column by its name and a usual heading."""
+    usual = next((word for word, column in ALSO.items() if column == name), None)
+    return f"{name} ({usual.replace('_', ' ')})" if usual else name
+
+
 def reader(column, form):
     """How the cells of a column are read, by its form."""
     if column == "year":
@@ -106,7 +112,10 @@ class Sheet:
             return self.school
         if name == "number" and self.number is not None:
             return str(int(self.number) + at)
-        self.bad(f"line {line}: {name} is empty" if name in row else f"line {line}: {kind} has a column {name}, and the sheet hasn't")
+        if name in row:
+            self.bad(f"line {line}: {name} is empty")
+        else:
+            self.bad(f"line {line}: {kind} has a column {said(name)}, and the sheet hasn't: add one")
         return ""
 
     def look_at_key(self, line, key):
@@ -134,7 +143,9 @@ def main(kind=None, school=None, number=None):
     for row in making.made:
         print(row)
     sys.stdout.flush()
-    print(f"office: {len(making.made)} rows were made: keep and file this text, again if need be, and don't make it anew", file=sys.stderr)
+    count = "1 row was" if len(making.made) == 1 else f"{len(making.made)} rows were"
+    text = f"office: {count} made: keep and file this text, again if need be, and don't make it anew"
+    print(text, file=sys.stderr)
 
 
 if __name__ == "__main__":

@@ -59,7 +59,8 @@ def read(data):
                     names.pop()
                 continue
             if any(cells[len(names):]) or any(cell and not name for name, cell in zip(names, cells)):
-                raise Bad(f"line {reader.line_num} has a cell without a heading")
+                wrong = f"line {reader.line_num} has a cell without a heading"
+                raise Bad(f"{wrong}: the first line must be the headings, so leave out what is above them")
             rows.append((reader.line_num, dict(zip(names, cells + [""] * len(names)))))
     except csv.Error as error:
         raise Bad(f"line {reader.line_num}: {error}") from None

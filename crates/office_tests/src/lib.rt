@@ -1,7 +1,5 @@
-//! Tests of the office: a full one, and the worked year by its index and by a plain list. This library has tests alone.
+//! Tests of the office: a full one. This library has tests alone.
 #![tactic(auto)]
 
 #[cfg(test)]
 mod full;
-#[cfg(test)]
-mod year;
