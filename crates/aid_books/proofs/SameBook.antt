@@ -1,9 +1,10 @@
 -- The derived `==` of a book and of its parts is equality.
-use Rattle.std.proofs.Common.{length, ◌≡◌, ℕ, ℤ, pos, ◌&&◌, List, Some, option_map, slice_get, refl, ap}
+use Rattle.std.proofs.Common.{length, ◌≡◌, ℕ, ◌≤◌, ℤ, pos, ◌&&◌, List, Some, option_map, slice_get, refl, ap}
 use Rattle.std.specs.Ordering.{int_eq}
 use Rattle.std.specs.Cmp.Rules.{signed_items}
 use denote.Struct.Props.{props}
 use lib.Pointwise.{pointwise}
+use Rattle.std.specs.Coded.{le_prop}
 use Rattle.aid_num.specs.Nearest.{share}
 use Rattle.aid_types.proofs.Same.{Tells, tells_filled, tells_pair, tells_by, same_with_fact, tells_ℕ, tells_ℤ, le_ℤ-prop}
 use Rattle.aid_types.specs.Ranges.{EachIsAmount, IsAmount, IsFloor, IsPercent, IsRate, IsWithin}
@@ -221,18 +222,18 @@ pub tells_ages : Tells ages_eq.it
 tells_ages = tells_filled 64 (record { start = pos 0; single = pos 0; married = pos 0 }) tells_age_row
 
 abbrev BookParts : Type 0
-BookParts = ℕ × (PellFigures × (Percents × (Poverty × (Payroll × (Protection × (Employment × (AssetRates × (List Bracket × (List AgeRow × (Schedule × (List Bracket)))))))))))
+BookParts = ℕ × (PellFigures × (Percents × (Poverty × (Payroll × (Protection × (Employment × (AssetRates × (List Bracket × (List AgeRow × (Schedule × (List Bracket × ℕ)))))))))))
 
 unfoldable pub book_parts : Book → BookParts
-book_parts s = (s.year, (s.pell, (s.percent, (s.poverty, (s.payroll, (s.protection, (s.employment, (s.assets, (s.business, (s.age, (s.schedule, s.bracket)))))))))))
+book_parts s = (s.year, (s.pell, (s.percent, (s.poverty, (s.payroll, (s.protection, (s.employment, (s.assets, (s.business, (s.age, (s.schedule, (s.bracket, s.ceiling))))))))))))
 
 pub book_whole : (x y : Book) → book_parts x ≡ book_parts y → x ≡ y
 unfolding book_parts
 book_whole x y e =
-    let P : BookParts → Type 0 = λ b. (option_map (λ (row : Bracket). row.over) (slice_get b.1.1.1.1.1.1.1.1.0 0) ≡ Some (pos 0)) × ((option_map (λ (row : Bracket). row.base) (slice_get b.1.1.1.1.1.1.1.1.0 0) ≡ Some (pos 0)) × ((option_map (λ (row : AgeRow). row.start) (slice_get b.1.1.1.1.1.1.1.1.1.0 0) ≡ Some (pos 0)) × ((option_map (λ (row : Bracket). row.base) (slice_get b.1.1.1.1.1.1.1.1.1.1.1 0) ≡ option_map (λ (row : Bracket). share row.over b.1.1.1.1.1.1.1.1.1.1.0.first_rate) (slice_get b.1.1.1.1.1.1.1.1.1.1.1 0))))) in
-    let make : (b : BookParts) → P b → Book = λ b p. record { year = b.0; pell = b.1.0; percent = b.1.1.0; poverty = b.1.1.1.0; payroll = b.1.1.1.1.0; protection = b.1.1.1.1.1.0; employment = b.1.1.1.1.1.1.0; assets = b.1.1.1.1.1.1.1.0; business = b.1.1.1.1.1.1.1.1.0; age = b.1.1.1.1.1.1.1.1.1.0; schedule = b.1.1.1.1.1.1.1.1.1.1.0; bracket = b.1.1.1.1.1.1.1.1.1.1.1; business_over = p.0; business_base = p.1.0; age_start = p.1.1.0; bracket_base = p.1.1.1 } in
-    same_with_fact P make (λ b. hlevel (le_ℤ-prop, props)) (book_parts x) (book_parts y) (x.business_over, (x.business_base, (x.age_start, x.bracket_base))) (y.business_over, (y.business_base, (y.age_start, y.bracket_base))) e
+    let P : BookParts → Type 0 = λ b. (b.1.1.1.1.1.1.1.1.1.1.1.1 ≤ 9999) × ((option_map (λ (row : Bracket). row.over) (slice_get b.1.1.1.1.1.1.1.1.0 0) ≡ Some (pos 0)) × ((option_map (λ (row : Bracket). row.base) (slice_get b.1.1.1.1.1.1.1.1.0 0) ≡ Some (pos 0)) × ((option_map (λ (row : AgeRow). row.start) (slice_get b.1.1.1.1.1.1.1.1.1.0 0) ≡ Some (pos 0)) × ((option_map (λ (row : Bracket). row.base) (slice_get b.1.1.1.1.1.1.1.1.1.1.1.0 0) ≡ option_map (λ (row : Bracket). share row.over b.1.1.1.1.1.1.1.1.1.1.0.first_rate) (slice_get b.1.1.1.1.1.1.1.1.1.1.1.0 0)))))) in
+    let make : (b : BookParts) → P b → Book = λ b p. record { year = b.0; pell = b.1.0; percent = b.1.1.0; poverty = b.1.1.1.0; payroll = b.1.1.1.1.0; protection = b.1.1.1.1.1.0; employment = b.1.1.1.1.1.1.0; assets = b.1.1.1.1.1.1.1.0; business = b.1.1.1.1.1.1.1.1.0; age = b.1.1.1.1.1.1.1.1.1.0; schedule = b.1.1.1.1.1.1.1.1.1.1.0; bracket = b.1.1.1.1.1.1.1.1.1.1.1.0; ceiling = b.1.1.1.1.1.1.1.1.1.1.1.1; ceiling_in_range = p.0; business_over = p.1.0; business_base = p.1.1.0; age_start = p.1.1.1.0; bracket_base = p.1.1.1.1 } in
+    same_with_fact P make (λ b. hlevel (le_prop, props)) (book_parts x) (book_parts y) (x.ceiling_in_range, (x.business_over, (x.business_base, (x.age_start, x.bracket_base)))) (y.ceiling_in_range, (y.business_over, (y.business_base, (y.age_start, y.bracket_base)))) e
 
 pub tells_book : Tells book_eq.it
 unfolding book_parts
-tells_book = tells_by book_parts book_whole (tells_pair tells_ℕ (tells_pair tells_pell_figures (tells_pair tells_percents (tells_pair tells_poverty (tells_pair tells_payroll (tells_pair tells_protection (tells_pair tells_employment (tells_pair tells_asset_rates (tells_pair tells_brackets (tells_pair tells_ages (tells_pair tells_schedule tells_brackets)))))))))))
+tells_book = tells_by book_parts book_whole (tells_pair tells_ℕ (tells_pair tells_pell_figures (tells_pair tells_percents (tells_pair tells_poverty (tells_pair tells_payroll (tells_pair tells_protection (tells_pair tells_employment (tells_pair tells_asset_rates (tells_pair tells_brackets (tells_pair tells_ages (tells_pair tells_schedule (tells_pair tells_brackets tells_ℕ))))))))))))

@@ -1,6 +1,6 @@
 -- What makes the book of an award year valid: its figures are in range (own ranges), and its tables meet the conditions
 -- that the law's schedules have (HEA 475(d), (e), 476, 477, 478).
-use Rattle.std.specs.Prelude.{◌≡◌, ℕ, suc, pos, ◌<ℤ◌, List, length, All, slice_get, Some}
+use Rattle.std.specs.Prelude.{◌≡◌, ℕ, suc, ◌≤◌, pos, ◌<ℤ◌, List, length, All, slice_get, Some}
 use Rattle.aid_num.specs.Nearest.{share}
 use Rattle.aid_books.specs.Ages.{IsAgeRow}
 use Rattle.aid_books.specs.Marginal.{IsBracket, row_value}
@@ -113,3 +113,4 @@ pub record IsValidBook (b : Book) : Type 0 where
   pub schedule : IsSchedule b.schedule
   pub bracket : IsBracketTable b.bracket
   pub bracket_first : (row : Bracket) → slice_get b.bracket 0 ≡ Some row → row.base ≡ share row.over b.schedule.first_rate
+  pub ceiling : b.ceiling ≤ 9999

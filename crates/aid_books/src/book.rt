@@ -1,5 +1,5 @@
 //! The book of an award year: the figures and tables that the Department publishes for it.
-ghost use Rattle.std.specs.Prelude.{◌≡◌, ◌≤ℤ◌, Some, option_map, pos, slice_get};
+ghost use Rattle.std.specs.Prelude.{◌≡◌, ◌≤◌, ◌≤ℤ◌, Some, option_map, pos, slice_get};
 ghost use Rattle.aid_num.specs.Nearest.{share};
 ghost use Rattle.aid_types.specs.Ranges.{IsAmount, IsFloor, IsPercent, IsRate, IsWithin};
 
@@ -95,7 +95,8 @@ pub struct Schedule {
     pub ghost in_range: { IsFloor low_at × IsFloor low × IsRate first_rate × IsRate student_rate × IsFloor lowest_student },
 }
 
-/// The figures and tables of one award year.
+/// The figures and tables of one award year. Its ceiling is the percent of the Maximum award at which an index has none, or 0
+/// where the year has no ceiling.
 #[derive(PartialEq, Eq, Debug, Drop)]
 pub struct Book {
     pub year: Year,
@@ -110,6 +111,8 @@ pub struct Book {
     pub age: Ages,
     pub schedule: Schedule,
     pub bracket: Brackets,
+    pub ceiling: u16,
+    pub ghost ceiling_in_range: { ceiling ≤ 9999 },
     pub ghost business_over: { option_map (λ row. row.over) (slice_get business 0) ≡ Some (pos 0) },
     pub ghost business_base: { option_map (λ row. row.base) (slice_get business 0) ≡ Some (pos 0) },
     pub ghost age_start: { option_map (λ row. row.start) (slice_get age 0) ≡ Some (pos 0) },

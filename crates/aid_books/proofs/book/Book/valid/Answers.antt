@@ -50,6 +50,7 @@ valid_book b year business age bracket = record {
   schedule = let h = b.schedule.in_range in record { low_at = h.0; low = h.1; first_rate = h.2; student_rate = h.3; lowest_student = h.4 };
   bracket = bracket;
   bracket_first = λ row is. first_row (λ (r : Bracket). r.base) (λ (r : Bracket). share r.over b.schedule.first_rate) b.bracket row b.bracket_base is;
+  ceiling = b.ceiling_in_range;
 }
 
 pub returns : goal.returns
