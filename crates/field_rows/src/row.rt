@@ -1,10 +1,10 @@
 //! The entry of a row.
-ghost use Rattle.std.specs.Prelude.{◌≡◌, ◌+◌, ◌++◌, ◌≤◌, [], drop, length, map, option_and_then, option_map, Some};
+ghost use Rattle.std.specs.Prelude.{◌≡◌, ◌+◌, ◌++◌, ◌≤◌, [], drop, length, map, option_and_then, option_map, true, Some};
 ghost use Rattle.csv.specs.Records.{field_at, fields_of as texts_of};
 ghost use Rattle.field_table.specs.Forms.{IsTable, most_numbers};
 ghost use Rattle.field_table.specs.Parts.{slots_of};
 ghost use Rattle.field_table.specs.TableRows.{row_of as kind_row};
-ghost use Rattle.field_table.specs.Tables.{kind_at, kind_named};
+ghost use Rattle.field_table.specs.Tables.{are_plain, kind_at, kind_named};
 ghost use Rattle.field_table.specs.Walk.{numbers_drafted, numbers_of_slots};
 ghost use Rattle.field_rows.specs.Meanings.{said_of};
 ghost use Rattle.field_rows.specs.Numbers.{cause_of as cause_of_text, number_spelled, refused as refusal, row_source};
@@ -66,6 +66,7 @@ pub fn numbers_of(
 ) -> Result<Draft, RowError>
     requires words { length words.now ≤ 256 }
     requires table { IsTable (slots_of key.now ++ slots_of parts.now) }
+    requires plain { are_plain (slots_of key.now) ≡ true }
     ensures { numbers_drafted result ≡ numbers_of_slots (row_source (map (λ word. word.now) words.now) row) (slots_of key.now ++ slots_of parts.now) (drop 1 (texts_of texts.now)) }
 {
     let mut draft = Draft::new(key, parts);
