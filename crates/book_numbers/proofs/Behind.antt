@@ -1,11 +1,11 @@
 -- What is left behind a part of a book's numbers.
-use Rattle.std.proofs.Common.{◌≡◌, ℕ, zero, suc, ◌*◌, ◌≤◌, ℤ, pos, true, List, [], ◌∷◌, ◌++◌, length, map, take, unsigned_abs, IsTrue, refl, sym, ap, ◌∙◌, subst, append-nil, arith}
+use Rattle.std.proofs.Common.{◌≡◌, ℕ, zero, suc, ◌*◌, ◌≤◌, ℤ, pos, true, List, [], ◌∷◌, ◌++◌, length, map, take, IsTrue, refl, sym, ap, ◌∙◌, subst, arith}
 use Rattle.std.specs.Prelude.{flat_map}
 use Rattle.std.specs.List.{list_all}
 use Rattle.std.proofs.lemmas.Bool.{and_parts, and_from}
 use Rattle.std.proofs.lemmas.Int.{ints}
 use Rattle.std.proofs.lemmas.List.{length-append, length-map, length-take-le}
-use Rattle.book_numbers.proofs.Plain.{behind_plain, is_plain, is_within}
+use Rattle.book_numbers.proofs.Plain.{as_many, behind_all, behind_plain, is_plain, is_within}
 use Rattle.book_numbers.proofs.RowsOf.{IsAge, IsBrackets, IsBusiness, age_rows, brackets_rows, business_rows}
 use Rattle.book_numbers.specs.Book.{age_numbers, age_row, bracket_numbers, bracket_row}
 use Rattle.book_numbers.specs.Sections.{AreLast, AreLeft, IsNext, age_slots, bracket_slots, business_slots}
@@ -18,16 +18,6 @@ use Rattle.field_table.specs.Limits.{fits}
 use Rattle.field_table.specs.declared.field.Limit.{Limit}
 use Rattle.field_table.specs.declared.field.Limit.TheVariants.{Between}
 use Rattle.field_table.specs.Parts.{Line, Slot}
-
--- there are as many numbers as fields, at least
-pub length-AreNumbers : (slots : List Slot) (earlier zs : List ℤ) → AreNumbers slots earlier zs → length slots ≤ length zs
-length-AreNumbers [] earlier zs h = omega arith
-length-AreNumbers (slot ∷ slots) earlier [] h = absurd h
-length-AreNumbers (slot ∷ slots) earlier (z ∷ zs) h =
-    let counted = rows (unsigned_abs z) slot.first slot.later in
-    let rest = length-AreNumbers (counted ++ slots) (z ∷ earlier) zs h.1 in
-    let e = length-append counted slots in
-    omega (arith, rest, e)
 
 -- numbers read one after the other, newest first
 abbrev pub onto : List ℤ → List ℤ → List ℤ
@@ -94,13 +84,14 @@ length-flat_map f three (x ∷ xs) =
 pub record IsThree (slot : Slot) : Type 0 where
   pub first : length slot.first ≡ 3
   pub later : length slot.later ≡ 3
+  pub ends : slot.ends ≡ 0
 
 behind_table : {X : Type 0} (f : X → List ℤ) → ((x : X) → length (f x) ≡ 3) → (slot : Slot) → IsThree slot → (slots : List Slot) (earlier zs : List ℤ) (xs : List X)
     → AreNumbers (slot ∷ slots) earlier (pos (length xs) ∷ (flat_map f xs ++ zs)) → AreNumbers slots (onto (flat_map f xs) (pos (length xs) ∷ earlier)) zs
 behind_table f three slot is slots earlier zs xs h =
     let n = length xs in
     behind_plains (rows n slot.first slot.later) slots (pos n ∷ earlier) (flat_map f xs) zs (plain-rows n slot.first slot.later)
-    (length-flat_map f three xs ∙ sym (length-rows n slot.first slot.later is.first is.later)) h.1
+    (length-flat_map f three xs ∙ sym (length-rows n slot.first slot.later is.first is.later)) (behind_all slot slots (pos n ∷ earlier) (flat_map f xs ++ zs) (pos n) is.ends h.1)
 
 pub record Counts (n high : ℕ) (rest : List ℤ) : Type 0 where
   pub few : n ≤ high
@@ -111,9 +102,8 @@ counts : (high : ℕ) (slot : Slot) (slots : List Slot) (earlier rest : List ℤ
 counts high slot slots earlier rest n e is h =
     let within = is_within (pos 1) (pos high) (pos n) (subst (λ (l : Limit). IsTrue (fits l earlier (pos n))) e h.0) in
     let three = length-rows n slot.first slot.later is.first is.later in
-    let parts = length-append (rows n slot.first slot.later) slots in
-    let enough = length-AreNumbers (rows n slot.first slot.later ++ slots) (pos n ∷ earlier) rest h.1 in
-    record { few = omega (arith, ints, within.1); left = omega (arith, three, parts, enough) }
+    let enough = as_many (rows n slot.first slot.later) slots (pos n ∷ earlier) rest (plain-rows n slot.first slot.later) (behind_all slot slots (pos n ∷ earlier) rest (pos n) is.ends h.1) in
+    record { few = omega (arith, ints, within.1); left = omega (arith, three, enough) }
 
 -- the field of each table's count
 abbrev first_slot : List Slot → Slot
@@ -122,15 +112,15 @@ first_slot (slot ∷ slots) = slot
 
 pub business_counts : (zs rest : List ℤ) (n : ℕ) → IsNext business_slots zs → zs ≡ pos n ∷ rest → Counts n 16 rest
 business_counts zs rest n next e =
-    counts 16 (first_slot business_slots) next.later next.earlier rest n refl (record { first = refl; later = refl }) (subst (λ (l : List ℤ). AreNumbers (business_slots ++ next.later) next.earlier l) e next.numbers)
+    counts 16 (first_slot business_slots) next.later next.earlier rest n refl (record { first = refl; later = refl; ends = refl }) (subst (λ (l : List ℤ). AreNumbers (business_slots ++ next.later) next.earlier l) e next.numbers)
 
 pub age_counts : (zs rest : List ℤ) (n : ℕ) → IsNext age_slots zs → zs ≡ pos n ∷ rest → Counts n 64 rest
 age_counts zs rest n next e =
-    counts 64 (first_slot age_slots) next.later next.earlier rest n refl (record { first = refl; later = refl }) (subst (λ (l : List ℤ). AreNumbers (age_slots ++ next.later) next.earlier l) e next.numbers)
+    counts 64 (first_slot age_slots) next.later next.earlier rest n refl (record { first = refl; later = refl; ends = refl }) (subst (λ (l : List ℤ). AreNumbers (age_slots ++ next.later) next.earlier l) e next.numbers)
 
 pub bracket_counts : (first_rate : ℤ) (zs rest : List ℤ) (n : ℕ) → AreLast first_rate zs → zs ≡ pos n ∷ rest → Counts n 16 rest
 bracket_counts first_rate zs rest n last e =
-    counts 16 (first_slot bracket_slots) [] last.earlier rest n refl (record { first = refl; later = refl }) (subst (λ (l : List ℤ). AreNumbers bracket_slots last.earlier l) e last.numbers)
+    counts 16 (first_slot bracket_slots) last.later last.earlier rest n refl (record { first = refl; later = refl; ends = refl }) (subst (λ (l : List ℤ). AreNumbers (bracket_slots ++ last.later) last.earlier l) e last.numbers)
 
 -- a table is its count and its rows
 pub table_numbers : {X : Type 0} (f : X → List ℤ) (zs rest ys : List ℤ) (n : ℕ) (xs : List X) → zs ≡ pos n ∷ rest → rest ≡ flat_map f (take n xs) ++ ys → n ≤ length xs
@@ -147,16 +137,7 @@ age_table zs ys rows next e = age_rows next.later next.earlier ys rows (subst (�
 
 pub bracket_table : (first_rate : ℤ) (zs ys : List ℤ) (rows : List Bracket) → AreLast first_rate zs → zs ≡ bracket_numbers rows ++ ys → IsBrackets first_rate rows
 bracket_table first_rate zs ys rows last e =
-    subst (λ (r : ℤ). IsBrackets r rows) last.rate (brackets_rows [] last.earlier ys rows (subst (λ (l : List ℤ). AreNumbers bracket_slots last.earlier l) e last.numbers))
-
-none_left : (earlier zs : List ℤ) → AreNumbers [] earlier zs → zs ≡ []
-none_left earlier [] h = refl
-none_left earlier (z ∷ zs) h = absurd h
-
--- nothing is left behind the last table
-pub bracket_end : (first_rate : ℤ) (zs ys : List ℤ) (rows : List Bracket) → AreLast first_rate zs → zs ≡ bracket_numbers rows ++ ys → ys ≡ []
-bracket_end first_rate zs ys rows last e =
-    none_left _ ys (behind_table bracket_row (λ row. refl) (first_slot bracket_slots) (record { first = refl; later = refl }) [] last.earlier ys rows (subst (λ (l : List ℤ). AreNumbers bracket_slots last.earlier l) e last.numbers))
+    subst (λ (r : ℤ). IsBrackets r rows) last.rate (brackets_rows last.later last.earlier ys rows (subst (λ (l : List ℤ). AreNumbers (bracket_slots ++ last.later) last.earlier l) e last.numbers))
 
 -- what is left behind each part
 pub next_of : (slots later : List Slot) (zs : List ℤ) → AreLeft (slots ++ later) zs → IsNext slots zs
@@ -168,12 +149,12 @@ left_behind slots later zs xs ys h e left f =
 
 pub left_behind_business : (later : List Slot) (zs ys : List ℤ) (rows : List Bracket) → AreLeft (business_slots ++ later) zs → zs ≡ bracket_numbers rows ++ ys → AreLeft later ys
 left_behind_business later zs ys rows left e =
-    record { earlier = _; numbers = behind_table bracket_row (λ row. refl) (first_slot business_slots) (record { first = refl; later = refl }) later left.earlier ys rows (subst (λ (l : List ℤ). AreNumbers (business_slots ++ later) left.earlier l) e left.numbers) }
+    record { earlier = _; numbers = behind_table bracket_row (λ row. refl) (first_slot business_slots) (record { first = refl; later = refl; ends = refl }) later left.earlier ys rows (subst (λ (l : List ℤ). AreNumbers (business_slots ++ later) left.earlier l) e left.numbers) }
 
 pub left_behind_age : (later : List Slot) (zs ys : List ℤ) (rows : List AgeRow) → AreLeft (age_slots ++ later) zs → zs ≡ age_numbers rows ++ ys → AreLeft later ys
 left_behind_age later zs ys rows left e =
-    record { earlier = _; numbers = behind_table age_row (λ row. refl) (first_slot age_slots) (record { first = refl; later = refl }) later left.earlier ys rows (subst (λ (l : List ℤ). AreNumbers (age_slots ++ later) left.earlier l) e left.numbers) }
+    record { earlier = _; numbers = behind_table age_row (λ row. refl) (first_slot age_slots) (record { first = refl; later = refl; ends = refl }) later left.earlier ys rows (subst (λ (l : List ℤ). AreNumbers (age_slots ++ later) left.earlier l) e left.numbers) }
 
-pub bracket_whole : (first_rate : ℤ) (zs ys : List ℤ) (rows table : List Bracket) → AreLast first_rate zs → zs ≡ bracket_numbers rows ++ ys → table ≡ rows → zs ≡ bracket_numbers table
-bracket_whole first_rate zs ys rows table last e f =
-    e ∙ ap (λ l. bracket_numbers rows ++ l) (bracket_end first_rate zs ys rows last e) ∙ append-nil (bracket_numbers rows) ∙ ap bracket_numbers (sym f)
+pub left_behind_bracket : (later : List Slot) (zs ys : List ℤ) (rows : List Bracket) → AreLeft (bracket_slots ++ later) zs → zs ≡ bracket_numbers rows ++ ys → AreLeft later ys
+left_behind_bracket later zs ys rows left e =
+    record { earlier = _; numbers = behind_table bracket_row (λ row. refl) (first_slot bracket_slots) (record { first = refl; later = refl; ends = refl }) later left.earlier ys rows (subst (λ (l : List ℤ). AreNumbers (bracket_slots ++ later) left.earlier l) e left.numbers) }

@@ -1,5 +1,5 @@
 -- Books with equal numbers are equal.
-use Rattle.std.proofs.Common.{◌≡◌, ℕ, ℤ, pos, List, [], ◌∷◌, ◌++◌, length, refl, sym, ap, ◌∙◌, append_assoc, arith}
+use Rattle.std.proofs.Common.{◌≡◌, ℕ, zero, suc, ℤ, pos, List, [], ◌∷◌, ◌++◌, length, refl, sym, ap, ◌∙◌, append_assoc, arith}
 use Rattle.std.specs.Prelude.{flat_map, slice_index_or}
 use Rattle.aid_books.proofs.SameBook.{age_row_parts, age_row_whole, asset_rates_parts, asset_rates_whole, book_parts, book_whole, bracket_parts, bracket_whole, by_size_parts, by_size_whole, employment_parts, employment_whole, payroll_parts, payroll_whole, pell_figures_parts, pell_figures_whole, percents_parts, percents_whole, poverty_parts, poverty_whole, protection_parts, protection_whole, schedule_parts, schedule_whole}
 use Rattle.aid_books.specs.declared.ages.AgeRow.{AgeRow}
@@ -15,7 +15,7 @@ use Rattle.aid_books.specs.declared.book.Schedule.{Schedule}
 use Rattle.aid_books.specs.declared.by_size.BySize.{BySize}
 use Rattle.aid_books.specs.declared.marginal.Bracket.{Bracket}
 use Rattle.book_numbers.proofs.Chain.{length-poverty, length-protection, length-size_numbers}
-use Rattle.book_numbers.specs.Book.{age_numbers, age_row, asset_numbers, bracket_numbers, bracket_row, employment_numbers, numbers_of, payroll_numbers, pell_numbers, percent_numbers, poverty_numbers, protection_numbers, schedule_numbers, size_numbers}
+use Rattle.book_numbers.specs.Book.{age_numbers, age_row, asset_numbers, bracket_numbers, bracket_row, ceiling_numbers, employment_numbers, form_number, numbers_of, payroll_numbers, pell_numbers, percent_numbers, poverty_numbers, protection_numbers, schedule_numbers, size_numbers}
 
 -- two lists with equal beginnings and equal ends
 pub record Same {X : Type 0} (x y : X) (xs ys : List ℤ) : Type 0 where
@@ -130,13 +130,20 @@ same_table f same a b xs ys e =
     let rows : flat_map f a ++ xs ≡ flat_map f b ++ ys = cc in
     same_rows f same a b xs ys count rows
 
-same_year : (x y : ℕ) (xs ys : List ℤ) → (pos 1 ∷ pos x ∷ []) ++ xs ≡ (pos 1 ∷ pos y ∷ []) ++ ys → Same x y xs ys
-same_year x y xs ys e = record { first = cc; rest = cc }
+same_year : (f g : ℤ) (x y : ℕ) (xs ys : List ℤ) → (f ∷ pos x ∷ []) ++ xs ≡ (g ∷ pos y ∷ []) ++ ys → Same x y xs ys
+same_year f g x y xs ys e = record { first = cc; rest = cc }
+
+same_ceiling : (x y : ℕ) → ceiling_numbers x ≡ ceiling_numbers y → x ≡ y
+same_ceiling zero zero e = refl
+same_ceiling zero (suc y) e = absurd cc
+same_ceiling (suc x) zero e = absurd cc
+same_ceiling (suc x) (suc y) e = cc
 
 pub same_book : (x y : Book) → numbers_of x ≡ numbers_of y → x ≡ y
 unfolding numbers_of book_parts
 same_book x y e =
-    let r11 : Book → List ℤ = λ b. bracket_numbers b.bracket in
+    let r12 : Book → List ℤ = λ b. ceiling_numbers b.ceiling in
+    let r11 : Book → List ℤ = λ b. bracket_numbers b.bracket ++ r12 b in
     let r10 : Book → List ℤ = λ b. schedule_numbers b.schedule ++ r11 b in
     let r9 : Book → List ℤ = λ b. age_numbers b.age ++ r10 b in
     let r8 : Book → List ℤ = λ b. bracket_numbers b.business ++ r9 b in
@@ -147,7 +154,7 @@ same_book x y e =
     let r3 : Book → List ℤ = λ b. poverty_numbers b.poverty ++ r4 b in
     let r2 : Book → List ℤ = λ b. percent_numbers b.percent ++ r3 b in
     let r1 : Book → List ℤ = λ b. pell_numbers b.pell ++ r2 b in
-    let s0 = same_year x.year y.year (r1 x) (r1 y) e in
+    let s0 = same_year (form_number x.ceiling) (form_number y.ceiling) x.year y.year (r1 x) (r1 y) e in
     let s1 = same_pell x.pell y.pell (r2 x) (r2 y) s0.rest in
     let s2 = same_percent x.percent y.percent (r3 x) (r3 y) s1.rest in
     let s3 = same_poverty x.poverty y.poverty (r4 x) (r4 y) s2.rest in
@@ -158,5 +165,6 @@ same_book x y e =
     let s8 = same_table bracket_row same_bracket x.business y.business (r9 x) (r9 y) s7.rest in
     let s9 = same_table age_row same_age_row x.age y.age (r10 x) (r10 y) s8.rest in
     let s10 = same_schedule x.schedule y.schedule (r11 x) (r11 y) s9.rest in
-    let s11 = same_table bracket_row same_bracket x.bracket y.bracket [] [] (ap (λ l. l ++ []) s10.rest) in
-    book_whole x y (λ i. (s0.first i, (s1.first i, (s2.first i, (s3.first i, (s4.first i, (s5.first i, (s6.first i, (s7.first i, (s8.first i, (s9.first i, (s10.first i, s11.first i))))))))))))
+    let s11 = same_table bracket_row same_bracket x.bracket y.bracket (r12 x) (r12 y) s10.rest in
+    let s12 = same_ceiling x.ceiling y.ceiling s11.rest in
+    book_whole x y (λ i. (s0.first i, (s1.first i, (s2.first i, (s3.first i, (s4.first i, (s5.first i, (s6.first i, (s7.first i, (s8.first i, (s9.first i, (s10.first i, (s11.first i, s12 i)))))))))))))

@@ -1,5 +1,5 @@
 -- The numbers of a book are in range.
-use Rattle.std.proofs.Common.{◌≡◌, ℕ, zero, suc, ◌≤◌, ℤ, pos, int_le, int_lt, true, ◌&&◌, List, [], ◌∷◌, ◌++◌, length, IsTrue, Some, option_map, codes, refl, sym, subst, append-nil, neg_ℤ, unsigned_abs, arith}
+use Rattle.std.proofs.Common.{◌≡◌, ℕ, zero, suc, ◌≤◌, ℤ, pos, int_le, int_lt, true, ◌&&◌, List, [], ◌∷◌, ◌++◌, length, IsTrue, Some, option_map, codes, refl, sym, subst, neg_ℤ, arith}
 use Rattle.std.specs.Prelude.{flat_map, slice_get}
 use Rattle.std.specs.List.{All, list_all}
 use Rattle.std.specs.Ordering.{int_eq}
@@ -26,16 +26,16 @@ use Rattle.aid_books.specs.declared.book.Schedule.{Schedule}
 use Rattle.aid_books.specs.declared.marginal.Bracket.{Bracket}
 use Rattle.book_numbers.proofs.Amounts.{amount_limit, is_amount_limit, is_amount_slot}
 use Rattle.book_numbers.proofs.Behind.{onto}
-use Rattle.book_numbers.proofs.Chain.{after_age, after_assets, after_business, after_employment, after_payroll, after_pell, after_percent, after_poverty, after_protection, after_year, length-poverty, length-protection}
-use Rattle.book_numbers.proofs.Plain.{empty_lines, is_plain}
+use Rattle.book_numbers.proofs.Chain.{after_age, after_assets, after_business, after_employment, after_payroll, after_pell, after_percent, after_poverty, after_protection, after_year, form_put, length-poverty, length-protection}
+use Rattle.book_numbers.proofs.Plain.{before_plain, is_plain}
 use Rattle.book_numbers.proofs.RowsOf.{age_lines, bracket_lines}
-use Rattle.book_numbers.specs.Book.{age_numbers, age_row, asset_numbers, bracket_numbers, bracket_row, employment_numbers, numbers_of, payroll_numbers, pell_numbers, percent_numbers, poverty_numbers, protection_numbers, schedule_numbers, size_numbers}
-use Rattle.book_numbers.specs.Sections.{age_slots, asset_slots, bracket_slots, business_slots, employment_slots, payroll_slots, pell_slots, percent_slots, poverty_slots, protection_slots, schedule_slots, start_slots}
+use Rattle.book_numbers.specs.Book.{age_numbers, age_row, asset_numbers, bracket_numbers, bracket_row, ceiling_numbers, employment_numbers, form_number, numbers_of, payroll_numbers, pell_numbers, percent_numbers, poverty_numbers, protection_numbers, schedule_numbers, size_numbers}
+use Rattle.book_numbers.specs.Sections.{age_slots, asset_slots, bracket_slots, business_slots, employment_slots, last_slots, payroll_slots, pell_slots, percent_slots, poverty_slots, protection_slots, schedule_slots, year_slots}
 use Rattle.filing_kinds.specs.Kinds.{book_slots}
 use Rattle.field_table.specs.declared.field.Limit.{Limit}
-use Rattle.field_table.specs.Layout.{AreNumbers, rows, rows_again}
+use Rattle.field_table.specs.Layout.{AreNumbers, rows_again}
 use Rattle.field_table.specs.Limits.{before, fits, is_between}
-use Rattle.field_table.specs.Parts.{Line, Slot}
+use Rattle.field_table.specs.Parts.{Slot}
 
 pub between : (low high z : ℤ) → IsWithin low high z → is_between low high z ≡ true
 between low high z h = and_from (int_le low z) (int_le z high) (int_le-true low z h.0) (int_le-true z high h.1)
@@ -160,8 +160,7 @@ amounts_put (slot ∷ slots) later earlier (x ∷ xs) zs h e a n =
     let here = and_parts (is_amount_limit slot.line.limit) (is_plain slot) both.0 in
     let each = and_parts (is_amount x) (list_all is_amount xs) a in (
       subst (λ (l : Limit). IsTrue (fits l earlier x)) (sym (amount_limit slot.line.limit here.0)) each.0,
-      subst (λ (lines : List Line). AreNumbers (rows (unsigned_abs x) lines slot.later ++ (slots ++ later)) (x ∷ earlier) (xs ++ zs)) (sym (empty_lines slot.first here.1))
-          (amounts_put slots later (x ∷ earlier) xs zs both.1 (omega arith) each.1 n),
+      before_plain slot (slots ++ later) (x ∷ earlier) (xs ++ zs) x here.1 (amounts_put slots later (x ∷ earlier) xs zs both.1 (omega arith) each.1 n),
     )
 
 each_append : (xs ys : List ℤ) → EachIsAmount xs → EachIsAmount ys → EachIsAmount (xs ++ ys)
@@ -193,8 +192,17 @@ protection_amounts x =
     (each_more x.married_student rest x.in_range.2
     (each_append (size_numbers x.single_parent) (size_numbers x.married_parent) (size_amounts x.single_parent) (size_amounts x.married_parent)))))
 
-start_put : (year : ℕ) (slots : List Slot) (earlier zs : List ℤ) → IsBetween 2000 2099 year → AreNumbers slots (pos year ∷ pos 1 ∷ earlier) zs → AreNumbers (start_slots ++ slots) earlier (pos 1 ∷ pos year ∷ zs)
-start_put year slots earlier zs h n = (refl, (between (pos 2000) (pos 2099) (pos year) (omega (arith, ints, h.0), omega (arith, ints, h.1)), n))
+-- the form, and the ceiling, which stands in form 2 alone
+form_between : (ceiling : ℕ) → is_between (pos 1) (pos 2) (form_number ceiling) ≡ true
+form_between zero = refl
+form_between (suc n) = refl
+
+ceiling_put : (ceiling : ℕ) (earlier : List ℤ) → ceiling ≤ 9999 → AreNumbers (last_slots (form_number ceiling)) earlier (ceiling_numbers ceiling)
+ceiling_put zero earlier h = tt
+ceiling_put (suc n) earlier h = (count_between 9999 n h, tt)
+
+year_put : (year : ℕ) (slots : List Slot) (earlier zs : List ℤ) → IsBetween 2000 2099 year → AreNumbers slots (pos year ∷ earlier) zs → AreNumbers (year_slots ++ slots) earlier (pos year ∷ zs)
+year_put year slots earlier zs h n = (between (pos 2000) (pos 2099) (pos year) (omega (arith, ints, h.0), omega (arith, ints, h.1)), n)
 
 pell_put : (x : PellFigures) (slots : List Slot) (earlier zs : List ℤ) → AreNumbers slots (onto (pell_numbers x) earlier) zs → AreNumbers (pell_slots ++ slots) earlier (pell_numbers x ++ zs)
 pell_put x slots earlier zs n = (between (pos 1) (pos 99999) x.maximum x.maximum_in_range, (between (pos 1) x.maximum x.minimum x.minimum_in_range, n))
@@ -273,16 +281,13 @@ pub record IsAgeList (rows : List AgeRow) : Type 0 where
   pub in_range : All IsAgeRow rows
   pub by_age : IsByAge rows
 
-last_put : (rows : List Bracket) (earlier : List ℤ) → IsBracketList rows → option_map (λ row. row.base) (slice_get rows 0) ≡ option_map (λ row. share row.over (before earlier 2)) (slice_get rows 0)
-    → AreNumbers bracket_slots earlier (bracket_numbers rows)
-last_put rows earlier h base =
-    subst (λ (zs : List ℤ). AreNumbers bracket_slots earlier zs) (append-nil (bracket_numbers rows)) (bracket_put rows [] earlier [] h.few h.in_range h.marginal base tt)
-
 pub book_in_range : (b : Book) → IsBetween 2000 2099 b.year → IsBracketList b.business → IsAgeList b.age → IsBracketList b.bracket
     → (earlier : List ℤ) → AreNumbers book_slots earlier (numbers_of b)
 unfolding numbers_of after_year after_pell after_percent after_poverty after_payroll after_protection after_employment after_assets after_business after_age
 book_in_range b year business age bracket earlier =
-    let e0 = pos b.year ∷ pos 1 ∷ earlier in
+    let form = form_number b.ceiling in
+    let tail = last_slots form in
+    let e0 = pos b.year ∷ form ∷ earlier in
     let e1 = onto (pell_numbers b.pell) e0 in
     let e2 = onto (percent_numbers b.percent) e1 in
     let e3 = onto (poverty_numbers b.poverty) e2 in
@@ -293,7 +298,9 @@ book_in_range b year business age bracket earlier =
     let e8 = onto (bracket_numbers b.business) e7 in
     let e9 = onto (age_numbers b.age) e8 in
     let e10 = onto (schedule_numbers b.schedule) e9 in
-    let z10 = bracket_numbers b.bracket in
+    let e11 = onto (bracket_numbers b.bracket) e10 in
+    let z11 = ceiling_numbers b.ceiling in
+    let z10 = bracket_numbers b.bracket ++ z11 in
     let z9 = schedule_numbers b.schedule ++ z10 in
     let z8 = age_numbers b.age ++ z9 in
     let z7 = bracket_numbers b.business ++ z8 in
@@ -304,15 +311,17 @@ book_in_range b year business age bracket earlier =
     let z2 = poverty_numbers b.poverty ++ z3 in
     let z1 = percent_numbers b.percent ++ z2 in
     let z0 = pell_numbers b.pell ++ z1 in
-    start_put b.year after_year earlier z0 year (
-    pell_put b.pell after_pell e0 z1 (
-    percent_put b.percent after_percent e1 z2 (
-    amounts_put poverty_slots after_poverty e2 (poverty_numbers b.poverty) z3 refl (length-poverty b.poverty) (poverty_amounts b.poverty) (
-    payroll_put b.payroll after_payroll e3 z4 (
-    amounts_put protection_slots after_protection e4 (protection_numbers b.protection) z5 refl (length-protection b.protection) (protection_amounts b.protection) (
-    employment_put b.employment after_employment e5 z6 (
-    asset_put b.assets after_assets e6 z7 (
-    business_put b.business after_business e7 z8 business.few business.in_range business.marginal b.business_over b.business_base (
-    age_put b.age after_age e8 z9 age.few age.in_range age.by_age b.age_start (
-    schedule_put b.schedule bracket_slots e9 z10 (
-    last_put b.bracket e10 bracket b.bracket_base)))))))))))
+    form_put form earlier (pos b.year ∷ z0) (form_between b.ceiling) (
+    year_put b.year (after_year tail) (form ∷ earlier) z0 year (
+    pell_put b.pell (after_pell tail) e0 z1 (
+    percent_put b.percent (after_percent tail) e1 z2 (
+    amounts_put poverty_slots (after_poverty tail) e2 (poverty_numbers b.poverty) z3 refl (length-poverty b.poverty) (poverty_amounts b.poverty) (
+    payroll_put b.payroll (after_payroll tail) e3 z4 (
+    amounts_put protection_slots (after_protection tail) e4 (protection_numbers b.protection) z5 refl (length-protection b.protection) (protection_amounts b.protection) (
+    employment_put b.employment (after_employment tail) e5 z6 (
+    asset_put b.assets (after_assets tail) e6 z7 (
+    business_put b.business (after_business tail) e7 z8 business.few business.in_range business.marginal b.business_over b.business_base (
+    age_put b.age (after_age tail) e8 z9 age.few age.in_range age.by_age b.age_start (
+    schedule_put b.schedule (bracket_slots ++ tail) e9 z10 (
+    bracket_put b.bracket tail e10 z11 bracket.few bracket.in_range bracket.marginal b.bracket_base (
+    ceiling_put b.ceiling e11 b.ceiling_in_range)))))))))))))

@@ -1,13 +1,14 @@
 -- Numbers of fields that count nothing.
-use Rattle.std.proofs.Common.{◌≡◌, ℕ, zero, suc, ◌<◌, ◌≤◌, ℤ, pos, int_le, Bool, true, false, List, [], ◌∷◌, ◌++◌, length, unsigned_abs, Some, refl, subst, arith}
-use Rattle.std.specs.Prelude.{⊤, slice_get, slice_index_or}
+use Rattle.std.proofs.Common.{◌≡◌, ℕ, zero, suc, ◌<◌, ◌≤◌, ℤ, pos, int_le, Bool, true, false, List, [], ◌∷◌, ◌++◌, length, unsigned_abs, ◌&&◌, Some, refl, sym, ap, ◌∙◌, subst, arith}
+use Rattle.std.specs.Prelude.{⊤, ◌==◌, slice_get, slice_index_or}
 use Rattle.std.specs.List.{list_all}
-use Rattle.std.proofs.lemmas.Bool.{and_parts}
+use Rattle.std.proofs.lemmas.Bool.{and_parts, eqb-true}
 use Rattle.std.proofs.lemmas.Int.{ints}
 use Rattle.aid_types.specs.Ranges.{IsWithin}
 use Rattle.book_numbers.specs.Sections.{IsNext}
-use Rattle.field_table.specs.Layout.{AreNumbers, rows}
+use Rattle.field_table.specs.Layout.{AreNumbers, after, rows}
 use Rattle.field_table.specs.Limits.{fits, is_between}
+use Rattle.field_table.proofs.LayoutLemmas.{cut-zero}
 use Rattle.field_table.specs.Parts.{Line, Slot}
 use Rattle.field_table.specs.declared.field.Limit.{Limit}
 use Rattle.field_table.specs.declared.field.Limit.TheVariants.{Between, UpToLast, AboveRow, Continues, Begins}
@@ -41,12 +42,27 @@ empty_lines [] h = refl
 empty_lines (line ∷ lines) h = cc
 
 abbrev pub is_plain : Slot → Bool
-is_plain slot = is_empty slot.first
+is_plain slot = is_empty slot.first && (slot.ends == 0)
 
--- what is behind the number of such a field
+-- what is behind the number of a field that leaves all
+pub behind_all : (slot : Slot) (slots : List Slot) (earlier zs : List ℤ) (z : ℤ) → slot.ends ≡ 0 → AreNumbers (after (slot ∷ slots) z) earlier zs
+    → AreNumbers (rows (unsigned_abs z) slot.first slot.later ++ slots) earlier zs
+behind_all slot slots earlier zs z none k =
+    subst (λ (s : List Slot). AreNumbers (rows (unsigned_abs z) slot.first slot.later ++ s) earlier zs) (cut-zero slot.ends z slots none) k
+
+-- and of one that counts nothing either
+after_plain : (slot : Slot) (slots : List Slot) (z : ℤ) → is_plain slot ≡ true → after (slot ∷ slots) z ≡ slots
+after_plain slot slots z h =
+    let both = and_parts (is_empty slot.first) (slot.ends == 0) h in
+    ap (λ (s : List Slot). rows (unsigned_abs z) slot.first slot.later ++ s) (cut-zero slot.ends z slots (eqb-true slot.ends 0 both.1))
+    ∙ ap (λ (lines : List Line). rows (unsigned_abs z) lines slot.later ++ slots) (empty_lines slot.first both.0)
+
 pub behind_plain : (slot : Slot) (slots : List Slot) (earlier zs : List ℤ) (z : ℤ) → is_plain slot ≡ true → AreNumbers (slot ∷ slots) earlier (z ∷ zs) → AreNumbers slots (z ∷ earlier) zs
 behind_plain slot slots earlier zs z h k =
-    subst (λ (lines : List Line). AreNumbers (rows (unsigned_abs z) lines slot.later ++ slots) (z ∷ earlier) zs) (empty_lines slot.first h) k.1
+    subst (λ (s : List Slot). AreNumbers s (z ∷ earlier) zs) (after_plain slot slots z h) k.1
+
+pub before_plain : (slot : Slot) (slots : List Slot) (earlier zs : List ℤ) (z : ℤ) → is_plain slot ≡ true → AreNumbers slots earlier zs → AreNumbers (after (slot ∷ slots) z) earlier zs
+before_plain slot slots earlier zs z h k = subst (λ (s : List Slot). AreNumbers s earlier zs) (sym (after_plain slot slots z h)) k
 
 -- the number of each is within its limit
 pub number_of : (slots later : List Slot) (earlier xs ys : List ℤ) → list_all is_plain slots ≡ true → AreNumbers (slots ++ later) earlier (xs ++ ys)
@@ -66,7 +82,7 @@ each_of slots zs xs ys h next e k slot l f =
     number_of slots next.later next.earlier xs ys h (subst (λ (l : List ℤ). AreNumbers (slots ++ next.later) next.earlier l) e next.numbers) k slot l f
 
 -- numbers of so many fields are at least as many
-as_many : (slots later : List Slot) (earlier zs : List ℤ) → list_all is_plain slots ≡ true → AreNumbers (slots ++ later) earlier zs → length slots ≤ length zs
+pub as_many : (slots later : List Slot) (earlier zs : List ℤ) → list_all is_plain slots ≡ true → AreNumbers (slots ++ later) earlier zs → length slots ≤ length zs
 as_many [] later earlier zs h n = omega arith
 as_many (slot ∷ slots) later earlier [] h n = absurd n
 as_many (slot ∷ slots) later earlier (z ∷ zs) h n =

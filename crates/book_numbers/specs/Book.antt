@@ -1,6 +1,6 @@
 -- The numbers of a book, in the order of its fields. A fixed list is its numbers; a table is its count of rows, and then its
 -- rows one after the other. Own format.
-use Rattle.std.specs.Prelude.{ℕ, ℤ, pos, List, [], ◌∷◌, ◌++◌, length, flat_map}
+use Rattle.std.specs.Prelude.{ℕ, zero, suc, ℤ, pos, List, [], ◌∷◌, ◌++◌, length, flat_map}
 use Rattle.aid_books.specs.declared.ages.AgeRow.{AgeRow}
 use Rattle.aid_books.specs.declared.book.AssetRates.{AssetRates}
 use Rattle.aid_books.specs.declared.book.Book.{Book}
@@ -59,12 +59,20 @@ age_numbers rows = pos (length rows) ∷ flat_map age_row rows
 abbrev pub schedule_numbers : Schedule → List ℤ
 schedule_numbers x = x.low_at ∷ x.low ∷ x.first_rate ∷ x.student_rate ∷ x.lowest_student ∷ []
 
--- the form of a book is 1
+-- the form of a book without a ceiling is 1, and that of one with it 2; a ceiling is its last number
+abbrev pub form_number : ℕ → ℤ
+form_number zero = pos 1
+form_number (suc n) = pos 2
+
+abbrev pub ceiling_numbers : ℕ → List ℤ
+ceiling_numbers zero = []
+ceiling_numbers (suc n) = pos (suc n) ∷ []
+
 unfoldable pub numbers_of : Book → List ℤ
 numbers_of b =
-    (pos 1 ∷ pos b.year ∷ []) ++ (pell_numbers b.pell ++ (percent_numbers b.percent ++ (poverty_numbers b.poverty ++ (payroll_numbers b.payroll
+    (form_number b.ceiling ∷ pos b.year ∷ []) ++ (pell_numbers b.pell ++ (percent_numbers b.percent ++ (poverty_numbers b.poverty ++ (payroll_numbers b.payroll
     ++ (protection_numbers b.protection ++ (employment_numbers b.employment ++ (asset_numbers b.assets ++ (bracket_numbers b.business
-    ++ (age_numbers b.age ++ (schedule_numbers b.schedule ++ bracket_numbers b.bracket))))))))))
+    ++ (age_numbers b.age ++ (schedule_numbers b.schedule ++ (bracket_numbers b.bracket ++ ceiling_numbers b.ceiling)))))))))))
 
 -- numbers that a book may have, whatever stands before them
 abbrev pub AreBookNumbers : List ℤ → Type 0

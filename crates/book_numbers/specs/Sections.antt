@@ -1,14 +1,14 @@
 -- What is known of numbers of which a part is read next.
-use Rattle.std.specs.Prelude.{ℕ, zero, suc, ℤ, Bool, true, false, ◌&&◌, List, [], ◌∷◌, ◌++◌, drop, take, ◌≡◌, IsTrue}
-use Rattle.aid_types.specs.Ranges.{is_amount}
+use Rattle.std.specs.Prelude.{ℕ, zero, suc, ℤ, pos, int_lt, if◌then◌else◌, Bool, true, false, ◌&&◌, List, [], ◌∷◌, ◌++◌, drop, take, ◌≡◌, IsTrue}
+use Rattle.aid_types.specs.Ranges.{IsWithin, is_amount}
 use Rattle.filing_kinds.specs.Kinds.{book_slots}
 use Rattle.field_table.specs.Layout.{AreNumbers}
 use Rattle.field_table.specs.Limits.{before}
 use Rattle.field_table.specs.Parts.{Slot}
 
--- the fields of each part of a book, the first of which are its form and its year
-abbrev pub start_slots : List Slot
-start_slots = take 2 book_slots
+-- the fields of each part of a book behind its form
+abbrev pub year_slots : List Slot
+year_slots = take 1 (drop 1 book_slots)
 
 abbrev pub pell_slots : List Slot
 pell_slots = take 2 (drop 2 book_slots)
@@ -41,7 +41,14 @@ abbrev pub schedule_slots : List Slot
 schedule_slots = take 5 (drop 73 book_slots)
 
 abbrev pub bracket_slots : List Slot
-bracket_slots = drop 78 book_slots
+bracket_slots = take 1 (drop 78 book_slots)
+
+abbrev pub ceiling_slots : List Slot
+ceiling_slots = drop 79 book_slots
+
+-- what stands behind `bracket` in a book of this form
+abbrev pub last_slots : ℤ → List Slot
+last_slots form = if int_lt (pos 1) form then ceiling_slots else []
 
 -- they begin with numbers for these fields, after some others, and are numbers for what comes later too
 pub record IsNext (slots : List Slot) (zs : List ℤ) : Type 0 where
@@ -63,8 +70,14 @@ pub record AreLeft (slots : List Slot) (zs : List ℤ) : Type 0 where
   pub earlier : List ℤ
   pub numbers : AreNumbers slots earlier zs
 
--- they are the numbers of `bracket`, the last table of a book, whose schedule has this first rate
+-- they begin with the numbers of `bracket`, the last table of a book, whose schedule has this first rate
 pub record AreLast (first_rate : ℤ) (zs : List ℤ) : Type 0 where
   pub earlier : List ℤ
   pub rate : before earlier 2 ≡ first_rate
-  pub numbers : AreNumbers bracket_slots earlier zs
+  pub later : List Slot
+  pub numbers : AreNumbers (bracket_slots ++ later) earlier zs
+
+-- they are the numbers behind `bracket` in a book of this form, and none is left over
+pub record AreEnd (form : ℤ) (zs : List ℤ) : Type 0 where
+  pub of_book : IsWithin (pos 1) (pos 2) form
+  pub left : AreLeft (last_slots form) zs

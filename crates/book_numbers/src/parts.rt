@@ -1,8 +1,8 @@
 //! The parts of a book, each read from the front of the numbers that are left.
-ghost use Rattle.std.specs.Prelude.{◌≡◌, ◌+◌, ◌∷◌, [], ◌++◌, length, pos};
-ghost use Rattle.aid_types.specs.Ranges.{EachIsAmount};
-ghost use Rattle.book_numbers.specs.Book.{asset_numbers, employment_numbers, payroll_numbers, pell_numbers, percent_numbers, poverty_numbers, protection_numbers, schedule_numbers, size_numbers};
-ghost use Rattle.book_numbers.specs.Sections.{AreAmounts, IsNext, asset_slots, employment_slots, payroll_slots, pell_slots, percent_slots, poverty_slots, protection_slots, schedule_slots, start_slots};
+ghost use Rattle.std.specs.Prelude.{◌≡◌, ◌≤◌, ◌+◌, ◌∷◌, [], ◌++◌, length, pos};
+ghost use Rattle.aid_types.specs.Ranges.{EachIsAmount, IsWithin};
+ghost use Rattle.book_numbers.specs.Book.{AreBookNumbers, asset_numbers, ceiling_numbers, employment_numbers, form_number, payroll_numbers, pell_numbers, percent_numbers, poverty_numbers, protection_numbers, schedule_numbers, size_numbers};
+ghost use Rattle.book_numbers.specs.Sections.{AreAmounts, AreEnd, IsNext, asset_slots, employment_slots, payroll_slots, pell_slots, percent_slots, poverty_slots, protection_slots, schedule_slots, year_slots};
 
 use crate::section::Section;
 use aid_books::{
@@ -156,11 +156,35 @@ pub fn protection(section: &mut Section) -> Protection
     }
 }
 
-/// The form of a book, which is 1, and its year.
-pub fn year(section: &mut Section) -> Year
-    requires { IsNext start_slots section.old }
-    ensures { section.old ≡ (pos 1 ∷ pos result ∷ []) ++ section.new }
+/// The form of a book, its first number.
+pub fn form(section: &mut Section) -> i64
+    requires { AreBookNumbers section.old }
+    ensures numbers { section.old ≡ result ∷ section.new }
+    ensures in_range { IsWithin (pos 1) (pos 2) result }
 {
-    let [_form, year] = section.take::<2>();
+    let [form] = section.take::<1>();
+    form
+}
+
+pub fn year(section: &mut Section) -> Year
+    requires { IsNext year_slots section.old }
+    ensures { section.old ≡ (pos result ∷ []) ++ section.new }
+{
+    let [year] = section.take::<1>();
     Year(year as u16)
+}
+
+/// The ceiling with which a book of this form ends, or 0 where it has none.
+pub fn ceiling(section: &mut Section, form: i64) -> u16
+    requires { AreEnd form section.old }
+    ensures numbers { section.old ≡ ceiling_numbers result }
+    ensures form { form ≡ form_number result }
+    ensures in_range { result ≤ 9999 }
+{
+    if form > 1 {
+        let [ceiling] = section.take::<1>();
+        ceiling as u16
+    } else {
+        0
+    }
 }

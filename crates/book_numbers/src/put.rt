@@ -1,7 +1,7 @@
 //! The numbers of a book, put behind others.
 ghost use Rattle.std.specs.Prelude.{◌≡◌, ◌≤◌, ◌+◌, ◌∷◌, [], ◌++◌, ℤ, List, flat_map, length, pos};
 ghost use Rattle.arrayvec.specs.ArrayVec.{array_vec_len};
-ghost use Rattle.book_numbers.specs.Book.{age_numbers, age_row, asset_numbers, bracket_numbers, bracket_row, employment_numbers, numbers_of, payroll_numbers, pell_numbers, percent_numbers, poverty_numbers, protection_numbers, schedule_numbers, size_numbers};
+ghost use Rattle.book_numbers.specs.Book.{age_numbers, age_row, asset_numbers, bracket_numbers, bracket_row, ceiling_numbers, employment_numbers, form_number, numbers_of, payroll_numbers, pell_numbers, percent_numbers, poverty_numbers, protection_numbers, schedule_numbers, size_numbers};
 ghost use Rattle.field_table.specs.Forms.{most_numbers};
 ghost use Rattle.filing_kinds.specs.Kinds.{book_slots};
 ghost use Rattle.field_table.specs.Layout.{AreNumbers};
@@ -178,14 +178,32 @@ fn put_schedule(schedule: &Schedule, numbers: &mut Numbers)
     );
 }
 
+// The form of a book with this ceiling.
+fn form_of(ceiling: u16) -> i64
+    ensures { result ≡ form_number ceiling }
+{
+    if ceiling == 0 { 1 } else { 2 }
+}
+
+fn put_ceiling(ceiling: u16, numbers: &mut Numbers)
+    requires { array_vec_len numbers.old + 1 ≤ most_numbers }
+    ensures added { numbers.new.items ≡ numbers.old.items ++ ceiling_numbers ceiling }
+    ensures count { array_vec_len numbers.new ≤ array_vec_len numbers.old + 1 }
+{
+    if ceiling > 0 {
+        numbers.push(i64::from(ceiling));
+    }
+}
+
 /// Puts the numbers of a book.
 pub fn put_book(book: &Book, numbers: &mut Numbers)
-    requires { array_vec_len numbers.old + 367 ≤ most_numbers }
+    requires { array_vec_len numbers.old + 368 ≤ most_numbers }
     ensures added { numbers.new.items ≡ numbers.old.items ++ numbers_of book.now }
     ensures in_range { (earlier : List ℤ) → AreNumbers book_slots earlier (numbers_of book.now) }
-    ensures few { length (numbers_of book.now) ≤ 367 }
+    ensures few { length (numbers_of book.now) ≤ 368 }
 {
-    add_numbers(&[1, i64::from(book.year.number())], numbers);
+    let form = form_of(book.ceiling);
+    add_numbers(&[form, i64::from(book.year.number())], numbers);
     put_pell_figures(&book.pell, numbers);
     put_percents(&book.percent, numbers);
     put_poverty(&book.poverty, numbers);
@@ -197,4 +215,5 @@ pub fn put_book(book: &Book, numbers: &mut Numbers)
     put_ages(book.age.as_slice(), numbers);
     put_schedule(&book.schedule, numbers);
     put_brackets(book.bracket.as_slice(), numbers);
+    put_ceiling(book.ceiling, numbers);
 }

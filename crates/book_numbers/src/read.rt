@@ -4,7 +4,8 @@ ghost use Rattle.aid_books.specs.declared.book.Book.{Book};
 ghost use Rattle.book_numbers.specs.Book.{AreBookNumbers, numbers_of};
 
 use crate::parts::{
-    asset_rates, employment, payroll, pell_figures, percents, poverty, protection, schedule, year,
+    asset_rates, ceiling, employment, form, payroll, pell_figures, percents, poverty, protection,
+    schedule, year,
 };
 use crate::section::Section;
 use crate::tables::{age, bracket_table, business};
@@ -17,6 +18,7 @@ pub fn book_of_numbers(numbers: &[i64]) -> Book
     ensures only { (b : Book) → numbers_of b ≡ numbers.now → b ≡ result }
 {
     let mut section = Section::new(numbers);
+    let form = form(&mut section);
     let year = year(&mut section);
     let pell = pell_figures(&mut section);
     let percent = percents(&mut section);
@@ -29,6 +31,7 @@ pub fn book_of_numbers(numbers: &[i64]) -> Book
     let age = age(&mut section);
     let schedule = schedule(&mut section);
     let bracket = bracket_table(&mut section, schedule.first_rate);
+    let ceiling = ceiling(&mut section, form);
     Book {
         year,
         pell,
@@ -42,5 +45,6 @@ pub fn book_of_numbers(numbers: &[i64]) -> Book
         age,
         schedule,
         bracket,
+        ceiling,
     }
 }

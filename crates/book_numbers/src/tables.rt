@@ -93,10 +93,10 @@ pub fn age(section: &mut Section) -> Ages
     Ages::from_rows(&rows[..count])
 }
 
-/// The table `bracket`, with which a book ends, where the schedule has this first rate.
+/// The table `bracket`, the last of a book, where the schedule has this first rate.
 pub fn bracket_table(section: &mut Section, first_rate: i64) -> Brackets
     requires { AreLast first_rate section.old }
-    ensures numbers { section.old ≡ bracket_numbers result }
+    ensures numbers { section.old ≡ bracket_numbers result ++ section.new }
     ensures base { option_map (λ row. row.base) (slice_get result 0) ≡ option_map (λ row. share row.over first_rate) (slice_get result 0) }
 {
     let count = count(section);

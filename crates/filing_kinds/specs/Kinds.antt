@@ -86,11 +86,12 @@ by_amount name over base = counted name (pos 1) (pos 16) (amount_columns name ov
 abbrev pub age_columns : Limit → List Line
 age_columns from = line (codes "age.from") I64 from ∷ line (codes "age.single") I64 amount ∷ line (codes "age.married") I64 amount ∷ []
 
--- The form of a book is 1. The first row of `business` is at 0 with 0, and that of `age` at 0; each later one of `age` begins at
--- a greater age. The first row of `bracket` begins with what the first rate gives there.
+-- The form of a book is 1 or 2, and the last field stands in form 2 alone. The first row of `business` is at 0 with 0, and that
+-- of `age` at 0; each later one of `age` begins at a greater age. The first row of `bracket` begins with what the first rate gives
+-- there.
 abbrev pub book_slots : List Slot
 book_slots =
-    one (codes "form") I64 (pos 1) (pos 1) ∷ one (codes "year") I64 (pos 2000) (pos 2099)
+    record { line = line (codes "form") I64 (Between (pos 1) (pos 2)); first = []; later = []; ends = 1 } ∷ one (codes "year") I64 (pos 2000) (pos 2099)
     ∷ one (codes "pell.maximum") I64 (pos 1) (pos 99999) ∷ plain (line (codes "pell.minimum") I64 (UpToLast (pos 1)))
     ∷ fields (codes "percent.maximum_") (codes "single other") I64 (pos 1) (pos 9999)
     ++ fields (codes "percent.minimum_") (codes "dependent_single dependent_other single_parent parent no_dependents") I64 (pos 1) (pos 9999)
@@ -104,7 +105,8 @@ book_slots =
     ++ by_amount (codes "business") (Between (pos 0) (pos 0)) (Between (pos 0) (pos 0)) ∷ []
     ++ counted (codes "age") (pos 1) (pos 64) (age_columns (Between (pos 0) (pos 0))) (age_columns (AboveRow (pos 120))) ∷ []
     ++ floors (codes "schedule.") (codes "low_at low") ++ rates (codes "schedule.") (codes "first_rate student_rate")
-    ++ floors (codes "schedule.") (codes "lowest_student") ++ by_amount (codes "bracket") amount (Begins (pos 99999999)) ∷ []
+    ++ floors (codes "schedule.") (codes "lowest_student") ++ by_amount (codes "bracket") amount (Begins (pos 99999999))
+    ∷ one (codes "ceiling.percent") I64 (pos 1) (pos 9999) ∷ []
 
 -- ---- the kinds, in the order of their codes
 pub record KindRow : Type 0 where

@@ -22,6 +22,7 @@ macro_rules! one {
             field: number!($name: $limit),
             first: &[],
             later: &[],
+            ends: 0,
         }
     };
 }
@@ -36,6 +37,7 @@ macro_rules! table {
             },
             first: &$first,
             later: &$later,
+            ends: 0,
         }
     };
 }
@@ -97,9 +99,14 @@ const BRACKET_LATER: [Field; 3] = [
 ];
 
 // The fields of a book in the order of its bytes. A list of amounts is so many fields of its name, and a table is its count
-// of rows and then its rows.
-static BOOK: [Part; 79] = [
-    one!("form": Limit::Between(1, 1)),
+// of rows and then its rows. The ceiling stands in form 2 alone.
+static BOOK: [Part; 80] = [
+    Part {
+        field: number!("form": Limit::Between(1, 2)),
+        first: &[],
+        later: &[],
+        ends: 1,
+    },
     one!("year": Limit::Between(2_000, 2_099)),
     one!("pell.maximum": Limit::Between(1, 99_999)),
     one!("pell.minimum": Limit::UpToLast(1)),
@@ -178,6 +185,7 @@ static BOOK: [Part; 79] = [
     one!("schedule.student_rate": RATE),
     one!("schedule.lowest_student": FLOOR),
     table!("bracket", 16: BRACKET_FIRST, BRACKET_LATER),
+    one!("ceiling.percent": PERCENT),
 ];
 
 /// The fields of a book.

@@ -13,6 +13,7 @@ macro_rules! plain {
             field: $field,
             first: &[],
             later: &[],
+            ends: 0,
         }
     };
 }
@@ -75,6 +76,7 @@ static CALENDAR: [Part; 6] = [
         },
         first: &[FIRST, LAST],
         later: &[FIRST, LAST],
+        ends: 0,
     },
 ];
 

@@ -72,11 +72,11 @@ parents_fits x earlier = (flag_fits x.parents_married, (flag_fits x.parents_file
 
 pub application_fits : (x : Application) → FitAnywhere applicant_slots (applicant_numbers x) → FitAnywhere apply_slots (application_numbers x)
 application_fits x h =
-    let parents = fit_joined parents_slots (household_slots (codes "parent_")) (parents_numbers x) (side_numbers x.parents) (parents_fits x) (side_fits x.parents) in
-    let own = fit_joined (household_slots []) (drop 33 apply_slots) (side_numbers x.own) (parents_numbers x ++ side_numbers x.parents) (side_fits x.own) parents in
-    let upbringing = fit_joined upbringing_slots (drop 17 apply_slots) (upbringing_numbers x) (side_numbers x.own ++ (parents_numbers x ++ side_numbers x.parents)) (upbringing_fits x) own in
-    let standing = fit_joined standing_slots (drop 11 apply_slots) (standing_numbers x) (upbringing_numbers x ++ (side_numbers x.own ++ (parents_numbers x ++ side_numbers x.parents))) (standing_fits x) upbringing in
-    fit_joined applicant_slots (drop 6 apply_slots) (applicant_numbers x) (standing_numbers x ++ (upbringing_numbers x ++ (side_numbers x.own ++ (parents_numbers x ++ side_numbers x.parents)))) h standing
+    let parents = fit_joined parents_slots (household_slots (codes "parent_")) (parents_numbers x) (side_numbers x.parents) refl (parents_fits x) (side_fits x.parents) in
+    let own = fit_joined (household_slots []) (drop 33 apply_slots) (side_numbers x.own) (parents_numbers x ++ side_numbers x.parents) refl (side_fits x.own) parents in
+    let upbringing = fit_joined upbringing_slots (drop 17 apply_slots) (upbringing_numbers x) (side_numbers x.own ++ (parents_numbers x ++ side_numbers x.parents)) refl (upbringing_fits x) own in
+    let standing = fit_joined standing_slots (drop 11 apply_slots) (standing_numbers x) (upbringing_numbers x ++ (side_numbers x.own ++ (parents_numbers x ++ side_numbers x.parents))) refl (standing_fits x) upbringing in
+    fit_joined applicant_slots (drop 6 apply_slots) (applicant_numbers x) (standing_numbers x ++ (upbringing_numbers x ++ (side_numbers x.own ++ (parents_numbers x ++ side_numbers x.parents)))) refl h standing
 
 -- ---- the parts of the list of an application's numbers
 abbrev pub behind_applicant : List ℤ → List ℤ

@@ -12,7 +12,7 @@ use Rattle.filing_numbers.specs.Numbers.{break_days, day_number, flag_number}
 use Rattle.filing_numbers.specs.Parts.{FitAnywhere, FitSomewhere, calendar_numbers}
 use Rattle.filing_numbers.proofs.Breaks.{IsDayNumber, flat_map-more}
 use Rattle.filing_numbers.proofs.Ranges.{is_natural_within, within}
-use Rattle.filing_numbers.proofs.Slots.{fit_joined, rows-again, rows_again-more}
+use Rattle.filing_numbers.proofs.Slots.{fit_joined, no_ends-rows_again, rows-again, rows_again-more}
 
 pub flag_fits : (b : Bool) → IsTrue (is_between (pos 0) (pos 1) (flag_number b))
 flag_fits true = refl
@@ -55,7 +55,7 @@ one_more breaks i d lt is first last fit =
     let days : flat_map break_days (take (i + 1) breaks) ≡ front ++ break_days d =
     ap (flat_map break_days) (take_more breaks i d lt) ∙ flat_map-more (take i breaks) (get_or breaks i d) ∙ ap (λ (b : ℕ × ℕ). front ++ break_days b) (sym is) in
     let next : suc i ≡ i + 1 = omega arith in
-    let both : FitAnywhere (rows_again i first_and_last ++ map plain first_and_last) (front ++ break_days d) = fit_joined (rows_again i first_and_last) (map plain first_and_last) front (break_days d) fit (λ e. (first, (last, tt))) in
+    let both : FitAnywhere (rows_again i first_and_last ++ map plain first_and_last) (front ++ break_days d) = fit_joined (rows_again i first_and_last) (map plain first_and_last) front (break_days d) (no_ends-rows_again i first_and_last) fit (λ e. (first, (last, tt))) in
     let more : FitAnywhere (rows_again (i + 1) first_and_last) (front ++ break_days d) =
     subst (λ (n : ℕ). FitAnywhere (rows_again n first_and_last) (front ++ break_days d)) next (subst (λ (slots : List Slot). FitAnywhere slots (front ++ break_days d)) (rows_again-more i first_and_last) both) in
     record { days = days; fit = subst (λ (zs : List ℤ). FitAnywhere (rows_again (i + 1) first_and_last) zs) (sym days) more }

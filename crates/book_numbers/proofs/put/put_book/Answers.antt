@@ -2,16 +2,16 @@ use Rattle.std.proofs.Common.{◌≡◌, ◌∙◌, ◌∷◌, [], ◌++◌, ap,
 use Rattle.std.proofs.lemmas.List.{length-append}
 use Rattle.book_numbers.proofs.Chain.{all_put}
 use Rattle.book_numbers.proofs.InRange.{book_in_range}
-use Rattle.book_numbers.specs.Book.{age_numbers, asset_numbers, bracket_numbers, employment_numbers, numbers_of, payroll_numbers, pell_numbers, percent_numbers, poverty_numbers, protection_numbers, schedule_numbers}
+use Rattle.book_numbers.specs.Book.{age_numbers, asset_numbers, bracket_numbers, ceiling_numbers, employment_numbers, form_number, numbers_of, payroll_numbers, pell_numbers, percent_numbers, poverty_numbers, protection_numbers, schedule_numbers}
 use Rattle.book_numbers.proofs.put.put_book.Goals as goal
 
 pub returns-clause-added : goal.returns-clause-added
 unfolding numbers_of
 returns-clause-added c =
-    let first : c.add_numbers.new.numbers.items ≡ c.args.numbers.now.items ++ (pos 1 ∷ pos c.args.book.now.year ∷ []) = search rules in
-    all_put c.args.numbers.now.items c.add_numbers.new.numbers.items c.put_pell_figures.new.numbers.items c.put_percents.new.numbers.items c.put_poverty.new.numbers.items c.put_payroll.new.numbers.items c.put_protection.new.numbers.items c.put_employment.new.numbers.items c.put_asset_rates.new.numbers.items c.put_brackets.new.numbers.items c.put_ages.new.numbers.items c.put_schedule.new.numbers.items c.put_brackets-2.new.numbers.items
-    (pos 1 ∷ pos c.args.book.now.year ∷ []) (pell_numbers c.args.book.now.pell) (percent_numbers c.args.book.now.percent) (poverty_numbers c.args.book.now.poverty) (payroll_numbers c.args.book.now.payroll) (protection_numbers c.args.book.now.protection) (employment_numbers c.args.book.now.employment) (asset_numbers c.args.book.now.assets) (bracket_numbers c.args.book.now.business) (age_numbers c.args.book.now.age) (schedule_numbers c.args.book.now.schedule) (bracket_numbers c.args.book.now.bracket)
-    first c.put_pell_figures.ensures.added c.put_percents.ensures.added c.put_poverty.ensures.added c.put_payroll.ensures.added c.put_protection.ensures.added c.put_employment.ensures.added c.put_asset_rates.ensures.added (c.put_brackets.ensures.added ∙ ap (λ rows. c.put_asset_rates.new.numbers.items ++ bracket_numbers rows) c.as_slice.ensures.rows) (c.put_ages.ensures.added ∙ ap (λ rows. c.put_brackets.new.numbers.items ++ age_numbers rows) c.as_slice-2.ensures.rows) c.put_schedule.ensures.added (c.put_brackets-2.ensures.added ∙ ap (λ rows. c.put_schedule.new.numbers.items ++ bracket_numbers rows) c.as_slice-3.ensures.rows)
+    let first : c.add_numbers.new.numbers.items ≡ c.args.numbers.now.items ++ (form_number c.args.book.now.ceiling ∷ pos c.args.book.now.year ∷ []) = search rules in
+    all_put c.args.numbers.now.items c.add_numbers.new.numbers.items c.put_pell_figures.new.numbers.items c.put_percents.new.numbers.items c.put_poverty.new.numbers.items c.put_payroll.new.numbers.items c.put_protection.new.numbers.items c.put_employment.new.numbers.items c.put_asset_rates.new.numbers.items c.put_brackets.new.numbers.items c.put_ages.new.numbers.items c.put_schedule.new.numbers.items c.put_brackets-2.new.numbers.items c.put_ceiling.new.numbers.items
+    (form_number c.args.book.now.ceiling ∷ pos c.args.book.now.year ∷ []) (pell_numbers c.args.book.now.pell) (percent_numbers c.args.book.now.percent) (poverty_numbers c.args.book.now.poverty) (payroll_numbers c.args.book.now.payroll) (protection_numbers c.args.book.now.protection) (employment_numbers c.args.book.now.employment) (asset_numbers c.args.book.now.assets) (bracket_numbers c.args.book.now.business) (age_numbers c.args.book.now.age) (schedule_numbers c.args.book.now.schedule) (bracket_numbers c.args.book.now.bracket) (ceiling_numbers c.args.book.now.ceiling)
+    first c.put_pell_figures.ensures.added c.put_percents.ensures.added c.put_poverty.ensures.added c.put_payroll.ensures.added c.put_protection.ensures.added c.put_employment.ensures.added c.put_asset_rates.ensures.added (c.put_brackets.ensures.added ∙ ap (λ rows. c.put_asset_rates.new.numbers.items ++ bracket_numbers rows) c.as_slice.ensures.rows) (c.put_ages.ensures.added ∙ ap (λ rows. c.put_brackets.new.numbers.items ++ age_numbers rows) c.as_slice-2.ensures.rows) c.put_schedule.ensures.added (c.put_brackets-2.ensures.added ∙ ap (λ rows. c.put_schedule.new.numbers.items ++ bracket_numbers rows) c.as_slice-3.ensures.rows) c.put_ceiling.ensures.added
 
 pub returns-clause-in_range : goal.returns-clause-in_range
 returns-clause-in_range c =

@@ -1,7 +1,7 @@
 use Rattle.std.proofs.Common.{◌≡◌, pos, rules}
 use Rattle.std.specs.Prelude.{slice_index_or}
 use Rattle.filing_numbers.specs.Numbers.{day_number}
-use Rattle.filing_numbers.proofs.Breaks.{next}
+use Rattle.filing_numbers.proofs.Breaks.{all_read, next}
 use Rattle.filing_numbers.proofs.Slots.{all_of_rest}
 use Rattle.filing_numbers.proofs.facts.breaks_of.Goals as goal
 
@@ -24,3 +24,6 @@ loop-rest-preserved c =
     let last : day_number c.day_from-in-len2-up.result ≡ slice_index_or c.loop-rest.rest.now 1 (pos 0) = search rules in
     let more = h.after c.day_from.result c.day_from-in-len2-up.result first last in
     rw (c.push.ensures, all_of_rest) more
+
+pub returns : goal.returns
+returns c = record { value = all_read c.args.days.now c.loop-rest.breaks c.loop-rest.rest.now c.in_default.len_below c.loop-rest.invariant }

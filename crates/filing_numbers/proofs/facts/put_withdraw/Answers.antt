@@ -1,4 +1,4 @@
-use Rattle.std.proofs.Common.{ℕ, List, drop, subst, take}
+use Rattle.std.proofs.Common.{ℕ, List, drop, refl, subst, take}
 use Rattle.filing_kinds.specs.Kinds.{withdraw_slots}
 use Rattle.filing_numbers.specs.Parts.{FitAnywhere, could_numbers, withdrawal_numbers}
 use Rattle.filing_numbers.proofs.Slots.{fit_joined}
@@ -7,4 +7,4 @@ use Rattle.filing_numbers.proofs.facts.put_withdraw.Goals as goal
 pub returns-clause-in_range : goal.returns-clause-in_range
 returns-clause-in_range c =
     let could = subst (λ (cents : List ℕ). FitAnywhere (drop 6 withdraw_slots) (could_numbers cents)) c.cents.ensures c.put_could.ensures.in_range in
-    fit_joined (take 6 withdraw_slots) (drop 6 withdraw_slots) (withdrawal_numbers c.args.facts.now) (could_numbers c.args.facts.now.could) c.put_withdrawal.ensures.in_range could
+    fit_joined (take 6 withdraw_slots) (drop 6 withdraw_slots) (withdrawal_numbers c.args.facts.now) (could_numbers c.args.facts.now.could) refl c.put_withdrawal.ensures.in_range could
