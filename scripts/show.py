@@ -69,15 +69,15 @@ def show_table(table, columns, now, before, said):
 
 def show(now, before, said):
     """All sections of a book."""
-    for section, *most, keys in year_book.SECTIONS:
+    for section, *most, keys in year_book.sections_of(now):
         if section:
             print(f"\n{section}")
         if most:
             show_table(section, keys, now[section], before[section], said)
             continue
-        holder, other = (now[section], before[section]) if section else (now, before)
+        holder, other = (now[section], before.get(section, {})) if section else (now, before)
         for key, (_, _, unit, *_) in keys.items():
-            show_key(section, key, unit, holder[key], other[key], said[f"{section}.{key}".lstrip(".")])
+            show_key(section, key, unit, holder[key], other.get(key, holder[key]), said[f"{section}.{key}".lstrip(".")])
 
 
 def read(path):

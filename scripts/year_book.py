@@ -12,7 +12,7 @@ FLOOR = -999_999, 0
 # The sections in order. A key has its range and its unit, and where it is a list the number of its entries; a table has the
 # most rows that it may have, and its columns.
 SECTIONS = [
-    ("", {"form": (1, 1, ""), "year": (2_000, 2_099, "")}),
+    ("", {"form": (1, 2, ""), "year": (2_000, 2_099, "")}),
     ("pell", {"maximum": (1, 99_999, "dollars"), "minimum": (1, "maximum", "dollars")}),
     ("percent", {key: (*PERCENT, "percent") for key in (
         "maximum_single", "maximum_other", "minimum_dependent_single", "minimum_dependent_other", "minimum_single_parent",
@@ -42,6 +42,8 @@ SECTIONS = [
     }),
     ("bracket", 16, {"over": (*AMOUNT, "dollars"), "base": (*AMOUNT, "dollars"), "rate": (*RATE, "rate")}),
 ]
+# Behind the others in form 2 alone.
+CEILING = "ceiling", {"percent": (*PERCENT, "percent")}
 TABLES = ["business", "age", "bracket"]
 
 
@@ -68,6 +70,11 @@ def is_number(value):
     return isinstance(value, int) and not isinstance(value, bool)
 
 
+def sections_of(book):
+    """The sections of a book: one more where the integer 2 stands under `form`."""
+    return [*SECTIONS, CEILING] if is_number(book.get("form")) and book["form"] == 2 else SECTIONS
+
+
 def are_numbers_of_toml(value):
     """No integer of the text is past 64 bits, which TOML doesn't allow here."""
     if isinstance(value, dict):
@@ -86,7 +93,7 @@ def read(text):
     if not are_numbers_of_toml(book):
         raise NotABook(1, "", "The text is no TOML: a number has more than 64 bits.")
     number = 1
-    for section, *most, keys in SECTIONS:
+    for section, *most, keys in sections_of(book):
         if most:
             judge_table(book, section, number, most[0], keys)
             number += 1 + len(keys)
@@ -159,11 +166,11 @@ def judge_rising(book, at, table):
 
 
 def judge_keys(book):
-    """The keys that no book has."""
-    unknown = []
-    for section, *most, keys in SECTIONS:
+    """The keys that no book of this form has."""
+    unknown, sections = [], sections_of(book)
+    for section, *most, keys in sections:
         holders = [book] if not section else book[section] if most else [book[section]]
-        known = set(keys) | {name for name, *_ in SECTIONS} if not section else set(keys)
+        known = set(keys) | {name for name, *_ in sections} if not section else set(keys)
         unknown += [f"{section}.{key}" if section else key for holder in holders for key in holder if key not in known or not key]
     if unknown:
         least = shown(min(unknown, key=str.encode))

@@ -56,11 +56,12 @@ def rising(rng, table, count, first_rate):
 
 def places(book):
     """Each figure, list and row of a book, as what holds it and its key there."""
-    for section, *most, keys in year_book.SECTIONS:
+    sections = year_book.sections_of(book)
+    for section, *most, keys in sections:
         held = book.get(section, []) if section else book
         for holder in held if isinstance(held, list) else [held]:
             yield from ((holder, key) for key in keys if isinstance(holder, dict))
-    yield from ((book, section) for section, *_ in year_book.SECTIONS if section)
+    yield from ((book, section) for section, *_ in sections if section)
 
 
 def break_once(rng, book):

@@ -46,7 +46,7 @@ def payload_of_row(row):
 def payload_of_book(number, text):
     """The payload of a book's text, filed under a number of the office's own desk: each number in eight bytes, a table behind its count."""
     book, data = year_book.read(text), b""
-    for section, *most, keys in year_book.SECTIONS:
+    for section, *most, keys in year_book.sections_of(book):
         holders = book[section] if most else [book[section] if section else book]
         data += bytes([len(holders)]) if most else b""
         figures = [holder[key] for holder in holders for key in keys]

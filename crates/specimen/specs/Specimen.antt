@@ -77,4 +77,4 @@ unfoldable pub IsSpecimenBook : Book → Type 0
 IsSpecimenBook b =
     (b.year ≡ 2025) × IsPell b.pell × ArePercents b.percent × IsPoverty b.poverty × IsPayroll b.payroll × IsProtection b.protection
     × IsEmployment b.employment × AreAssetRates b.assets × (b.business ≡ business_rows) × (b.age ≡ age_rows) × IsSchedule b.schedule
-    × (b.bracket ≡ bracket_rows)
+    × (b.bracket ≡ bracket_rows) × (b.ceiling ≡ 0)

@@ -36,5 +36,6 @@ pub fn specimen_book() -> Book
         age: ages(),
         schedule: schedule(),
         bracket: brackets(),
+        ceiling: 0,
     }
 }

@@ -1,33 +1,38 @@
 -- The numbers of a text whose fields have no error, and of whose rows none fails, are numbers of a book.
-use Rattle.std.proofs.Common.{◌≡◌, ℕ, zero, suc, ◌-◌, ◌≤◌, ℤ, pos, neg_ℤ, true, List, [], ◌∷◌, ◌++◌, codes, length, map, replicate, Some, None, refl, sym, ap, ◌∙◌, subst, arith}
+use Rattle.std.proofs.Common.{◌≡◌, ℕ, zero, suc, ◌-◌, ◌≤◌, ℤ, pos, neg_ℤ, Bool, true, false, ◌≢◌, List, [], ◌∷◌, ◌++◌, codes, drop, length, map, replicate, take, Some, None, refl, sym, ap, ◌∙◌, subst, arith}
 use Rattle.std.specs.Prelude.{flat_map, slice_get, slice_index_or}
 use Rattle.std.specs.List.{list_all}
-use Rattle.std.proofs.lemmas.Bool.{and_from}
+use Rattle.std.specs.Ordering.{int_eq}
+use Rattle.std.proofs.lemmas.Bool.{and_from, true≢false}
+use Rattle.std.proofs.lemmas.Bool.Decides.{Decides-int_eq}
+use Rattle.std.proofs.lemmas.Int.{ints}
 use Rattle.std.proofs.lemmas.List.{length-map, length-replicate}
 use Rattle.toml.specs.Data.{Data, Members}
 use Rattle.book_numbers.proofs.Amounts.{is_amount_slot}
 use Rattle.book_numbers.proofs.Behind.{onto}
+use Rattle.book_numbers.proofs.Chain.{after_age, after_assets, after_business, after_employment, after_payroll, after_pell, after_percent, after_poverty, after_protection, after_year, form_put}
+use Rattle.book_numbers.proofs.Plain.{is_within}
 use Rattle.book_numbers.proofs.InRange.{age_put, amounts_put, bracket_put, business_put}
 use Rattle.book_numbers.specs.Book.{AreBookNumbers, age_numbers, age_row, bracket_numbers, bracket_row}
 use Rattle.field_table.proofs.Laws.{AreNumbers-few}
 use Rattle.field_table.specs.Forms.{most_numbers}
-use Rattle.book_numbers.specs.Sections.{age_slots, bracket_slots, business_slots, pell_slots, schedule_slots}
+use Rattle.book_numbers.specs.Sections.{age_slots, bracket_slots, business_slots, ceiling_slots, last_slots, pell_slots, schedule_slots, year_slots}
 use Rattle.filing_kinds.specs.Kinds.{book_slots}
 use Rattle.field_table.specs.Columns.{one}
 use Rattle.field_table.specs.Layout.{AreNumbers}
 use Rattle.field_table.specs.Limits.{is_between}
 use Rattle.field_table.specs.Parts.{Slot}
 use Rattle.field_table.specs.declared.field.Form.TheVariants.{I64}
-use Rattle.year_books.specs.Fields.{BookLine, book_line, field_line, table_fields}
+use Rattle.year_books.specs.Fields.{BookLine, book_line, field_line, first_fields, table_fields}
 use Rattle.year_books.specs.Ranges.{Range, between, range_named, up_to}
 use Rattle.year_books.specs.Numbers.{added_by, added_by_all, fields_in, numbers_in, row_numbers}
-use Rattle.year_books.specs.Reading.{fields_error, integer_in, limit, member_at, places_of, rows_of}
+use Rattle.year_books.specs.Reading.{fields_error, fields_in_form, fields_of, first_error, integer_in, is_form_2, limit, member_at, places_of, rows_of}
 use Rattle.year_books.specs.Tables.{age_row_of, age_rows, book_break, bracket_of, bracket_rows, business_rows}
 use Rattle.year_books.specs.declared.table.BookField.{BookField}
 use Rattle.year_books.specs.declared.table.Holds.{Holds}
 use Rattle.year_books.specs.declared.table.Holds.TheVariants.{Integer, Integers, Tables, Column}
 use Rattle.year_books.proofs.BuildLemmas.{range-age, range-bracket, range-business, size-age, size-bracket, size-business, tables}
-use Rattle.year_books.proofs.NumbersLemmas.{IsAmounts, IsSound, field_sound, many_amounts, one_range}
+use Rattle.year_books.proofs.NumbersLemmas.{IsAmounts, IsSound, ceiling_sound, field_sound, many_amounts, one_range}
 
 -- the range of an amount
 abbrev amount : Range
@@ -59,7 +64,7 @@ one_of (Integers n) section key range low high t k r h = cc
 one_of Tables section key range low high t k r h = cc
 one_of Column section key range low high t k r h = cc
 
-one_put : (field : ℕ) (name : List ℕ) (low high : ℤ) (t : Members) (later : List Slot) (zs : List ℤ) → fields_error t ≡ None → slice_get table_fields (field - 1) ≡ Some (field_at field)
+one_put : (field : ℕ) (name : List ℕ) (low high : ℤ) (t : Members) (later : List Slot) (zs : List ℤ) → fields_error t ≡ None → slice_get first_fields (field - 1) ≡ Some (field_at field)
     → (field_at field).kind ≡ Integer → range_named (field_at field).name ≡ between low (up_to high) → Always later zs → Always (one name I64 low high ∷ later) (added_at field t ++ zs)
 one_put field name low high t later zs none at kind range rest =
     let f = field_at field in
@@ -84,7 +89,7 @@ many_of (Integers m) section key range n t k r h =
 many_of Tables section key range n t k r h = cc
 many_of Column section key range n t k r h = cc
 
-many_put : (field n : ℕ) (name : List ℕ) (t : Members) (later : List Slot) (zs : List ℤ) → fields_error t ≡ None → slice_get table_fields (field - 1) ≡ Some (field_at field)
+many_put : (field n : ℕ) (name : List ℕ) (t : Members) (later : List Slot) (zs : List ℤ) → fields_error t ≡ None → slice_get first_fields (field - 1) ≡ Some (field_at field)
     → (field_at field).kind ≡ Integers n → range_named (field_at field).name ≡ amount → Always later zs → Always (replicate n (dollars name) ++ later) (added_at field t ++ zs)
 many_put field n name t later zs none at kind range rest =
     let f = field_at field in
@@ -154,10 +159,10 @@ schedule_floor key t h = one_range Integer (neg_ℤ (pos 999999)) (pos 0) (membe
 schedule_rate : (key : List ℕ) (t : Members) → IsSound Integer (pos 0) (pos 10000) (member_at (codes "schedule") key t ∷ []) → is_between (pos 0) (pos 10000) (integer_in (member_at (codes "schedule") key t)) ≡ true
 schedule_rate key t h = one_range Integer (pos 0) (pos 10000) (member_at (codes "schedule") key t) h.ranges
 
-schedule_always : (t : Members) → fields_error t ≡ None → book_break t ≡ None
-    → Always (schedule_slots ++ bracket_slots) (added_at 47 t ++ (added_at 48 t ++ (added_at 49 t ++ (added_at 50 t ++ (added_at 51 t ++ (added_at 52 t ++ []))))))
+schedule_always : (t : Members) (tail : List Slot) (end : List ℤ) → fields_error t ≡ None → book_break t ≡ None → Always tail end
+    → Always (schedule_slots ++ (bracket_slots ++ tail)) (added_at 47 t ++ (added_at 48 t ++ (added_at 49 t ++ (added_at 50 t ++ (added_at 51 t ++ (added_at 52 t ++ end))))))
 unfolding range_named
-schedule_always t none rising =
+schedule_always t tail end none rising rest =
     let all = tables t none rising in
     let rows = bracket_rows t in
     let of : List ℕ → ℤ = λ key. integer_in (member_at (codes "schedule") key t) in
@@ -174,8 +179,8 @@ schedule_always t none rising =
                 schedule_floor (codes "lowest_student") t (field_sound t none 50 _ refl),
                 (
                     let before = of (codes "lowest_student") ∷ of (codes "student_rate") ∷ of (codes "first_rate") ∷ of (codes "low") ∷ of (codes "low_at") ∷ earlier in
-                    subst (λ (xs : List ℤ). AreNumbers bracket_slots before (xs ++ [])) (sym (bracket_added t))
-                    (bracket_put rows [] before [] (size-bracket t none).few (range-bracket t none) all.bracket_marginal all.bracket_base tt)
+                    subst (λ (xs : List ℤ). AreNumbers (bracket_slots ++ tail) before (xs ++ end)) (sym (bracket_added t))
+                    (bracket_put rows tail before end (size-bracket t none).few (range-bracket t none) all.bracket_marginal all.bracket_base (rest.numbers (onto (bracket_numbers rows) before)))
                     ),
               ),
             ),
@@ -184,12 +189,18 @@ schedule_always t none rising =
       );
     }
 
--- whole book
-pub numbers_of_book : (t : Members) → fields_error t ≡ None → book_break t ≡ None → AreBookNumbers (numbers_in t)
-unfolding numbers_in range_named
-numbers_of_book t none rising =
-    let all : Always book_slots (numbers_in t) =
-    one_put 1 _ _ _ t _ _ none refl refl refl (
+-- what some fields add before an end
+abbrev added_before : List BookLine → Members → List ℤ → List ℤ
+added_before [] t end = end
+added_before (f ∷ fs) t end = added_by f.kind f.section f.key t ++ added_before fs t end
+
+abbrev behind_form : Members → List ℤ → List ℤ
+behind_form t end = added_before (take 51 (drop 1 table_fields)) t end
+
+-- all fields behind the form, before some at the end
+behind_always : (t : Members) (tail : List Slot) (end : List ℤ) → fields_error t ≡ None → book_break t ≡ None → Always tail end → Always (year_slots ++ after_year tail) (behind_form t end)
+unfolding range_named after_year after_pell after_percent after_poverty after_payroll after_protection after_employment after_assets after_business after_age
+behind_always t tail end none rising rest =
     one_put 2 _ _ _ t _ _ none refl refl refl (
     pell_put t _ _ none (
     one_put 5 _ _ _ t _ _ none refl refl refl (
@@ -228,16 +239,49 @@ numbers_of_book t none rising =
     one_put 38 _ _ _ t _ _ none refl refl refl (
     business_always t _ _ none rising (
     age_always t _ _ none rising (
-    schedule_always t none rising))))))))))))))))))))))))))))))))))))))) in
-    ([], all.numbers [])
+    schedule_always t tail end none rising rest))))))))))))))))))))))))))))))))))))))
+
+-- whole book, in either form
+abbrev form_in : Members → ℤ
+form_in t = integer_in (member_at [] (codes "form") t)
+
+abbrev ceiling_in : Members → ℤ
+ceiling_in t = integer_in (member_at (codes "ceiling") (codes "percent") t)
+
+form_within : (t : Members) → fields_error t ≡ None → is_between (pos 1) (pos 2) (form_in t) ≡ true
+unfolding range_named
+form_within t none = one_range Integer (pos 1) (pos 2) (member_at [] (codes "form") t) (field_sound t none 0 _ refl).ranges
+
+one_of_two : (form : ℤ) → is_between (pos 1) (pos 2) form ≡ true → int_eq form (pos 2) ≡ false → form ≡ pos 1
+one_of_two form h other =
+    let range = is_within (pos 1) (pos 2) form h in
+    let differ : form ≢ pos 2 = λ e. true≢false (sym ((Decides-int_eq form (pos 2)).1 e) ∙ other) in
+    omega (arith, ints, range.0, range.1, differ)
+
+by_form : (b : Bool) (t : Members) → is_form_2 t ≡ b → first_error (fields_in_form b) t ≡ None → fields_error t ≡ None → book_break t ≡ None → AreNumbers book_slots [] (added_by_all (fields_in_form b) t)
+unfolding fields_in_form
+by_form true t is whole none rising =
+    let two : form_in t ≡ pos 2 = (Decides-int_eq (form_in t) (pos 2)).0 is in
+    let last : Always ceiling_slots (ceiling_in t ∷ []) = record { numbers = λ earlier. (one_range Integer (pos 1) (pos 9999) (member_at (codes "ceiling") (codes "percent") t) (ceiling_sound t whole).ranges, tt) } in
+    let end : Always (last_slots (form_in t)) (ceiling_in t ∷ []) = subst (λ (z : ℤ). Always (last_slots z) (ceiling_in t ∷ [])) (sym two) last in
+    form_put (form_in t) [] (behind_form t (ceiling_in t ∷ [])) (form_within t none) ((behind_always t (last_slots (form_in t)) (ceiling_in t ∷ []) none rising end).numbers (form_in t ∷ []))
+by_form false t is whole none rising =
+    let one : form_in t ≡ pos 1 = one_of_two (form_in t) (form_within t none) is in
+    let last : Always [] [] = record { numbers = λ earlier. tt } in
+    let end : Always (last_slots (form_in t)) [] = subst (λ (z : ℤ). Always (last_slots z) []) (sym one) last in
+    form_put (form_in t) [] (behind_form t []) (form_within t none) ((behind_always t (last_slots (form_in t)) [] none rising end).numbers (form_in t ∷ []))
+
+pub numbers_of_book : (t : Members) → fields_error t ≡ None → book_break t ≡ None → AreBookNumbers (numbers_in t)
+unfolding numbers_in fields_error
+numbers_of_book t none rising = ([], by_form (is_form_2 t) t refl none none rising)
 
 pub few_numbers : (t : Members) → fields_error t ≡ None → book_break t ≡ None → length (numbers_in t) ≤ most_numbers
 few_numbers t none rising =
     let are = numbers_of_book t none rising in
-    let few : length (numbers_in t) ≤ 367 = AreNumbers-few book_slots are.0 (numbers_in t) refl are.1 in
+    let few : length (numbers_in t) ≤ 368 = AreNumbers-few book_slots are.0 (numbers_in t) refl are.1 in
     omega (arith, few)
 
 -- the fields of the program add the numbers of the table
-pub numbers_by : (fields : List BookField) (t : Members) → map field_line fields ≡ table_fields → numbers_in t ≡ added_by_all (map field_line fields) t
+pub numbers_by : (fields : List BookField) (t : Members) → map field_line fields ≡ fields_of t → numbers_in t ≡ added_by_all (map field_line fields) t
 unfolding numbers_in
 numbers_by fields t e = ap (λ fs. added_by_all fs t) (sym e)

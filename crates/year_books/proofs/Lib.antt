@@ -5,4 +5,5 @@ pub mod NumbersLemmas
 pub mod TableLemmas
 pub mod BuildLemmas
 pub mod BookLemmas
+pub mod RisingLemmas
 pub mod CauseLemmas

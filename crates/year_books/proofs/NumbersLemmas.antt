@@ -1,5 +1,5 @@
 -- What it says of a field of a text that the text's fields have no error.
-use Rattle.std.proofs.Common.{◌≡◌, ℕ, zero, suc, ℤ, pos, Bool, true, false, ◌==◌, ◌&&◌, List, [], ◌∷◌, length, map, Option, Some, None, refl, subst, ◌∙◌}
+use Rattle.std.proofs.Common.{◌≡◌, ℕ, zero, suc, ℤ, pos, Bool, true, false, ◌==◌, ◌&&◌, List, [], ◌∷◌, codes, length, map, take, Option, Some, None, refl, ap, subst, ◌∙◌}
 use Rattle.std.specs.Prelude.{is_some, slice_get}
 use Rattle.std.specs.List.{list_all}
 use Rattle.std.specs.Option.{option_or}
@@ -9,12 +9,12 @@ use Rattle.std.proofs.lemmas.List.{length-map}
 use Rattle.toml.specs.Data.{Data, Members, as_array, as_integer}
 use Rattle.aid_types.specs.Ranges.{EachIsAmount}
 use Rattle.field_table.specs.Limits.{is_between}
-use Rattle.year_books.specs.Fields.{BookLine, table_fields}
+use Rattle.year_books.specs.Fields.{BookLine, first_fields, table_fields}
 use Rattle.year_books.specs.Ranges.{range_named}
-use Rattle.year_books.specs.Reading.{field_error, fields_error, first_error, first_fault, has_kind, has_range, integer_in, items_in, limit, listed, places_error, places_of}
+use Rattle.year_books.specs.Reading.{field_error, fields_error, fields_in_form, first_error, first_fault, has_kind, has_range, integer_in, is_form_2, items_in, limit, listed, member_at, places_error, places_of}
 use Rattle.year_books.specs.declared.error.BookError.{BookError}
 use Rattle.year_books.specs.declared.table.Holds.{Holds}
-use Rattle.year_books.specs.declared.table.Holds.TheVariants.{Integers}
+use Rattle.year_books.specs.declared.table.Holds.TheVariants.{Integer, Integers}
 
 -- where some fields have no error, none of them has one
 pub no_error : (fs : List BookLine) (t : Members) → first_error fs t ≡ None → (k : ℕ) (f : BookLine) → slice_get fs k ≡ Some f → field_error f t ≡ None
@@ -41,12 +41,34 @@ sound n kind low high places h = by (list_all is_some places) (list_all (has_kin
     by true false c e f k = cc
     by false b c e f k = cc
 
--- the field at a place of the table of fields
-pub field_sound : (t : Members) → fields_error t ≡ None → (k : ℕ) (f : BookLine) → slice_get table_fields k ≡ Some f
+or_none : (a b : Option BookError) → option_or a b ≡ None → (a ≡ None) × (b ≡ None)
+or_none None b h = (refl, h)
+or_none (Some e) b h = absurd cc
+
+first_error-take : (k : ℕ) (fs : List BookLine) (t : Members) → first_error fs t ≡ None → first_error (take k fs) t ≡ None
+first_error-take zero fs t h = refl
+first_error-take (suc k) [] t h = refl
+first_error-take (suc k) (f ∷ fs) t h =
+    let both = or_none (field_error f t) (first_error fs t) h in
+    ap (λ (o : Option BookError). option_or o (first_error (take k fs) t)) both.0 ∙ first_error-take k fs t both.1
+
+-- the first fields have none in either form
+first_sound : (b : Bool) (t : Members) → first_error (fields_in_form b) t ≡ None → first_error first_fields t ≡ None
+unfolding fields_in_form
+first_sound true t h = first_error-take 55 table_fields t h
+first_sound false t h = h
+
+-- the ceiling of a text of form 2
+pub ceiling_sound : (t : Members) → first_error table_fields t ≡ None → IsSound Integer (pos 1) (pos 9999) (member_at (codes "ceiling") (codes "percent") t ∷ [])
+unfolding range_named
+ceiling_sound t h = sound 56 Integer (pos 1) (pos 9999) (member_at (codes "ceiling") (codes "percent") t ∷ []) (no_error table_fields t h 55 _ refl)
+
+-- the field at a place among the first fields
+pub field_sound : (t : Members) → fields_error t ≡ None → (k : ℕ) (f : BookLine) → slice_get first_fields k ≡ Some f
     → IsSound f.kind (range_named f.name).low (limit (range_named f.name).high f.section t) (places_of f.kind f.section f.key t)
 unfolding fields_error
 field_sound t h k f at =
-    sound f.number f.kind (range_named f.name).low (limit (range_named f.name).high f.section t) (places_of f.kind f.section f.key t) (no_error table_fields t h k f at)
+    sound f.number f.kind (range_named f.name).low (limit (range_named f.name).high f.section t) (places_of f.kind f.section f.key t) (no_error first_fields t (first_sound (is_form_2 t) t h) k f at)
 
 -- of one place
 pub one_range : (kind : Holds) (low high : ℤ) (place : Option Data) → list_all (has_range low high kind) (place ∷ []) ≡ true → has_range low high kind place ≡ true

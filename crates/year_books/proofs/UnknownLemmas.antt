@@ -5,7 +5,8 @@ use Rattle.std.specs.List.{fold, list_any}
 use Rattle.std.specs.Map.{keys_of}
 use Rattle.toml.specs.View.{members_view}
 use Rattle.toml.specs.declared.value.Value.{Value}
-use Rattle.year_books.specs.Fields.{field_line, table_fields}
+use Rattle.year_books.specs.Fields.{field_line}
+use Rattle.year_books.specs.Reading.{fields_in_form}
 use Rattle.year_books.specs.Unknown.{dotted, is_key, is_section, keep_lesser, names_of, unknown_keys}
 use Rattle.year_books.specs.declared.table.BookField.{BookField}
 
@@ -14,22 +15,22 @@ list_any_map p f [] = refl
 list_any_map p f (y ∷ ys) = ap (λ b. p (f y) || b) (list_any_map p f ys)
 
 -- the fields of the program know the keys of the table
-pub is_key_by : (fields : List BookField) (section key : List ℕ) → map field_line fields ≡ table_fields
-    → list_any (λ f. bytes_eq f.section.now section && bytes_eq f.key.now key) fields ≡ is_key section key
+pub is_key_by : (form : Bool) (fields : List BookField) (section key : List ℕ) → map field_line fields ≡ fields_in_form form
+    → list_any (λ f. bytes_eq f.section.now section && bytes_eq f.key.now key) fields ≡ is_key form section key
 unfolding is_key
-is_key_by fields section key e =
+is_key_by form fields section key e =
     sym (list_any_map (λ f. bytes_eq f.section section && bytes_eq f.key key) field_line fields)
     ∙ ap (list_any (λ f. bytes_eq f.section section && bytes_eq f.key key)) e
 
-pub is_section_by : (fields : List BookField) (name : List ℕ) → map field_line fields ≡ table_fields → (length name == 0) ≡ false
-    → list_any (λ f. bytes_eq f.section.now name) fields ≡ is_section name
+pub is_section_by : (form : Bool) (fields : List BookField) (name : List ℕ) → map field_line fields ≡ fields_in_form form → (length name == 0) ≡ false
+    → list_any (λ f. bytes_eq f.section.now name) fields ≡ is_section form name
 unfolding is_section
-is_section_by fields name e some =
+is_section_by form fields name e some =
     rw some (sym (list_any_map (λ f. bytes_eq f.section name) field_line fields) ∙ ap (list_any (λ f. bytes_eq f.section name)) e)
 
-pub no_section : (name : List ℕ) → (length name == 0) ≡ true → false ≡ is_section name
+pub no_section : (form : Bool) (name : List ℕ) → (length name == 0) ≡ true → false ≡ is_section form name
 unfolding is_section
-no_section name none = rw none refl
+no_section form name none = rw none refl
 
 -- the names of a map's members
 pub names_view : (es : List (String Global × Value)) → names_of (members_view es) ≡ map string_bytes (keys_of es)
@@ -37,13 +38,13 @@ names_view [] = refl
 names_view (e ∷ es) = ap (λ ns. string_bytes e.0 ∷ ns) (names_view es)
 
 -- one more key of a table, known or not
-pub pass_known : (section key : List ℕ) (keys : List (List ℕ)) (least : Option (List ℕ)) → is_key section key ≡ true
-    → fold keep_lesser least (unknown_keys section (key ∷ keys)) ≡ fold keep_lesser least (unknown_keys section keys)
-pass_known section key keys least known = rw known refl
+pub pass_known : (form : Bool) (section key : List ℕ) (keys : List (List ℕ)) (least : Option (List ℕ)) → is_key form section key ≡ true
+    → fold keep_lesser least (unknown_keys form section (key ∷ keys)) ≡ fold keep_lesser least (unknown_keys form section keys)
+pass_known form section key keys least known = rw known refl
 
-pub keep_unknown : (section key : List ℕ) (keys : List (List ℕ)) (least : Option (List ℕ)) → is_key section key ≡ false
-    → fold keep_lesser least (unknown_keys section (key ∷ keys)) ≡ fold keep_lesser (keep_lesser least (dotted section key)) (unknown_keys section keys)
-keep_unknown section key keys least unknown = rw unknown refl
+pub keep_unknown : (form : Bool) (section key : List ℕ) (keys : List (List ℕ)) (least : Option (List ℕ)) → is_key form section key ≡ false
+    → fold keep_lesser least (unknown_keys form section (key ∷ keys)) ≡ fold keep_lesser (keep_lesser least (dotted section key)) (unknown_keys form section keys)
+keep_unknown form section key keys least unknown = rw unknown refl
 
 -- the least of two lists one after the other
 pub fold-append : {X A : Type 0} (f : A → X → A) (a : A) (xs ys : List X) → fold f a (xs ++ ys) ≡ fold f (fold f a xs) ys

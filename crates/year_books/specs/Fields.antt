@@ -1,5 +1,5 @@
 -- The fields of a year book, in order: where each stands, and what stands there.
-use Rattle.std.specs.Prelude.{ℕ, List, [], ◌∷◌, ◌++◌, codes}
+use Rattle.std.specs.Prelude.{ℕ, List, [], ◌∷◌, ◌++◌, codes, take}
 use Rattle.year_books.specs.declared.table.BookField.{BookField}
 use Rattle.year_books.specs.declared.table.Holds.{Holds}
 use Rattle.year_books.specs.declared.table.Holds.TheVariants.{Integer, Integers, Tables, Column}
@@ -25,7 +25,7 @@ book_line number section key kind = record { number = number; section = section;
 abbrev pub field_line : BookField → BookLine
 field_line f = record { number = f.number; section = f.section.now; key = f.key.now; name = f.name.now; kind = f.kind }
 
--- the fields 1 to 55
+-- the fields 1 to 56, the last of which stands in form 2 alone
 abbrev pub table_fields : List BookLine
 table_fields =
     book_line 1 [] (codes "form") Integer
@@ -83,4 +83,8 @@ table_fields =
     ∷ book_line 53 (codes "bracket") (codes "over") Column
     ∷ book_line 54 (codes "bracket") (codes "base") Column
     ∷ book_line 55 (codes "bracket") (codes "rate") Column
+    ∷ book_line 56 (codes "ceiling") (codes "percent") Integer
     ∷ []
+
+abbrev pub first_fields : List BookLine
+first_fields = take 55 table_fields

@@ -2,7 +2,7 @@
 use Rattle.std.specs.Prelude.{ℕ, ℤ, pos, List, [], ◌∷◌, bytes_eq, filter, flat_map, length, map, Some}
 use Rattle.toml.specs.Data.{Data, Members, get}
 use Rattle.year_books.specs.Fields.{BookLine, table_fields}
-use Rattle.year_books.specs.Reading.{integer_in, items_in, member_at}
+use Rattle.year_books.specs.Reading.{fields_of, integer_in, items_in, member_at}
 use Rattle.year_books.specs.declared.table.Holds.{Holds}
 use Rattle.year_books.specs.declared.table.Holds.TheVariants.{Integer, Integers, Tables, Column}
 
@@ -24,6 +24,6 @@ added_by Column section key t = []
 abbrev pub added_by_all : List BookLine → Members → List ℤ
 added_by_all fields t = flat_map (λ f. added_by f.kind f.section f.key t) fields
 
--- the numbers of a table's fields 1 to 55
+-- the numbers of a text's fields
 unfoldable pub numbers_in : Members → List ℤ
-numbers_in t = added_by_all table_fields t
+numbers_in t = added_by_all (fields_of t) t

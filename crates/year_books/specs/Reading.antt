@@ -1,12 +1,13 @@
 -- What a text gives at the fields of a year book, and the first error of its fields.
-use Rattle.std.specs.Prelude.{ℕ, ℤ, pos, List, [], ◌∷◌, ◌==◌, ◌&&◌, map, length, Bool, false, Option, Some, None, is_some, option_and_then, unwrap_or, if◌then◌else◌}
+use Rattle.std.specs.Prelude.{ℕ, ℤ, pos, codes, List, [], ◌∷◌, ◌==◌, ◌&&◌, map, length, Bool, false, Option, Some, None, is_some, option_and_then, unwrap_or, if◌then◌else◌}
 use Rattle.std.specs.List.{list_all}
 use Rattle.std.specs.Option.{option_or}
+use Rattle.std.specs.Ordering.{int_eq}
 use Rattle.std.specs.Str.{is_utf8}
 use Rattle.toml.specs.Data.{Data, Items, no_items, item, Members, get, get_member, as_array, as_integer, as_table}
 use Rattle.toml.specs.Parse.{parse_document}
 use Rattle.field_table.specs.Limits.{is_between}
-use Rattle.year_books.specs.Fields.{BookLine, table_fields}
+use Rattle.year_books.specs.Fields.{BookLine, first_fields, table_fields}
 use Rattle.year_books.specs.Ranges.{Greatest, Range, number_at, range_named, up_to}
 use Rattle.year_books.specs.declared.table.Holds.{Holds}
 use Rattle.year_books.specs.declared.table.Holds.TheVariants.{Integer, Integers, Tables, Column}
@@ -90,6 +91,17 @@ abbrev pub first_error : List BookLine → Members → Option BookError
 first_error [] t = None
 first_error (f ∷ fs) t = option_or (field_error f t) (first_error fs t)
 
--- the first error of a table's fields 1 to 55
+-- a text is of form 2 where that integer stands under `form`
+abbrev pub is_form_2 : Members → Bool
+is_form_2 t = int_eq (integer_in (member_at [] (codes "form") t)) (pos 2)
+
+-- the fields of a text of form 2, or of any other
+unfoldable pub fields_in_form : Bool → List BookLine
+fields_in_form b = if b then table_fields else first_fields
+
+abbrev pub fields_of : Members → List BookLine
+fields_of t = fields_in_form (is_form_2 t)
+
+-- the first error of a text's fields
 unfoldable pub fields_error : Members → Option BookError
-fields_error t = first_error table_fields t
+fields_error t = first_error (fields_of t) t

@@ -13,7 +13,7 @@ ghost use Rattle.std.specs.Prelude.{◌≡◌, ◌≢◌, ℕ, List, Ok, Err, If
 ghost use Rattle.aid_books.specs.declared.book.Book.{Book as BookRecord};
 ghost use Rattle.toml.specs.View.{table_view};
 ghost use Rattle.book_numbers.specs.Book.{numbers_of};
-ghost use Rattle.year_books.specs.Causes.{IsLeastUnknownIn, IsMissingIn};
+ghost use Rattle.year_books.specs.Causes.{IsLeastUnknown, IsMissing, IsNotRising, IsOutOfRange, IsWrongKind, OfTable};
 ghost use Rattle.year_books.specs.Text.{numbers_of_table, numbers_of_text};
 
 use crate::numbers::numbers_of_fields;
@@ -46,14 +46,18 @@ fn book_of_table(alloc: Global, table: &Table) -> Result<Book, BookError>
     Ok(book_of_numbers(&numbers_of_fields(table)))
 }
 
-/// The book that a text gives, or the first thing that is wrong with the text: that it is no TOML, then the fields 1 to 55
-/// in order, then the rows of the tables, then the keys that a book doesn't have, the least by its bytes.
+/// The book that a text gives, or the first thing that is wrong with the text: that it is no TOML, then the fields in
+/// order, then the rows of the tables, then the keys that a book doesn't have, the least by its bytes.
 pub fn book_of(alloc: Global, text: &[u8]) -> Result<Book, BookError>
     ensures book { IfOk result (λ b. numbers_of_text text.now ≡ Ok (numbers_of b)) }
     ensures only { IfOk result (λ b. (other : BookRecord) → numbers_of_text text.now ≡ Ok (numbers_of other) → other ≡ b) }
     ensures first_error { IfErr result (λ e. e ≢ BookError.NoMemory → numbers_of_text text.now ≡ Err e) }
-    ensures missing { (field : ℕ) → result ≡ Err (BookError.Missing field) → IsMissingIn text.now field }
-    ensures unknown { (name : List ℕ) → result ≡ Err (BookError.Unknown name) → IsLeastUnknownIn text.now name }
+    // What each error says of the text.
+    ensures missing { (field : ℕ) → result ≡ Err (BookError.Missing field) → OfTable (λ t. IsMissing t field) text.now }
+    ensures wrong_kind { (field : ℕ) → result ≡ Err (BookError.WrongKind field) → OfTable (λ t. IsWrongKind t field) text.now }
+    ensures out_of_range { (field : ℕ) → result ≡ Err (BookError.OutOfRange field) → OfTable (λ t. IsOutOfRange t field) text.now }
+    ensures not_rising { (table row : ℕ) → result ≡ Err (BookError.NotRising table row) → OfTable (λ t. IsNotRising t table row) text.now }
+    ensures unknown { (name : List ℕ) → result ≡ Err (BookError.Unknown name) → OfTable (λ t. IsLeastUnknown t name) text.now }
 {
     let table = table_in(alloc, text)?;
     book_of_table(alloc, &table)

@@ -7,7 +7,7 @@ ghost use Rattle.year_books.specs.Fields.{table_fields};
 ghost use Rattle.year_books.specs.Numbers.{added_by, fields_in, numbers_in, row_numbers};
 ghost use Rattle.year_books.specs.Reading.{integer_in as integer_of};
 
-use crate::reading::{integer_in, items_in, value_at};
+use crate::reading::{fields_of, integer_in, items_in, value_at};
 use crate::table::{BookField, Holds, fields};
 use field_table::Numbers;
 use toml::{Table, Value};
@@ -63,13 +63,13 @@ fn put_field(table: &Table, field: &BookField, numbers: &mut Numbers)
     }
 }
 
-/// The numbers of a table's fields 1 to 55. A table of a book is its count of rows and then its rows.
+/// The numbers of a text's fields. A table of a book is its count of rows and then its rows.
 pub fn numbers_of_fields(table: &Table) -> Numbers
     requires { length (numbers_in (table_view table.now)) ≤ most_numbers }
     ensures { result.items ≡ numbers_in (table_view table.now) }
 {
     let mut numbers = Numbers::new();
-    let fields = fields();
+    let fields = fields_of(table);
     for field in fields {
         put_field(table, field, &mut numbers);
     }

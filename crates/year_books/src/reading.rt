@@ -6,11 +6,11 @@ ghost use Rattle.toml.specs.View.{table_view, view};
 ghost use Rattle.field_table.specs.Limits.{is_between as goes_between};
 ghost use Rattle.year_books.specs.Fields.{field_line};
 ghost use Rattle.year_books.specs.Ranges.{greatest};
-ghost use Rattle.year_books.specs.Reading.{field_error, fields_error, first_fault, has_kind, has_range, integer_in as integer_of, items_in as items_of, limit, member_at, places_error, rows_of, table_of};
+ghost use Rattle.year_books.specs.Reading.{field_error, fields_error, fields_of as fields_of_text, first_fault, has_kind, has_range, integer_in as integer_of, is_form_2 as is_of_form_2, items_in as items_of, limit, member_at, places_error, rows_of, table_of};
 
 use crate::error::BookError;
 use crate::ranges::{Highest, range};
-use crate::table::{BookField, Holds, fields};
+use crate::table::{BookField, Holds, fields_by_form};
 use std::alloc::Global;
 use toml::{Table, Value};
 
@@ -229,11 +229,25 @@ fn error_of_field(table: &Table, field: &BookField) -> Option<BookError>
     }
 }
 
-/// The first error of a table's fields 1 to 55.
+/// Whether the integer 2 stands under `form`.
+pub fn is_form_2(table: &Table) -> bool
+    ensures { result ≡ is_of_form_2 (table_view table.now) }
+{
+    integer_in(value_at(table, "", "form")) == 2
+}
+
+/// The fields of a text: all of them in form 2, and else the first 55.
+pub fn fields_of(table: &Table) -> &'static [BookField]
+    ensures { map field_line result.now ≡ fields_of_text (table_view table.now) }
+{
+    fields_by_form(is_form_2(table))
+}
+
+/// The first error of a text's fields.
 pub fn error_of_fields(table: &Table) -> Option<BookError>
     ensures { result ≡ fields_error (table_view table.now) }
 {
-    let fields = fields();
+    let fields = fields_of(table);
     for field in fields {
         if let Some(error) = error_of_field(table, field) {
             return Some(error);

@@ -2,6 +2,7 @@
 ghost use Rattle.std.specs.Prelude.{◌≡◌, map};
 ghost use Rattle.year_books.specs.Fields.{field_line, table_fields};
 ghost use Rattle.year_books.specs.Filed.{AreFiled};
+ghost use Rattle.year_books.specs.Reading.{fields_in_form};
 
 /// What stands at a field.
 #[derive(Clone, Copy, Debug)]
@@ -19,7 +20,7 @@ pub enum Holds {
 /// A field: its number, where it stands, and what stands there.
 #[derive(Clone, Copy, Debug)]
 pub struct BookField {
-    /// 1 to 55.
+    /// 1 to 56.
     pub number: u16,
     /// The section, or the array of tables, that it stands in; empty at the top.
     pub section: &'static str,
@@ -59,7 +60,7 @@ macro_rules! field {
 
 use Holds::{Column, Integer, Integers, Tables};
 
-static FIELDS: [BookField; 55] = [
+static FIELDS: [BookField; 56] = [
     top!(1, "form": Integer),
     top!(2, "year": Integer),
     field!(3, "pell", "maximum": Integer),
@@ -115,13 +116,22 @@ static FIELDS: [BookField; 55] = [
     field!(53, "bracket", "over": Column),
     field!(54, "bracket", "base": Column),
     field!(55, "bracket", "rate": Column),
+    field!(56, "ceiling", "percent": Integer),
 ];
 
-/// The fields 1 to 55, in order.
+/// The fields 1 to 56, in order.
 pub fn fields() -> &'static [BookField]
     ensures { map field_line result.now ≡ table_fields }
 {
     &FIELDS
+}
+
+/// The fields of a text of form 2, or of any other.
+#[tactic(auto, unfolding(crate::specs::Reading::fields_in_form))]
+pub fn fields_by_form(is_form_2: bool) -> &'static [BookField]
+    ensures { map field_line result.now ≡ fields_in_form is_form_2 }
+{
+    if is_form_2 { &FIELDS } else { &FIELDS[..55] }
 }
 
 /// Says that the fields have the names and the ranges of the table of kinds, in its order. It computes nothing.

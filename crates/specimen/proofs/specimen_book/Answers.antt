@@ -1,4 +1,4 @@
-use Rattle.std.proofs.Common.{◌≡◌, pos, option_map, slice_get, refl}
+use Rattle.std.proofs.Common.{◌≡◌, pos, option_map, slice_get, refl, lit≤}
 use Rattle.aid_num.specs.Nearest.{half_up, share}
 use Rattle.aid_books.specs.declared.marginal.Bracket.{Bracket}
 use Rattle.specimen.specs.Specimen.{bracket_rows}
@@ -11,6 +11,7 @@ first_base = refl
 
 pub invariant_of-result-2 : goal.invariant_of-result-2
 invariant_of-result-2 c = record {
+  ceiling_in_range = lit≤ tt;
   business_over = rw c.business.ensures refl;
   business_base = rw c.business.ensures refl;
   age_start = rw c.ages.ensures refl;

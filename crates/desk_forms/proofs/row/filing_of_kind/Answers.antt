@@ -22,6 +22,9 @@ has_fields-requires-clause-plain c = ap are_plain c.key_parts-key.ensures
 pub numbers_of-requires-clause-words : goal.numbers_of-requires-clause-words
 numbers_of-requires-clause-words c = omega (arith, length-map c.program_words-words.result.now (λ word. word.now), ap length c.program_words-words.ensures)
 
+pub numbers_of-requires-clause-plain : goal.numbers_of-requires-clause-plain
+numbers_of-requires-clause-plain c = ap are_plain c.key_parts-key.ensures
+
 pub numbers_of-requires-clause-table : goal.numbers_of-requires-clause-table
 numbers_of-requires-clause-table c =
     IsTable-parts c.args.kind (slots_of c.key_parts-key.result.now) (slots_of c.table_row.result.parts.now) c.key_parts-key.ensures c.table_row.ensures.parts

@@ -5,4 +5,4 @@ use Rattle.year_books.proofs.reading.error_of_fields.Goals as goal
 
 pub loop-field-init : goal.loop-field-init
 unfolding fields_error
-loop-field-init c = ap (λ fs. first_error fs (table_view c.args.table.now)) (sym c.fields-fields.ensures)
+loop-field-init c = ap (λ fs. first_error fs (table_view c.args.table.now)) (sym c.fields_of-fields.ensures)

@@ -6,5 +6,5 @@ use Rattle.year_books.proofs.unknown.least_in_rows.Given as goal
 
 abbrev pub invariant-loop-row : goal.invariant-loop-row
 invariant-loop-row l =
-    fold keep_lesser (option_map (λ v. v.items) l.initial.least) (flat_map (unknown_in l.section) (map view l.rows))
-    ≡ fold keep_lesser (option_map (λ v. v.items) l.least) (flat_map (unknown_in l.section) (map view (drop l.row-index l.rows)))
+    fold keep_lesser (option_map (λ v. v.items) l.initial.least) (flat_map (unknown_in l.is_form_2 l.section) (map view l.rows))
+    ≡ fold keep_lesser (option_map (λ v. v.items) l.least) (flat_map (unknown_in l.is_form_2 l.section) (map view (drop l.row-index l.rows)))

@@ -6,5 +6,5 @@ use Rattle.year_books.proofs.unknown.least_in_table.Given as goal
 
 abbrev pub invariant-loop-key : goal.invariant-loop-key
 invariant-loop-key l =
-    fold keep_lesser (option_map (λ v. v.items) l.initial.least) (unknown_keys l.section (names_of (table_view l.table)))
-    ≡ fold keep_lesser (option_map (λ v. v.items) l.least) (unknown_keys l.section (map string_bytes l.key-iterator))
+    fold keep_lesser (option_map (λ v. v.items) l.initial.least) (unknown_keys l.is_form_2 l.section (names_of (table_view l.table)))
+    ≡ fold keep_lesser (option_map (λ v. v.items) l.least) (unknown_keys l.is_form_2 l.section (map string_bytes l.key-iterator))
