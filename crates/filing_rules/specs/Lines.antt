@@ -36,9 +36,9 @@ past_lifetime rule f cents = over rule (f.used_else + use_of (f.pell_year + cent
 abbrev pub past_cost : ℕ → Facts → ℕ → RuleLine
 past_cost rule f cents = over rule (f.net_all + cents) (100 * f.cost)
 
--- 40, 58: no Pell for this student; a term of another school that shares a day is paid
+-- 43, 40, 58: the index is at or above the ceiling; no Pell for this student; a term of another school that shares a day is paid
 abbrev pub pell_lines : Facts → ℕ → List RuleLine
-pell_lines f school = where_true 40 (f.scheduled == 0) f.transaction 0 ∷ stands 58 f.other_school school ∷ []
+pell_lines f school = stands 43 f.ceiling_index f.ceiling_bound ∷ where_true 40 (f.scheduled == 0) f.transaction 0 ∷ stands 58 f.other_school school ∷ []
 
 -- 52: past the post-withdrawal amounts
 abbrev pub rule_52 : Facts → ℕ → ℕ → List RuleLine

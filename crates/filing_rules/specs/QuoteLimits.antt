@@ -5,7 +5,7 @@ use Rattle.filing_rules.specs.declared.facts.Facts.{Facts}
 use Rattle.filing_rules.specs.Lines.{payment_here, year_limit}
 
 -- What a Pell payment of any amount asks: room in the office; the school, the term, an application and an origination on
--- file; a student who is enrolled and is awarded Pell; no Pell paid for a term of another school that shares a day.
+-- file; a student who is enrolled, whose index is below the ceiling, and who is awarded Pell; no Pell paid for a term of another school that shares a day.
 pub record MayBePaid (f : Facts) : Type 0 where
   pub room : f.filings < 200000
   pub school : 0 < f.school_at
@@ -13,6 +13,7 @@ pub record MayBePaid (f : Facts) : Type 0 where
   pub application : 0 < f.transaction
   pub origination : 0 < f.cost_at
   pub enrolled : 0 < f.credits
+  pub below : f.ceiling_index ≡ 0
   pub awarded : 0 < f.scheduled
   pub apart : f.other_school ≡ 0
 

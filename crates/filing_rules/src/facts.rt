@@ -29,6 +29,9 @@ pub struct Facts {
     /// The transaction of the application in force and the Scheduled Award that it gives.
     pub transaction: u32,
     pub scheduled: u32,
+    /// Its index and the least index at the year's ceiling, where the ceiling is why there is no award.
+    pub ceiling_index: u32,
+    pub ceiling_bound: u32,
     /// The position of the origination at the school in the year, and its cost of attendance.
     pub cost_at: u32,
     pub cost: u32,
@@ -84,6 +87,8 @@ impl Facts {
         pell_at: 0,
         transaction: 0,
         scheduled: 0,
+        ceiling_index: 0,
+        ceiling_bound: 0,
         cost_at: 0,
         cost: 0,
         credits: 0,

@@ -57,6 +57,7 @@ fn broken_by_amount(f: &Facts, school: School, program: Program, cents: u64) -> 
     let cost = past_cost(57, f, cents);
     match program {
         Program::Pell => first_broken(&[
+            stands(43, f.ceiling_index, u64::from(f.ceiling_bound)),
             where_true(40, f.scheduled == 0, u64::from(f.transaction), 0),
             stands(58, f.other_school, u64::from(school.0)),
             of_program,

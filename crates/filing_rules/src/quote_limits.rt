@@ -19,6 +19,7 @@ pub(crate) fn may_be_paid(f: &Facts) -> bool
         && f.transaction > 0
         && f.cost_at > 0
         && f.credits > 0
+        && f.ceiling_index == 0
         && f.scheduled > 0
         && f.other_school == 0
 }

@@ -1,1 +1,2 @@
 pub mod AwardLaws
+pub mod CeilingLaws

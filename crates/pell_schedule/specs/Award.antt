@@ -1,9 +1,10 @@
 -- The award of an application with an index (HEA 401(b); SAI and Pell Grant Eligibility Guide).
-use Rattle.std.specs.Prelude.{◌≡◌, ◌⊎◌, ◌<ℤ◌, ◌≤ℤ◌, IsFalse, IsTrue, ℕ, ◌||◌, ◌&&◌, Bool, false, not, if◌then◌else◌, ℤ, pos, neg_ℤ, ◌-ℤ◌, ◌*ℤ◌, int_le, int_lt, unsigned_abs}
+use Rattle.std.specs.Prelude.{◌≡◌, ◌⊎◌, ◌↔◌, ◌≤◌, ◌<ℤ◌, ◌≤ℤ◌, IsFalse, IsTrue, ℕ, zero, suc, ◌+◌, ◌*◌, ◌/◌, nat_lt, ◌||◌, ◌&&◌, Bool, false, not, if◌then◌else◌, ℤ, pos, neg_ℤ, ◌+ℤ◌, ◌-ℤ◌, ◌*ℤ◌, int_le, int_lt, unsigned_abs}
 use Rattle.std.specs.Int.{int_max, int_min}
 use Rattle.aid_num.specs.Nearest.{to5}
 use Rattle.aid_types.specs.declared.application.Application.{Application}
 use Rattle.aid_types.specs.declared.application.Region.{Region}
+use Rattle.aid_types.specs.declared.application.Side.{Side}
 use Rattle.aid_types.specs.declared.application.Region.TheVariants.{Contiguous, Alaska, Hawaii}
 use Rattle.aid_books.specs.declared.book.Book.{Book}
 use Rattle.aid_books.specs.BySize.{by_size}
@@ -18,13 +19,20 @@ use Rattle.aid_types.specs.declared.award.Way.{Way}
 use Rattle.aid_types.specs.declared.award.Way.TheVariants.{Maximum, Calculated, Minimum, Nothing}
 use Rattle.sai_index.specs.Formulas.{formula}
 use Rattle.sai_index.specs.Indices.{index_of}
+use Rattle.pell_schedule.specs.declared.Ceiling.{Ceiling}
 use Rattle.pell_schedule.specs.declared.Decision.{Decision}
 
+-- the income of one household that counts: the adjusted gross income, and under a book with a ceiling the foreign income as
+-- well (HEA 401(a)(2)(A), since Public Law 119-21, section 83001)
+abbrev pub counted_income : ℕ → Side → ℤ
+counted_income zero side = side.agi
+counted_income (suc n) side = side.agi +ℤ side.foreign
+
 -- the household whose income decides: the parents' for a dependent student, the student's for others (HEA 401(b)(1))
-abbrev pub income : Formula → Application → ℤ
-income A a = a.parents.agi
-income B a = a.own.agi
-income C a = a.own.agi
+abbrev pub income : Book → Formula → Application → ℤ
+income book A a = counted_income book.ceiling a.parents
+income book B a = counted_income book.ceiling a.own
+income book C a = counted_income book.ceiling a.own
 
 -- whether that household was required to file a return (HEA 401(b)(1))
 abbrev pub must_file : Formula → Application → Bool
@@ -61,19 +69,34 @@ minimum_percent p C a = if a.married then p.minimum_parent else p.minimum_single
 
 -- whether an income is at most so many percent of the guideline (HEA 401(b)(1))
 abbrev pub is_within : ℤ → ℤ → ℤ → Bool
-is_within agi percent g = int_le (pos 100 *ℤ agi) (percent *ℤ g)
+is_within income percent g = int_le (pos 100 *ℤ income) (percent *ℤ g)
 
 -- a graduate student or holder of a bachelor's degree, who has no award (HEA 401(d)(1))
 abbrev pub is_barred : Application → Bool
 is_barred a = a.graduate || a.bachelor
 
+-- an index at or above the book's percent of the Maximum award, where the book has a ceiling (HEA 401(b)(1)(D), since
+-- Public Law 119-21, section 83001)
+unfoldable pub is_at_ceiling : Book → ℤ → Bool
+is_at_ceiling book index = nat_lt 0 book.ceiling && int_le (pos book.ceiling *ℤ book.pell.maximum) (pos 100 *ℤ index)
+
+-- the least index there
+abbrev pub ceiling_bound : Book → ℕ
+ceiling_bound book = (book.ceiling * unsigned_abs book.pell.maximum + 99) / 100
+
+-- an index at the ceiling with the least such index, where that is why there is no award, else 0 and 0
+abbrev pub ceiling_at : Book → Application → ℤ → Ceiling
+ceiling_at book a index =
+    if not (is_barred a) && is_at_ceiling book index then record { index = unsigned_abs index; bound = ceiling_bound book }
+    else record { index = 0; bound = 0 }
+
 -- an income above 0 and at most so much of the guideline that the award is a Maximum (HEA 401(b)(1))
 unfoldable pub is_maximum : Book → Formula → Application → Bool
-is_maximum book f a = int_lt (pos 0) (income f a) && is_within (income f a) (maximum_percent book.percent f a) (guideline book a)
+is_maximum book f a = int_lt (pos 0) (income book f a) && is_within (income book f a) (maximum_percent book.percent f a) (guideline book a)
 
 -- an income at most so much of it that the award is at least a Minimum (HEA 401(b)(1))
 unfoldable pub is_minimum : Book → Formula → Application → Bool
-is_minimum book f a = is_within (income f a) (minimum_percent book.percent f a) (guideline book a)
+is_minimum book f a = is_within (income book f a) (minimum_percent book.percent f a) (guideline book a)
 
 -- the award that the index leaves of the greatest, rounded to five dollars (HEA 401(b)(1); own: the rounding)
 unfoldable pub calculated : Book → ℤ → ℤ
@@ -83,16 +106,18 @@ calculated book index = to5 (book.pell.maximum -ℤ int_max index (pos 0))
 abbrev pub awarded : Way → ℤ → ℤ → Decision
 awarded way dollars sai = record { way = way; scheduled = unsigned_abs dollars; sai = sai }
 
--- the five cases under a formula, the first that holds (HEA 401(b)(1); own: the final index of a Maximum)
+-- the six cases under a formula, the first that holds (HEA 401(b)(1); own: the final index of a Maximum, and that the ceiling
+-- comes before the three ways to an award)
 abbrev pub decision_under : Formula → Book → Application → ℤ → Decision
 decision_under f book a index =
     if is_barred a then awarded Nothing (pos 0) index
+    else (if is_at_ceiling book index then awarded Nothing (pos 0) index
     else (if must_file f a
     then (if is_maximum book f a then awarded Maximum book.pell.maximum (int_min index (pos 0))
     else (if int_le book.pell.minimum (calculated book index) then awarded Calculated (calculated book index) index
     else (if is_minimum book f a then awarded Minimum book.pell.minimum index
     else awarded Nothing (pos 0) index)))
-    else awarded Maximum book.pell.maximum (neg_ℤ (pos 1500)))
+    else awarded Maximum book.pell.maximum (neg_ℤ (pos 1500))))
 
 -- the decision on an application with an index: way, Scheduled Award and final index (HEA 401(b))
 abbrev pub decision : Book → Application → ℤ → Decision
@@ -102,18 +127,33 @@ decision book a index = decision_under (formula book a) book a index
 abbrev pub decision_of : Book → Application → Decision
 decision_of book a = decision book a (index_of book a)
 
+-- the ceiling that decides on an application by its own index
+abbrev pub ceiling_of : Book → Application → Ceiling
+ceiling_of book a = ceiling_at book a (index_of book a)
+
 -- what each case says where those before it don't hold
 pub record IsDecidedByCase (f : Formula) (book : Book) (a : Application) (index : ℤ) (d : Decision) : Type 0 where
   pub barred : IsTrue (is_barred a) → d ≡ awarded Nothing (pos 0) index
-  pub not_required : IsFalse (is_barred a) → IsFalse (must_file f a) → d ≡ awarded Maximum book.pell.maximum (neg_ℤ (pos 1500))
-  pub maximum : IsFalse (is_barred a) → IsTrue (must_file f a) → IsTrue (is_maximum book f a)
+  pub ceiling : IsFalse (is_barred a) → 1 ≤ book.ceiling → (pos book.ceiling *ℤ book.pell.maximum) ≤ℤ (pos 100 *ℤ index)
+      → d ≡ awarded Nothing (pos 0) index
+  pub not_required : IsFalse (is_barred a) → IsFalse (is_at_ceiling book index) → IsFalse (must_file f a)
+      → d ≡ awarded Maximum book.pell.maximum (neg_ℤ (pos 1500))
+  pub maximum : IsFalse (is_barred a) → IsFalse (is_at_ceiling book index) → IsTrue (must_file f a) → IsTrue (is_maximum book f a)
       → d ≡ awarded Maximum book.pell.maximum (int_min index (pos 0))
-  pub by_index : IsFalse (is_barred a) → IsTrue (must_file f a) → IsFalse (is_maximum book f a)
+  pub by_index : IsFalse (is_barred a) → IsFalse (is_at_ceiling book index) → IsTrue (must_file f a) → IsFalse (is_maximum book f a)
       → book.pell.minimum ≤ℤ calculated book index → d ≡ awarded Calculated (calculated book index) index
-  pub minimum : IsFalse (is_barred a) → IsTrue (must_file f a) → IsFalse (is_maximum book f a)
+  pub minimum : IsFalse (is_barred a) → IsFalse (is_at_ceiling book index) → IsTrue (must_file f a) → IsFalse (is_maximum book f a)
       → calculated book index <ℤ book.pell.minimum → IsTrue (is_minimum book f a) → d ≡ awarded Minimum book.pell.minimum index
-  pub nothing : IsFalse (is_barred a) → IsTrue (must_file f a) → IsFalse (is_maximum book f a)
+  pub nothing : IsFalse (is_barred a) → IsFalse (is_at_ceiling book index) → IsTrue (must_file f a) → IsFalse (is_maximum book f a)
       → calculated book index <ℤ book.pell.minimum → IsFalse (is_minimum book f a) → d ≡ awarded Nothing (pos 0) index
+
+-- a ceiling is told by an index and the least that it takes, above 0 and no greater; or it isn't, by 0 and 0
+pub record IsTold (book : Book) (a : Application) (index : ℤ) (told : Ceiling) : Type 0 where
+  pub none : book.ceiling ≡ 0 → told ≡ record { index = 0; bound = 0 }
+  pub kept : 1 ≤ told.index → index ≡ pos told.index
+  pub above : told.bound ≤ told.index
+  pub least : 1 ≤ told.bound → (other : ℤ) → pos told.bound ≤ℤ other ↔ IsTrue (is_at_ceiling book other)
+  pub unawarded : 1 ≤ told.index → (decision book a index).scheduled ≡ 0
 
 -- own: the greatest award there is: the maximum, or the multiple of five nearest to it if that is above it, by at most two dollars
 abbrev pub greatest_award : PellFigures → ℤ

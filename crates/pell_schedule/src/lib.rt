@@ -11,8 +11,13 @@ ghost use Rattle.sai_index.specs.Index.{index_lines};
 ghost use Rattle.pell_schedule.specs.Award.{
   awarded as awarded_of,
   calculated as calculated_of,
+  ceiling_at,
+  ceiling_bound as ceiling_bound_of,
+  counted_income as counted_income_of,
+  is_at_ceiling as is_at_ceiling_of,
   IsDecidedByCase,
   IsScheduledAward,
+  IsTold,
   decision,
   decision_under,
   is_barred as is_barred_of,
@@ -29,7 +34,7 @@ ghost use Rattle.pell_schedule.specs.Award.{
 
 use aid_books::{Book, Percents};
 use aid_num::to5;
-use aid_types::{Application, Formula, Region, Way};
+use aid_types::{Application, Formula, Region, Side, Way};
 use sai_index::formula_of;
 
 /// What is awarded: the way to it, the Scheduled Award in dollars, and the final index.
@@ -38,6 +43,14 @@ pub struct Decision {
     pub way: Way,
     pub scheduled: u32,
     pub sai: i32,
+}
+
+/// An index at or above the year's ceiling, and the least index there: the ceiling is why there is no award. Both are 0 where it
+/// isn't.
+#[derive(Clone, Copy, PartialEq, Eq, Debug)]
+pub struct Ceiling {
+    pub index: u32,
+    pub bound: u32,
 }
 
 /// The award of an application with this index (HEA 401(b)).
@@ -55,12 +68,31 @@ pub fn decide(book: &Book, a: &Application, index: i32) -> Decision
     decide_under(formula_of(book, a), book, a, index)
 }
 
-// The first of the five cases that holds under a formula.
+/// The ceiling of the year where it decides on an application with this index (HEA 401(b)(1)(D)).
+pub fn ceiling_for(book: &Book, a: &Application, index: i32) -> Ceiling
+    requires { IsIndex index }
+    ensures value { result ≡ ceiling_at book.now a.now index }
+    ensures told { IsTold book.now a.now index result }
+{
+    if !is_barred(a) && is_at_ceiling(book, index) {
+        Ceiling {
+            index: index as u32,
+            bound: ceiling_bound(book),
+        }
+    } else {
+        Ceiling { index: 0, bound: 0 }
+    }
+}
+
+// The first of the six cases that holds under a formula.
 fn decide_under(formula: Formula, book: &Book, a: &Application, index: i32) -> Decision
     requires { IsIndex index }
     ensures { result ≡ decision_under formula book.now a.now index }
 {
     if is_barred(a) {
+        return awarded(Way::Nothing, 0, index);
+    }
+    if is_at_ceiling(book, index) {
         return awarded(Way::Nothing, 0, index);
     }
     if !must_file(formula, a) {
@@ -86,15 +118,31 @@ fn is_barred(a: &Application) -> bool
     a.graduate || a.bachelor
 }
 
+// Whether an index is at or above the year's ceiling.
+#[tactic(auto, unfolding(crate::specs::Award::is_at_ceiling))]
+fn is_at_ceiling(book: &Book, index: i32) -> bool
+    requires { IsIndex index }
+    ensures { result ≡ is_at_ceiling_of book.now index }
+{
+    book.ceiling > 0 && i64::from(book.ceiling) * book.pell.maximum <= 100 * i64::from(index)
+}
+
+// The least index there.
+fn ceiling_bound(book: &Book) -> u32
+    ensures { result ≡ ceiling_bound_of book.now }
+{
+    (u32::from(book.ceiling) * book.pell.maximum as u32 + 99) / 100
+}
+
 // Whether the household's income makes the award a Maximum.
 #[tactic(auto, unfolding(crate::specs::Award::is_maximum))]
 fn is_maximum(book: &Book, formula: Formula, a: &Application) -> bool
     ensures { result ≡ is_maximum_of book.now formula a.now }
 {
-    let agi = income(formula, a);
-    agi > 0
+    let income = income(book, formula, a);
+    income > 0
         && is_within(
-            agi,
+            income,
             maximum_percent(&book.percent, formula, a),
             guideline(book, a),
         )
@@ -106,7 +154,7 @@ fn is_minimum(book: &Book, formula: Formula, a: &Application) -> bool
     ensures { result ≡ is_minimum_of book.now formula a.now }
 {
     is_within(
-        income(formula, a),
+        income(book, formula, a),
         minimum_percent(&book.percent, formula, a),
         guideline(book, a),
     )
@@ -125,13 +173,24 @@ fn awarded(way: Way, scheduled: i64, sai: i32) -> Decision
 }
 
 // The income that decides.
-fn income(formula: Formula, a: &Application) -> i64
-    ensures { result ≡ income_of formula a.now }
+fn income(book: &Book, formula: Formula, a: &Application) -> i64
+    ensures { result ≡ income_of book.now formula a.now }
 {
     match formula {
-        Formula::A => a.parents.agi,
-        Formula::B => a.own.agi,
-        Formula::C => a.own.agi,
+        Formula::A => counted_income(book.ceiling, &a.parents),
+        Formula::B => counted_income(book.ceiling, &a.own),
+        Formula::C => counted_income(book.ceiling, &a.own),
+    }
+}
+
+// What counts of one household's income.
+fn counted_income(ceiling: u16, side: &Side) -> i64
+    ensures { result ≡ counted_income_of ceiling side.now }
+{
+    if ceiling == 0 {
+        side.agi
+    } else {
+        side.agi + side.foreign
     }
 }
 
@@ -192,10 +251,10 @@ fn minimum_percent(percents: &Percents, formula: Formula, a: &Application) -> i6
 }
 
 // Whether an income is at most so many percent of the guideline.
-fn is_within(agi: i64, percent: i64, guideline: i64) -> bool
-    ensures { result ≡ is_within_of agi percent guideline }
+fn is_within(income: i64, percent: i64, guideline: i64) -> bool
+    ensures { result ≡ is_within_of income percent guideline }
 {
-    100 * i128::from(agi) <= i128::from(percent) * i128::from(guideline)
+    100 * i128::from(income) <= i128::from(percent) * i128::from(guideline)
 }
 
 // The award that the index leaves of the greatest.

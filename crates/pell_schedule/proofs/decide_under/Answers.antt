@@ -5,6 +5,9 @@ use Rattle.pell_schedule.proofs.decide_under.Goals as goal
 pub returns-then-is_barred : goal.returns-then-is_barred
 returns-then-is_barred c = grind (arith, to_z-of_z)
 
+pub returns-then-is_at_ceiling : goal.returns-then-is_at_ceiling
+returns-then-is_at_ceiling c = grind (arith, to_z-of_z)
+
 pub returns-then-not-must_file : goal.returns-then-not-must_file
 returns-then-not-must_file c = grind (arith, to_z-of_z)
 

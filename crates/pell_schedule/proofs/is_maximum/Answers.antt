@@ -3,6 +3,6 @@ use Rattle.std.proofs.lemmas.Int.{to_z-of_z}
 use Rattle.pell_schedule.specs.Award.{is_maximum}
 use Rattle.pell_schedule.proofs.is_maximum.Goals as goal
 
-pub returns-then-agi-gt0 : goal.returns-then-agi-gt0
+pub returns-then-income-gt0 : goal.returns-then-income-gt0
 unfolding is_maximum
-returns-then-agi-gt0 c = grind (arith, to_z-of_z)
+returns-then-income-gt0 c = grind (arith, to_z-of_z)

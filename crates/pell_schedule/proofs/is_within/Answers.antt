@@ -16,7 +16,7 @@ product_fits a b f g =
     omega (arith, ints)
 
 pub overflow_mul-result : goal.overflow_mul-result
-overflow_mul-result c = rw (widened c.args.agi c.from.result c.ranges.agi c.from.ensures) (omega (arith, ints, c.ranges.agi))
+overflow_mul-result c = rw (widened c.args.income c.from.result c.ranges.income c.from.ensures) (omega (arith, ints, c.ranges.income))
 
 pub overflow_mul-result-2 : goal.overflow_mul-result-2
 overflow_mul-result-2 c =
@@ -25,5 +25,5 @@ overflow_mul-result-2 c =
 pub returns : goal.returns
 returns c =
     let product = to_z-of_z w128 (c.args.percent *ℤ c.args.guideline) (product_fits c.args.percent c.args.guideline c.ranges.percent c.ranges.guideline) in
-    let hundred : to_z w128 (of_z w128 (pos 100 *ℤ c.args.agi)) ≡ pos 100 *ℤ c.args.agi = omega (arith, ints, c.ranges.agi) in
-    rw (widened c.args.agi c.from.result c.ranges.agi c.from.ensures, widened c.args.percent c.from-2.result c.ranges.percent c.from-2.ensures, widened c.args.guideline c.from-3.result c.ranges.guideline c.from-3.ensures, product, hundred) refl
+    let hundred : to_z w128 (of_z w128 (pos 100 *ℤ c.args.income)) ≡ pos 100 *ℤ c.args.income = omega (arith, ints, c.ranges.income) in
+    rw (widened c.args.income c.from.result c.ranges.income c.from.ensures, widened c.args.percent c.from-2.result c.ranges.percent c.from-2.ensures, widened c.args.guideline c.from-3.result c.ranges.guideline c.from-3.ensures, product, hundred) refl
