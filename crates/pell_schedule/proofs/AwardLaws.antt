@@ -1,5 +1,5 @@
 -- What the six cases of an award say together, and what a ceiling tells.
-use Rattle.std.proofs.Common.{◌≡◌, inl, inr, ℕ, suc, ◌≤◌, ℤ, Bool, true, false, pos, neg_ℤ, ◌-ℤ◌, ◌<ℤ◌, ◌≤ℤ◌, unsigned_abs, int_le, lt-ltb, refl, arith}
+use Rattle.std.proofs.Common.{◌≡◌, inl, inr, ◌≤◌, ℤ, Bool, true, false, pos, neg_ℤ, ◌-ℤ◌, ◌<ℤ◌, ◌≤ℤ◌, unsigned_abs, int_le, lt-ltb, refl, arith}
 use Rattle.std.specs.Prelude.{◌&&◌, ◌*ℤ◌, if◌then◌else◌, nat_lt}
 use Rattle.std.specs.Int.{int_max, int_min}
 use Rattle.std.proofs.lemmas.Int.{ints, clamps}

@@ -1,15 +1,13 @@
 -- What a ceiling says of an index.
-use Rattle.std.proofs.Common.{◌≡◌, ◌↔◌, ◌∙◌, refl, sym, subst, ap, ℕ, zero, suc, ◌+◌, ◌*◌, ◌/◌, ◌≤◌, ℤ, pos, negsuc, ◌*ℤ◌, ◌≤ℤ◌, unsigned_abs, Bool, true, false, nat_lt, int_le, IsTrue, ltb-true, lt-ltb, arith}
-use Rattle.std.specs.Prelude.{◌&&◌, not, if◌then◌else◌, ◌+ℤ◌, IsFalse}
+use Rattle.std.proofs.Common.{◌≡◌, refl, sym, subst, ℕ, zero, suc, ◌+◌, ◌*◌, ◌/◌, ◌≤◌, ℤ, pos, negsuc, ◌*ℤ◌, ◌≤ℤ◌, unsigned_abs, Bool, true, false, nat_lt, int_le, ltb-true, lt-ltb, ne_eqb, arith}
+use Rattle.std.specs.Prelude.{◌&&◌, ◌+ℤ◌}
 use Rattle.std.proofs.lemmas.Bool.{false≢true}
 use Rattle.std.proofs.lemmas.Int.{ints}
 use Rattle.std.proofs.lemmas.Nat.{mul-le}
-use Rattle.aid_types.specs.Ranges.{IsIndex}
 use Rattle.aid_types.specs.declared.application.Application.{Application}
 use Rattle.aid_types.specs.declared.application.Side.{Side}
 use Rattle.aid_books.specs.declared.book.Book.{Book}
-use Rattle.pell_schedule.specs.declared.Ceiling.{Ceiling}
-use Rattle.pell_schedule.specs.Award.{IsTold, ceiling_at, ceiling_bound, counted_income, decision, is_at_ceiling, is_barred}
+use Rattle.pell_schedule.specs.Award.{IsTold, ceiling_at, ceiling_bound, counted_income, decision, is_at_ceiling, is_barred, no_ceiling}
 
 -- a percent of an amount above 0
 pub product : (c : ℕ) (m : ℤ) → pos 1 ≤ℤ m → pos c *ℤ m ≡ pos (c * unsigned_abs m)
@@ -68,8 +66,7 @@ index_above book index h = let r = reaches book index h in let a = r.above in le
 
 -- what counts of an income under a ceiling
 pub counted_above : (c : ℕ) (side : Side) → 1 ≤ c → counted_income c side ≡ side.agi +ℤ side.foreign
-counted_above zero side h = elim h [ ]
-counted_above (suc c) side h = refl
+counted_above c side h = rw (ne_eqb c 0 (λ none. absurd (omega (arith, none)))) refl
 
 -- the award where the ceiling decides
 pub unawarded : (book : Book) (a : Application) (index : ℤ) → is_barred a ≡ false → is_at_ceiling book index ≡ true → (decision book a index).scheduled ≡ 0

@@ -1,5 +1,5 @@
 -- The award of an application with an index (HEA 401(b); SAI and Pell Grant Eligibility Guide).
-use Rattle.std.specs.Prelude.{◌≡◌, ◌⊎◌, ◌↔◌, ◌≤◌, ◌<ℤ◌, ◌≤ℤ◌, IsFalse, IsTrue, ℕ, zero, suc, ◌+◌, ◌*◌, ◌/◌, nat_lt, ◌||◌, ◌&&◌, Bool, false, not, if◌then◌else◌, ℤ, pos, neg_ℤ, ◌+ℤ◌, ◌-ℤ◌, ◌*ℤ◌, int_le, int_lt, unsigned_abs}
+use Rattle.std.specs.Prelude.{◌≡◌, ◌⊎◌, ◌↔◌, ◌≤◌, ◌<ℤ◌, ◌≤ℤ◌, IsFalse, IsTrue, ℕ, ◌+◌, ◌*◌, ◌/◌, ◌==◌, nat_lt, ◌||◌, ◌&&◌, Bool, false, not, if◌then◌else◌, ℤ, pos, neg_ℤ, ◌+ℤ◌, ◌-ℤ◌, ◌*ℤ◌, int_le, int_lt, unsigned_abs}
 use Rattle.std.specs.Int.{int_max, int_min}
 use Rattle.aid_num.specs.Nearest.{to5}
 use Rattle.aid_types.specs.declared.application.Application.{Application}
@@ -25,20 +25,17 @@ use Rattle.pell_schedule.specs.declared.Decision.{Decision}
 -- the income of one household that counts: the adjusted gross income, and under a book with a ceiling the foreign income as
 -- well (HEA 401(a)(2)(A), since Public Law 119-21, section 83001)
 abbrev pub counted_income : ℕ → Side → ℤ
-counted_income zero side = side.agi
-counted_income (suc n) side = side.agi +ℤ side.foreign
+counted_income ceiling side = if ceiling == 0 then side.agi else side.agi +ℤ side.foreign
 
 -- the household whose income decides: the parents' for a dependent student, the student's for others (HEA 401(b)(1))
 abbrev pub income : Book → Formula → Application → ℤ
 income book A a = counted_income book.ceiling a.parents
-income book B a = counted_income book.ceiling a.own
-income book C a = counted_income book.ceiling a.own
+income book f a = counted_income book.ceiling a.own
 
 -- whether that household was required to file a return (HEA 401(b)(1))
 abbrev pub must_file : Formula → Application → Bool
 must_file A a = a.parents_file
-must_file B a = a.student_file
-must_file C a = a.student_file
+must_file f a = a.student_file
 
 -- a single parent: the unmarried parent of a dependent student, or an unmarried student with dependents
 -- (HEA 401(b)(1))
