@@ -111,7 +111,7 @@ amount_fits x are earlier = (
 
 withdraw_fits : (x : WithdrawFacts) → AreInRange (written (Withdraw x)).2 → length x.could ≡ 6 → FitAnywhere withdraw_slots (withdraw_numbers x)
 withdraw_fits x are six =
-    fit_joined (take 6 withdraw_slots) (drop 6 withdraw_slots) (withdrawal_numbers x) (could_numbers x.could)
+    fit_joined (take 6 withdraw_slots) (drop 6 withdraw_slots) (withdrawal_numbers x) (could_numbers x.could) refl
     (λ before. (
       fits_natural 1 999999999999 x.student are.0,
       (

@@ -1,32 +1,35 @@
 -- The bytes of a book's numbers are those that the table of kinds gives.
-use Rattle.std.proofs.Common.{◌≡◌, ℕ, ℤ, pos, false, List, [], ◌∷◌, ◌++◌, codes, length, take, drop, replicate, refl, sym, ap, ◌∙◌, append_assoc, append-nil, length-append, arith}
+use Rattle.std.proofs.Common.{◌≡◌, ℕ, zero, suc, ℤ, pos, false, List, [], ◌∷◌, ◌++◌, codes, length, take, drop, replicate, refl, sym, ap, ◌∙◌, append_assoc, length-append, arith}
 use Rattle.std.specs.Prelude.{flat_map, map}
 use Rattle.aid_books.specs.declared.book.Book.{Book}
 use Rattle.book_numbers.proofs.Chain.{length-size_numbers}
-use Rattle.book_numbers.specs.Book.{age_numbers, age_row, asset_numbers, bracket_numbers, bracket_row, employment_numbers, numbers_of, payroll_numbers, pell_numbers, percent_numbers, schedule_numbers, size_numbers}
+use Rattle.book_numbers.specs.Book.{age_numbers, age_row, asset_numbers, bracket_numbers, bracket_row, ceiling_numbers, employment_numbers, form_number, numbers_of, payroll_numbers, pell_numbers, percent_numbers, schedule_numbers, size_numbers}
+use Rattle.book_numbers.specs.Sections.{ceiling_slots}
 use Rattle.field_bytes.specs.Spelling.{numbers_bytes}
 use Rattle.filing_kinds.specs.Kinds.{age_columns, amount, book_slots, by_amount}
 use Rattle.field_table.specs.Columns.{counted}
+use Rattle.field_table.proofs.LayoutLemmas.{cut-zero}
 use Rattle.field_table.specs.Layout.{rows}
-use Rattle.field_table.specs.Parts.{Line, Slot, width_of}
+use Rattle.field_table.specs.Parts.{Slot, width_of}
 use Rattle.field_table.specs.declared.field.Limit.TheVariants.{AboveRow, Begins, Between}
 use Rattle.filing_numbers.proofs.Slots.{has_none}
 use Rattle.headline.specs.Written.{Number, book_numbers, bytes_of, lowest, table}
 use Rattle.headline.specs.Written.Number.{whole, ranged}
-use Rattle.headline.proofs.KeptBytes.{AreOfRow, map-flat_map, plain_shape, row_shapes, shape, then_kept, value, whole_shapes, whole_values}
+use Rattle.headline.proofs.KeptBytes.{AreOfRow, Shape, map-flat_map, plain_shape, row_shapes, shape, then_kept, value, whole_shapes, whole_values}
 
 -- a table, before other numbers
-table_kept : {Row : Type 0} (numbers : Row → List ℤ) (slot : Slot) (more : List Slot) (zs : List ℤ) (ms : List Number) → width_of slot.line.form ≡ 1 → has_none slot.first ≡ false
+table_kept : {Row : Type 0} (numbers : Row → List ℤ) (slot : Slot) (more : List Slot) (zs : List ℤ) (ms : List Number) → width_of slot.line.form ≡ 1 → has_none slot.first ≡ false → slot.ends ≡ 0
     → AreOfRow (λ row. map (whole 8) (numbers row)) slot.first → AreOfRow (λ row. map (whole 8) (numbers row)) slot.later → numbers_bytes more zs ≡ flat_map bytes_of ms
     → (xs : List Row) → numbers_bytes (slot ∷ more) (pos (length xs) ∷ flat_map numbers xs ++ zs) ≡ flat_map bytes_of (table numbers xs ++ ms)
-table_kept numbers slot more zs ms one some front back kept xs =
+table_kept numbers slot more zs ms one some none front back kept xs =
     let slots = rows (length xs) slot.first slot.later in
     let ns : List Number = map (whole 8) (flat_map numbers xs) in
     let shapes : map shape slots ≡ map plain_shape ns =
     row_shapes (λ row. map (whole 8) (numbers row)) slot.first slot.later some front back xs ∙ ap (map plain_shape) (sym (map-flat_map (whole 8) numbers xs)) in
     let values : numbers_bytes (slots ++ more) (flat_map numbers xs ++ zs) ≡ numbers_bytes (slots ++ more) (map value ns ++ zs) =
     ap (λ (l : List ℤ). numbers_bytes (slots ++ more) (l ++ zs)) (sym (whole_values 8 (flat_map numbers xs))) in
-    λ i. lowest (one i) (pos (length xs)) ++ (values ∙ then_kept slots more ns ms zs shapes kept) i
+    let all = ap (λ (s : List Slot). numbers_bytes (slots ++ s) (flat_map numbers xs ++ zs)) (cut-zero slot.ends (pos (length xs)) more none) in
+    λ i. lowest (one i) (pos (length xs)) ++ (all ∙ values ∙ then_kept slots more ns ms zs shapes kept) i
 
 -- the fields of the three tables
 abbrev business_slot : Slot
@@ -77,36 +80,57 @@ length-before_tables b =
 regroup : (c a h q p r s m e t : List ℤ) → (c ++ (a ++ h)) ++ (q ++ ((p ++ (r ++ (s ++ m))) ++ (e ++ t))) ≡ c ++ a ++ h ++ (q ++ p) ++ (r ++ s) ++ m ++ e ++ t
 regroup c a h q p r s m e t = simp append_assoc
 
-beside : (a b c d e : List Number) → a ++ (b ++ (c ++ (d ++ e))) ≡ a ++ b ++ c ++ d ++ e
-beside a b c d e = simp append_assoc
+beside : (a b c d e f : List Number) → a ++ (b ++ (c ++ (d ++ (e ++ f)))) ≡ a ++ b ++ c ++ d ++ e ++ f
+beside a b c d e f = simp append_assoc
 
--- each number before the tables takes eight bytes
-front_shapes : (b : Book) → map shape (take 71 book_slots) ≡ map plain_shape (whole 8 (pos 1) ∷ ranged 8 2000 2099 b.year ∷ map (whole 8) (before_tables b))
+-- each number between the form and the tables takes eight bytes
+front_shapes : (b : Book) → map shape (take 70 (drop 1 book_slots)) ≡ map plain_shape (ranged 8 2000 2099 b.year ∷ map (whole 8) (before_tables b))
 front_shapes b =
-    let many : replicate 69 (8, []) ≡ map plain_shape (map (whole 8) (before_tables b)) = sym (whole_shapes 8 (before_tables b) ∙ ap (λ n. replicate n (8, [])) (length-before_tables b)) in
-    ap (λ (l : List (ℕ × List Line)). (8, []) ∷ (8, []) ∷ l) many
+    let many : replicate 69 (8, [], 0) ≡ map plain_shape (map (whole 8) (before_tables b)) = sym (whole_shapes 8 (before_tables b) ∙ ap (λ n. replicate n (8, [], 0)) (length-before_tables b)) in
+    ap (λ (l : List Shape). (8, [], 0) ∷ l) many
 
-tables_kept : (b : Book) → numbers_bytes (drop 71 book_slots) (bracket_numbers b.business ++ (age_numbers b.age ++ (schedule_numbers b.schedule ++ bracket_numbers b.bracket)))
-    ≡ flat_map bytes_of (table bracket_row b.business ++ (table age_row b.age ++ (map (whole 8) (schedule_numbers b.schedule) ++ table bracket_row b.bracket)))
-tables_kept b =
-    let last : numbers_bytes (bracket_slot ∷ []) (bracket_numbers b.bracket) ≡ flat_map bytes_of (table bracket_row b.bracket) =
-    ap (λ (l : List ℤ). numbers_bytes (bracket_slot ∷ []) (pos (length b.bracket) ∷ l)) (sym (append-nil (flat_map bracket_row b.bracket)))
-    ∙ table_kept bracket_row bracket_slot [] [] [] refl refl (λ row. refl) (λ row. refl) refl b.bracket ∙ ap (flat_map bytes_of) (append-nil (table bracket_row b.bracket)) in
-    let schedule = then_kept (take 5 (drop 73 book_slots)) (bracket_slot ∷ []) (map (whole 8) (schedule_numbers b.schedule)) (table bracket_row b.bracket) (bracket_numbers b.bracket) refl last in
-    let age = table_kept age_row age_slot (drop 73 book_slots) (schedule_numbers b.schedule ++ bracket_numbers b.bracket)
-    (map (whole 8) (schedule_numbers b.schedule) ++ table bracket_row b.bracket) refl refl (λ row. refl) (λ row. refl) schedule b.age in
-    table_kept bracket_row business_slot (drop 72 book_slots) (age_numbers b.age ++ (schedule_numbers b.schedule ++ bracket_numbers b.bracket))
-    (table age_row b.age ++ (map (whole 8) (schedule_numbers b.schedule) ++ table bracket_row b.bracket)) refl refl (λ row. refl) (λ row. refl) age b.business
+-- the fields from the tables on, before those at the end
+abbrev table_slots : List Slot → List Slot
+table_slots tail = take 8 (drop 71 book_slots) ++ tail
+
+tables_kept : (b : Book) (tail : List Slot) (end : List ℤ) → numbers_bytes tail end ≡ flat_map bytes_of (map (whole 8) end)
+    → numbers_bytes (table_slots tail) (bracket_numbers b.business ++ (age_numbers b.age ++ (schedule_numbers b.schedule ++ (bracket_numbers b.bracket ++ end))))
+    ≡ flat_map bytes_of (table bracket_row b.business ++ (table age_row b.age ++ (map (whole 8) (schedule_numbers b.schedule) ++ (table bracket_row b.bracket ++ map (whole 8) end))))
+tables_kept b tail end kept =
+    let ending = map (whole 8) end in
+    let last = table_kept bracket_row bracket_slot tail end ending refl refl refl (λ row. refl) (λ row. refl) kept b.bracket in
+    let schedule = then_kept (take 5 (drop 73 book_slots)) (bracket_slot ∷ tail) (map (whole 8) (schedule_numbers b.schedule)) (table bracket_row b.bracket ++ ending) (bracket_numbers b.bracket ++ end) refl last in
+    let age = table_kept age_row age_slot (take 6 (drop 73 book_slots) ++ tail) (schedule_numbers b.schedule ++ (bracket_numbers b.bracket ++ end))
+    (map (whole 8) (schedule_numbers b.schedule) ++ (table bracket_row b.bracket ++ ending)) refl refl refl (λ row. refl) (λ row. refl) schedule b.age in
+    table_kept bracket_row business_slot (take 7 (drop 72 book_slots) ++ tail) (age_numbers b.age ++ (schedule_numbers b.schedule ++ (bracket_numbers b.bracket ++ end)))
+    (table age_row b.age ++ (map (whole 8) (schedule_numbers b.schedule) ++ (table bracket_row b.bracket ++ ending))) refl refl refl (λ row. refl) (λ row. refl) age b.business
+
+-- what stands behind the form, by the numbers at the end
+behind_kept : (b : Book) (tail : List Slot) (end : List ℤ) → numbers_bytes tail end ≡ flat_map bytes_of (map (whole 8) end)
+    → numbers_bytes (take 70 (drop 1 book_slots) ++ table_slots tail) (pos b.year ∷ (before_tables b ++ (bracket_numbers b.business ++ (age_numbers b.age ++ (schedule_numbers b.schedule ++ (bracket_numbers b.bracket ++ end))))))
+    ≡ flat_map bytes_of ((ranged 8 2000 2099 b.year ∷ map (whole 8) (before_tables b)) ++ (table bracket_row b.business ++ (table age_row b.age ++ (map (whole 8) (schedule_numbers b.schedule) ++ (table bracket_row b.bracket ++ map (whole 8) end)))))
+behind_kept b tail end kept =
+    let front = take 70 (drop 1 book_slots) in
+    let tables = bracket_numbers b.business ++ (age_numbers b.age ++ (schedule_numbers b.schedule ++ (bracket_numbers b.bracket ++ end))) in
+    let ns = ranged 8 2000 2099 b.year ∷ map (whole 8) (before_tables b) in
+    let ms = table bracket_row b.business ++ (table age_row b.age ++ (map (whole 8) (schedule_numbers b.schedule) ++ (table bracket_row b.bracket ++ map (whole 8) end))) in
+    let values = ap (λ (l : List ℤ). numbers_bytes (front ++ table_slots tail) (pos b.year ∷ (l ++ tables))) (sym (whole_values 8 (before_tables b))) in
+    values ∙ then_kept front (table_slots tail) ns ms tables (front_shapes b) (tables_kept b tail end kept)
+
+-- the form first
+form_kept : (ceiling : ℕ) (b : Book) → numbers_bytes book_slots (form_number ceiling ∷ pos b.year ∷ (before_tables b ++ (bracket_numbers b.business ++ (age_numbers b.age ++ (schedule_numbers b.schedule ++ (bracket_numbers b.bracket ++ ceiling_numbers ceiling))))))
+    ≡ flat_map bytes_of ((whole 8 (form_number ceiling) ∷ ranged 8 2000 2099 b.year ∷ map (whole 8) (before_tables b)) ++ (table bracket_row b.business ++ (table age_row b.age ++ (map (whole 8) (schedule_numbers b.schedule) ++ (table bracket_row b.bracket ++ map (whole 8) (ceiling_numbers ceiling))))))
+form_kept zero b = ap (λ (bs : List ℕ). lowest 8 (pos 1) ++ bs) (behind_kept b [] [] refl)
+form_kept (suc n) b = ap (λ (bs : List ℕ). lowest 8 (pos 2) ++ bs) (behind_kept b ceiling_slots (pos (suc n) ∷ []) refl)
 
 pub book_kept : (b : Book) → numbers_bytes book_slots (numbers_of b) ≡ flat_map bytes_of (book_numbers b)
 unfolding numbers_of
 book_kept b =
-    let tables = bracket_numbers b.business ++ (age_numbers b.age ++ (schedule_numbers b.schedule ++ bracket_numbers b.bracket)) in
-    let grouped = ap (λ (l : List ℤ). pos 1 ∷ pos b.year ∷ (pell_numbers b.pell ++ (percent_numbers b.percent ++ l)))
+    let form = form_number b.ceiling in
+    let tables = bracket_numbers b.business ++ (age_numbers b.age ++ (schedule_numbers b.schedule ++ (bracket_numbers b.bracket ++ ceiling_numbers b.ceiling))) in
+    let grouped = ap (λ (l : List ℤ). form ∷ pos b.year ∷ (pell_numbers b.pell ++ (percent_numbers b.percent ++ l)))
     (regroup (size_numbers b.poverty.contiguous) (size_numbers b.poverty.alaska) (size_numbers b.poverty.hawaii) (payroll_numbers b.payroll) (size_numbers b.protection.parents) (standing_numbers b)
     (size_numbers b.protection.single_parent) (size_numbers b.protection.married_parent) (employment_numbers b.employment ++ asset_numbers b.assets) tables) in
-    let ns = whole 8 (pos 1) ∷ ranged 8 2000 2099 b.year ∷ map (whole 8) (before_tables b) in
-    let ms = table bracket_row b.business ++ (table age_row b.age ++ (map (whole 8) (schedule_numbers b.schedule) ++ table bracket_row b.bracket)) in
-    let values = ap (λ (l : List ℤ). numbers_bytes book_slots (pos 1 ∷ pos b.year ∷ (l ++ tables))) (sym (whole_values 8 (before_tables b))) in
-    ap (numbers_bytes book_slots) grouped ∙ values ∙ then_kept (take 71 book_slots) (drop 71 book_slots) ns ms tables (front_shapes b) (tables_kept b)
-    ∙ ap (flat_map bytes_of) (beside ns (table bracket_row b.business) (table age_row b.age) (map (whole 8) (schedule_numbers b.schedule)) (table bracket_row b.bracket))
+    let ns = whole 8 form ∷ ranged 8 2000 2099 b.year ∷ map (whole 8) (before_tables b) in
+    ap (numbers_bytes book_slots) grouped ∙ form_kept b.ceiling b
+    ∙ ap (flat_map bytes_of) (beside ns (table bracket_row b.business) (table age_row b.age) (map (whole 8) (schedule_numbers b.schedule)) (table bracket_row b.bracket) (map (whole 8) (ceiling_numbers b.ceiling)))

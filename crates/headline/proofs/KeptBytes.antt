@@ -5,7 +5,7 @@ use Rattle.std.proofs.lemmas.Bool.{true≢false}
 use Rattle.std.proofs.lemmas.List.{map-append}
 use Rattle.aid_types.specs.Programs.{rank}
 use Rattle.field_bytes.specs.Spelling.{number_bytes, numbers_bytes}
-use Rattle.field_table.specs.Layout.{plain, rows, rows_again}
+use Rattle.field_table.specs.Layout.{cut, plain, rows, rows_again}
 use Rattle.field_table.specs.Parts.{Line, Slot, width_of}
 use Rattle.filing_numbers.specs.Numbers.{day_number}
 use Rattle.filing_numbers.proofs.Slots.{has_none}
@@ -34,12 +34,15 @@ bytes_by_width (money cents) = refl
 bytes_by_width (day d) = refl
 bytes_by_width (word program) = refl
 
--- a field's width and the rows that it counts, and those of a number that counts none
-abbrev pub shape : Slot → ℕ × List Line
-shape slot = (width_of slot.line.form, slot.first)
+-- a field's width, the rows that it counts and how many at the end stand by it, and those of a number that counts none
+abbrev pub Shape : Type 0
+Shape = ℕ × List Line × ℕ
 
-abbrev pub plain_shape : Number → ℕ × List Line
-plain_shape n = (width n, [])
+abbrev pub shape : Slot → Shape
+shape slot = (width_of slot.line.form, slot.first, slot.ends)
+
+abbrev pub plain_shape : Number → Shape
+plain_shape n = (width n, [], 0)
 
 -- numbers of fields that count nothing, before others
 pub then_kept : (slots more : List Slot) (ns ms : List Number) (zs : List ℤ) → map shape slots ≡ map plain_shape ns → numbers_bytes more zs ≡ flat_map bytes_of ms
@@ -50,15 +53,15 @@ then_kept (slot ∷ slots) more [] ms zs e k = absurd cc
 then_kept (slot ∷ slots) more (n ∷ ns) ms zs e k =
     let here : shape slot ≡ plain_shape n = cc in
     let rest : map shape slots ≡ map plain_shape ns = cc in
-    let first : number_bytes slot.line.form (value n) ≡ bytes_of n = ap (λ (p : ℕ × List Line). lowest p.0 (value n)) here ∙ sym (bytes_by_width n) in
-    let none : rows (unsigned_abs (value n)) slot.first slot.later ++ (slots ++ more) ≡ slots ++ more =
-    ap (λ (p : ℕ × List Line). rows (unsigned_abs (value n)) p.1 slot.later ++ (slots ++ more)) here in
+    let first : number_bytes slot.line.form (value n) ≡ bytes_of n = ap (λ (p : Shape). lowest p.0 (value n)) here ∙ sym (bytes_by_width n) in
+    let none : rows (unsigned_abs (value n)) slot.first slot.later ++ cut slot.ends (value n) (slots ++ more) ≡ slots ++ more =
+    ap (λ (p : Shape). rows (unsigned_abs (value n)) p.1 slot.later ++ cut p.2 (value n) (slots ++ more)) here in
     (λ i. first i ++ numbers_bytes (none i) (map value ns ++ zs)) ∙ ap (λ (bs : List ℕ). bytes_of n ++ bs) (then_kept slots more ns ms zs rest k)
 
 -- whole numbers of one width
-pub whole_shapes : (w : ℕ) (zs : List ℤ) → map plain_shape (map (whole w) zs) ≡ replicate (length zs) (w, [])
+pub whole_shapes : (w : ℕ) (zs : List ℤ) → map plain_shape (map (whole w) zs) ≡ replicate (length zs) (w, [], 0)
 whole_shapes w [] = refl
-whole_shapes w (z ∷ zs) = ap (λ (l : List (ℕ × List Line)). (w, []) ∷ l) (whole_shapes w zs)
+whole_shapes w (z ∷ zs) = ap (λ (l : List Shape). (w, [], 0) ∷ l) (whole_shapes w zs)
 
 pub whole_values : (w : ℕ) (zs : List ℤ) → map value (map (whole w) zs) ≡ zs
 whole_values w [] = refl

@@ -19,6 +19,7 @@ use Rattle.desk_forms.specs.Rows.{has_rows, row_meaning, row_of, row_of_kind}
 use Rattle.field_rows.specs.declared.error.Cause.TheVariants.{UnknownKind, WrongCount}
 use Rattle.field_rows.specs.declared.error.RowError.{RowError}
 use Rattle.filing_kinds.proofs.Laws.{few_numbers}
+use Rattle.field_table.proofs.LayoutLemmas.{cut-zero}
 use Rattle.field_table.proofs.WalkLaws.{firsts, found_leads, led_to}
 use Rattle.field_table.specs.Forms.{most_numbers}
 use Rattle.filing_kinds.specs.Kinds.{first_and_last, kind_named, kinds, name_of, slots_of_kind, table_row_of, withdraw_slots, words_of_programs}
@@ -52,9 +53,9 @@ reaches low high _ = false
 abbrev takes : Line → Number → Bool
 takes line n = has_form n line.form && reaches (least n) (greatest n) line.limit
 
--- all rows that a field counts have as many fields
+-- all rows that a field counts have as many fields, and it leaves all that is behind it
 abbrev is_even : Slot → Bool
-is_even slot = length slot.first == length slot.later
+is_even slot = (length slot.first == length slot.later) && (slot.ends == 0)
 
 -- whether these numbers are those of the fields to come
 abbrev take_all : List Slot → List Number → Bool
@@ -66,6 +67,7 @@ record Takes (slot : Slot) (slots : List Slot) (n : Number) (ns : List Number) :
   form : has_form n slot.line.form ≡ true
   reach : reaches (least n) (greatest n) slot.line.limit ≡ true
   even : length slot.first ≡ length slot.later
+  ends : slot.ends ≡ 0
   rest : take_all (after (slot ∷ slots) (value n)) ns ≡ true
 
 takes_first : (slot : Slot) (slots : List Slot) (n : Number) (ns : List Number) → take_all (slot ∷ slots) (n ∷ ns) ≡ true → Takes slot slots n ns
@@ -73,7 +75,8 @@ takes_first slot slots n ns h =
     let x = and_parts (takes slot.line n) (is_even slot && take_all (after (slot ∷ slots) (value n)) ns) h in
     let y = and_parts (has_form n slot.line.form) (reaches (least n) (greatest n) slot.line.limit) x.0 in
     let z = and_parts (is_even slot) (take_all (after (slot ∷ slots) (value n)) ns) x.1 in
-    record { form = y.0; reach = y.1; even = eqb-true (length slot.first) (length slot.later) z.0; rest = z.1 }
+    let both = and_parts (length slot.first == length slot.later) (slot.ends == 0) z.0 in
+    record { form = y.0; reach = y.1; even = eqb-true (length slot.first) (length slot.later) both.0; ends = eqb-true slot.ends 0 both.1; rest = z.1 }
 
 -- a number within such a limit, whatever stands before it
 record Reached (low high : ℤ) (limit : Limit) (z : ℤ) : Type 0 where
@@ -168,12 +171,13 @@ counted (column ∷ columns) line text z fit is =
     ∙ ap (λ (b : Bool). option_map (λ n. n * length (column ∷ columns)) (if b then Some (unsigned_abs z) else None)) fit
 
 -- one text more
-one_text : (slot : Slot) (slots : List Slot) (text : List ℕ) (texts : Texts) (z : ℤ) → length slot.first ≡ length slot.later → fits slot.line.limit [] z ≡ true → number_in words_of_programs slot.line.form text ≡ Ok z
+one_text : (slot : Slot) (slots : List Slot) (text : List ℕ) (texts : Texts) (z : ℤ) → length slot.first ≡ length slot.later → slot.ends ≡ 0 → fits slot.line.limit [] z ≡ true → number_in words_of_programs slot.line.form text ≡ Ok z
     → are_as_many words_of_programs (slot ∷ slots) (text ∷ texts) ≡ are_as_many words_of_programs (after (slot ∷ slots) z) texts
 unfolding are_as_many
-one_text slot slots text texts z even fit is =
+one_text slot slots text texts z even none fit is =
     ap (λ (o : Option ℕ). go_on o (length slots) (λ behind. are_as_many words_of_programs slots behind) texts) (counted slot.first slot.line text z fit is)
     ∙ sym (rows_front (unsigned_abs z) slot.first slot.later slots texts even)
+    ∙ ap (λ (s : List Slot). are_as_many words_of_programs (rows (unsigned_abs z) slot.first slot.later ++ s) texts) (sym (cut-zero slot.ends z slots none))
 
 -- ---- numbers that are read are spelled
 abbrev found_text : ℤ → Texts → Found Texts
@@ -231,7 +235,7 @@ spelled number (suc most) (slot ∷ slots) earlier (text ∷ texts) (n ∷ ns) t
     let taken = takes_first slot slots n ns t in
     let first = first_read number most slot slots earlier text texts (value n) (map value ns) h in
     let near = reached (least n) (greatest n) slot.line.limit earlier (value n) taken.reach first.within in
-    let more = sym (one_text slot slots text texts (value n) taken.even near.alone first.reads) ∙ many in
+    let more = sym (one_text slot slots text texts (value n) taken.even taken.ends near.alone first.reads) ∙ many in
     (read_spells n slot.line.form text taken.form first.reads, spelled number most (after (slot ∷ slots) (value n)) (value n ∷ earlier) texts ns taken.rest more first.rest)
 
 -- ---- and spelled ones are read
@@ -261,7 +265,7 @@ are_read number (suc most) (slot ∷ slots) earlier (text ∷ texts) (n ∷ ns) 
     let reads = spelled_reads n slot.line.form text taken.form near.above near.below s.0 in
     let more = are_read number most (after (slot ∷ slots) (value n)) (value n ∷ earlier) texts ns (omega arith) taken.rest are.1 s.1 in
     record {
-      many = one_text slot slots text texts (value n) taken.even near.alone reads ∙ more.many;
+      many = one_text slot slots text texts (value n) taken.even taken.ends near.alone reads ∙ more.many;
       numbers = read_first number most slot slots earlier text texts (value n) (map value ns) reads are.0 more.numbers;
     }
 

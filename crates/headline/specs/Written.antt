@@ -17,7 +17,7 @@ use Rattle.aid_filings.specs.declared.filing.Amount.{Amount}
 use Rattle.aid_filings.specs.declared.filing.Filing.{Filing}
 use Rattle.aid_filings.specs.declared.filing.What.{What}
 use Rattle.aid_filings.specs.declared.filing.What.TheVariants.{Book as BookFiled, School, Calendar, Prior, Apply, Enrol, Originate, Pay, Withdraw, Repay, Adjust}
-use Rattle.book_numbers.specs.Book.{age_row, bracket_row, size_numbers}
+use Rattle.book_numbers.specs.Book.{age_row, bracket_row, ceiling_numbers, form_number, size_numbers}
 use Rattle.enrolment.specs.DayText.{date_text}
 use Rattle.filing_kinds.specs.Kinds.{words_of_programs}
 use Rattle.filing_numbers.specs.Numbers.{day_number, flag_number, region_number, side_numbers}
@@ -75,10 +75,10 @@ year n = ranged 2 2000 2099 n
 abbrev pub table : {Row : Type 0} → (Row → List ℤ) → List Row → List Number
 table numbers rows = whole 1 (pos (length rows)) ∷ map (whole 8) (flat_map numbers rows)
 
--- a book, whose form is 1
+-- a book: its form is 2, and the ceiling its last number, where it has one
 abbrev pub book_numbers : Book → List Number
 book_numbers b =
-    whole 8 (pos 1) ∷ ranged 8 2000 2099 b.year ∷ map (whole 8) (b.pell.maximum ∷ b.pell.minimum ∷ b.percent.maximum_single ∷ b.percent.maximum_other
+    whole 8 (form_number b.ceiling) ∷ ranged 8 2000 2099 b.year ∷ map (whole 8) (b.pell.maximum ∷ b.pell.minimum ∷ b.percent.maximum_single ∷ b.percent.maximum_other
     ∷ b.percent.minimum_dependent_single ∷ b.percent.minimum_dependent_other ∷ b.percent.minimum_single_parent ∷ b.percent.minimum_parent ∷ b.percent.minimum_no_dependents
     ∷ size_numbers b.poverty.contiguous ++ size_numbers b.poverty.alaska ++ size_numbers b.poverty.hawaii
     ++ b.payroll.oasdi_cap ∷ b.payroll.oasdi_rate ∷ b.payroll.medicare_rate ∷ b.payroll.medicare_high ∷ b.payroll.threshold_single ∷ b.payroll.threshold_married
@@ -87,7 +87,7 @@ book_numbers b =
     ++ b.employment.cap ∷ b.employment.rate ∷ b.assets.parents_rate ∷ b.assets.dependent_rate ∷ b.assets.no_dependents_rate ∷ b.assets.with_dependents_rate ∷ [])
     ++ table bracket_row b.business ++ table age_row b.age
     ++ map (whole 8) (b.schedule.low_at ∷ b.schedule.low ∷ b.schedule.first_rate ∷ b.schedule.student_rate ∷ b.schedule.lowest_student ∷ [])
-    ++ table bracket_row b.bracket
+    ++ table bracket_row b.bracket ++ map (whole 8) (ceiling_numbers b.ceiling)
 
 -- an application: its numbers, the student's standing and household, and the parents'
 abbrev pub application_numbers : Application → List Number
