@@ -263,15 +263,28 @@ pay_is past key a coded =
         ++ (only (rank a.program == 4) (past_fseog past key.school a.student a.year a.term 55 a.cents ∷ [])
         ++ (past_cost past key.school a.student a.year a.term 57 a.cents ∷ []))
 
-    inner : (none pell dollars award y n r v : Bool) → y ≡ n → (none ≡ false → r ≡ v) →
-        (not none && ((not pell || dollars && award && y) && r)) ≡ (not (none || pell && not dollars) && ((not pell || (award && (n && true))) && v))
-    inner true pell dollars award y n r v q s = refl
-    inner false false dollars award y n r v q s = s refl
-    inner false true false award y n r v q s = refl
-    inner false true true false y n r v q s = refl
-    inner false true true true y n r v q s = and_both (and_last q) (s refl)
+    not_zero : (n : ℕ) → not (n == 0) ≡ true → n ≡ 0 → ⊥
+    not_zero n awarded none = let same : (n == 0) ≡ true = rw none refl in cc
 
-    by_amount : (none pell dollars award : Bool) {x y z w m n k l : Bool} → x ≡ m → y ≡ n → z ≡ k → (none ≡ false → w ≡ l) →
+    -- a student who is awarded Pell is below the ceiling
+    below_ceiling : (b : Option Book) (o : Option Application) → not (award_under b o == 0) ≡ true → nat_lt 0 (ceiling_under b o).index ≡ false
+    below_ceiling None o awarded = refl
+    below_ceiling (Some b) None awarded = refl
+    below_ceiling (Some b) (Some a) awarded = rw (none_under (Some b) a (not_zero (award_under (Some b) (Some a)) awarded)) refl
+
+    inner : (none pell dollars award over y n r v : Bool) → (award ≡ true → over ≡ false) → y ≡ n → (none ≡ false → r ≡ v) →
+        (not none && ((not pell || dollars && award && y) && r))
+        ≡ (not (none || pell && not dollars) && ((not pell || (not over && (award && (n && true)))) && v))
+    inner true pell dollars award over y n r v b q s = refl
+    inner false false dollars award over y n r v b q s = s refl
+    inner false true false award over y n r v b q s = refl
+    inner false true true false true y n r v b q s = refl
+    inner false true true false false y n r v b q s = refl
+    inner false true true true true y n r v b q s = let off : true ≡ false = b refl in cc
+    inner false true true true false y n r v b q s = and_both (and_last q) (s refl)
+
+    by_amount : (none pell dollars award over : Bool) → (award ≡ true → over ≡ false) → {x y z w m n k l : Bool} →
+        x ≡ m → y ≡ n → z ≡ k → (none ≡ false → w ≡ l) →
         (x && not none && (not pell || dollars && award && y) && z && w)
         ≡ (m && (not (none || pell && not dollars) && ((not pell || (award && (n && true))) && (k && l))))
     by_amount none pell dollars award {x} {y} {z} {w} {m} {n} {k} {l} p q r s =
