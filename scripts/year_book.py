@@ -41,6 +41,7 @@ SECTIONS = [
         "lowest_student": (*FLOOR, "dollars"),
     }),
     ("bracket", 16, {"over": (*AMOUNT, "dollars"), "base": (*AMOUNT, "dollars"), "rate": (*RATE, "rate")}),
+    ("ceiling", {"percent": (*PERCENT, "percent")}),
 ]
 # Behind the others in form 2 alone.
 CEILING = "ceiling", {"percent": (*PERCENT, "percent")}
@@ -82,6 +83,12 @@ def are_numbers_of_toml(value):
     if isinstance(value, list):
         return all(are_numbers_of_toml(each) for each in value)
     return not is_number(value) or -2**63 <= value < 2**63
+
+
+def sections_of(book):
+    """The sections of a book's form: that of the ceiling stands in form 2 alone."""
+    form = book.get("form")
+    return SECTIONS if is_number(form) and form == 2 else SECTIONS[:-1]
 
 
 def read(text):
@@ -166,11 +173,11 @@ def judge_rising(book, at, table):
 
 
 def judge_keys(book):
-    """The keys that no book of this form has."""
-    unknown, sections = [], sections_of(book)
-    for section, *most, keys in sections:
+    """The keys that no book has."""
+    unknown = []
+    for section, *most, keys in sections_of(book):
         holders = [book] if not section else book[section] if most else [book[section]]
-        known = set(keys) | {name for name, *_ in sections} if not section else set(keys)
+        known = set(keys) | {name for name, *_ in sections_of(book)} if not section else set(keys)
         unknown += [f"{section}.{key}" if section else key for holder in holders for key in holder if key not in known or not key]
     if unknown:
         least = shown(min(unknown, key=str.encode))

@@ -212,6 +212,7 @@ def book_of(tables):
         employment_cap=tables["employment"]["cap"], employment_rate=tables["employment"]["rate"], **tables["assets"],
         business=rows("business"), bracket=rows("bracket"),
         age=tuple(model.AgeRow(row["from"], row["single"], row["married"]) for row in tables["age"]), **schedule,
+        ceiling=tables["ceiling"]["percent"] if tables["form"] == 2 else 0,
     )
 
 

@@ -131,6 +131,8 @@ class YearBook:
     student_rate: int
     lowest_student: int
     bracket: tuple
+    # The percent of the greatest award at which an index has none; 0 where the year has no such ceiling.
+    ceiling: int = 0
 
 
 SPECIMEN = YearBook(
@@ -543,17 +545,26 @@ def minimum_percent(book, application):
     return book.minimum_no_dependents
 
 
+def is_at_ceiling(book, found):
+    """Whether an index is at or above the year's percent of the greatest award. HEA 401(b)(1)(D)."""
+    return book.ceiling > 0 and 100 * found >= book.ceiling * book.maximum
+
+
 def decision(book, application):
-    """The outcome of an application: nothing for graduates, the Maximum where no return was required or income is low,
-    the maximum less the index where that comes to the minimum, the Minimum, or nothing. HEA 401(b), (d)(1).
-    Own: the final index of a Maximum, and rounding to five before the comparison with the minimum."""
+    """The outcome of an application: nothing for graduates and for an index at the ceiling, the Maximum where no return was
+    required or income is low, the maximum less the index where that comes to the minimum, the Minimum, or nothing. In a year
+    with a ceiling foreign income counts as income. HEA 401(a)(2)(A), (b), (d)(1); Public Law 119-21, section 83001.
+    Own: the final index of a Maximum, rounding to five before the comparison with the minimum, and that the ceiling comes
+    before the ways to an award."""
     which, found = formula(book, application), index(book, application)
     if application.graduate or application.bachelor:
+        return Index(which, found, "nothing", 0)
+    if is_at_ceiling(book, found):
         return Index(which, found, "nothing", 0)
     household = application.parents if which == "A" else application.own
     must_file = application.parents_must_file if which == "A" else application.student_must_file
     guideline = by_size(book.poverty[application.region], application.family, 1)
-    income = household.gross_income
+    income = household.gross_income + (household.foreign_income if book.ceiling else 0)
     if not must_file:
         return Index(which, LEAST_INDEX, "maximum", book.maximum)
     if income > 0 and 100 * income <= maximum_percent(book, application) * guideline:
@@ -998,6 +1009,15 @@ def not_whole_dollars(history, payment):
     return (payment.cents, 100) if broken else None
 
 
+def at_ceiling(history, payment):
+    """Pell for an index at or above the year's ceiling, of one who isn't barred as a graduate. HEA 401(b)(1)(D)."""
+    application, (_, book) = application_of(history, payment.student, payment.year), book_at(history, payment.year)
+    if payment.program != PELL or application.graduate or application.bachelor:
+        return None
+    found = index(book, application)
+    return (found, -(-book.ceiling * book.maximum // 100)) if is_at_ceiling(book, found) else None
+
+
 def no_award(history, payment):
     """Pell with a Scheduled Award of 0. HEA 401(b)."""
     if payment.program != PELL or scheduled(history, payment.student, payment.year) > 0:
@@ -1164,7 +1184,7 @@ RULES = {
     Origination: [(90, no_room), (12, unknown_school), (31, no_application), (41, originated), (42, no_cost)],
     Payment: [
         (90, no_room), (12, unknown_school), (30, unknown_term), (31, no_application), (50, not_originated),
-        (51, not_enrolled), (53, not_whole_dollars), (40, no_award), (58, paid_elsewhere), (52, past_post_withdrawal),
+        (51, not_enrolled), (53, not_whole_dollars), (43, at_ceiling), (40, no_award), (58, paid_elsewhere), (52, past_post_withdrawal),
         (54, past_term), (55, past_year), (56, past_lifetime), (57, past_cost),
     ],
     Withdrawal: [

@@ -17,8 +17,10 @@ def right(rng):
     """A book whose figures are as they must be."""
     book = copy.deepcopy(SPECIMEN)
     book["year"] = rng.choice([2024, 2025, 2026, 2027])
-    for section, *most, keys in year_book.SECTIONS:
-        if section and not most and section != "pell":
+    if rng.random() < 0.5:
+        book |= {"form": 2, "ceiling": {"percent": rng.choice([1, 20, 50, 100, 200, 200, 9_999, rng.randint(1, 9_999)])}}
+    for section, *most, keys in year_book.sections_of(book):
+        if section not in ("", "ceiling") and not most and section != "pell":
             for key, (low, high, _, *count) in keys.items():
                 if rng.random() < 0.2:
                     book[section][key] = moved(rng, book[section][key], low, high)
@@ -56,12 +58,11 @@ def rising(rng, table, count, first_rate):
 
 def places(book):
     """Each figure, list and row of a book, as what holds it and its key there."""
-    sections = year_book.sections_of(book)
-    for section, *most, keys in sections:
+    for section, *most, keys in year_book.sections_of(book):
         held = book.get(section, []) if section else book
         for holder in held if isinstance(held, list) else [held]:
             yield from ((holder, key) for key in keys if isinstance(holder, dict))
-    yield from ((book, section) for section, *_ in sections if section)
+    yield from ((book, section) for section, *_ in year_book.sections_of(book) if section)
 
 
 def break_once(rng, book):

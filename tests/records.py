@@ -56,6 +56,6 @@ def payload_of_book(number, text):
 
 
 def payload_of(filed):
-    """The payload of a row, or of the specimen under a number."""
+    """The payload of a row, or of the specimen's figures under a number."""
     words = filed.split(" ")
-    return payload_of_book(int(words[1]), worked.SPECIMEN) if words[0] == "book" else payload_of_row(filed)
+    return payload_of_book(int(words[1]), worked.book_of_step(words)) if words[0] == "book" else payload_of_row(filed)

@@ -12,6 +12,24 @@ def example(name):
 
 
 SPECIMEN = example("2025.toml")
+
+
+def with_ceiling(text, percent):
+    """A book's text with a ceiling of so many percent: form 2, and its one field more."""
+    return text.replace(b"form = 1\n", b"form = 2\n") + b"\n[ceiling]\npercent = %d\n" % percent
+
+
+def specimen_of(year="2025", percent=None):
+    """The specimen's figures as the book of a year, with a ceiling of so many percent or without one."""
+    text = SPECIMEN.replace(b"year = 2025", b"year = " + year.encode())
+    return with_ceiling(text, int(percent)) if percent else text
+
+
+def book_of_step(words):
+    """The text of a step `book NUMBER of YEAR with a ceiling of PERCENT`; the year and the ceiling may be left out."""
+    return specimen_of(*words[3:4], *words[8:])
+
+
 YEAR_ROWS = example("year.csv").decode().splitlines()
 
 

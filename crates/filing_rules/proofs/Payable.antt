@@ -20,7 +20,17 @@ module _ (f : Facts) (school student year term : ℕ) where
 
   -- what a payment that breaks no rule tells of the facts
   stands : (cents : ℕ) → unbroken cents → MayBePaid f
-  stands cents h = grind (arith, common_steps)
+  stands cents h = record {
+    room = grind (arith, common_steps);
+    school = grind (arith, common_steps);
+    term = grind (arith, common_steps);
+    application = grind (arith, common_steps);
+    origination = grind (arith, common_steps);
+    enrolled = grind (arith, common_steps);
+    below = grind (arith, common_steps);
+    awarded = grind (arith, common_steps);
+    apart = grind (arith, common_steps);
+  }
 
   within : (cents : ℕ) → unbroken cents → IsAffordable f cents
   within cents h = record {

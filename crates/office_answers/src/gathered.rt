@@ -162,6 +162,8 @@ pub(crate) fn payment_facts<P: OnFile, L: Ledger>(
     let account = &aid.place.account;
     PaymentFacts {
         facts: Facts {
+            ceiling_index: aid.year.ceiling.index,
+            ceiling_bound: aid.year.ceiling.bound,
             used_else: used_else(past, student, year, &of_student, &aid.year),
             other_school,
             after: account.after.at(program),

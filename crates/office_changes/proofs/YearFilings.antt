@@ -16,7 +16,7 @@ use Rattle.rule_lines.specs.RuleLines.{lacks, only, told}
 use Rattle.filing_rules.specs.Rules.{rule_91}
 use Rattle.office_history.specs.Rules.{rule_93, rules_of}
 use Rattle.office_history.specs.Answer.{IsLegal, breaks}
-use Rattle.office_history.specs.Award.{award_under, unfit_under}
+use Rattle.office_history.specs.Award.{award_under, ceiling_under, unfit_under}
 use Rattle.office_history.specs.Positions.{application_at, award_filed, book_at, school_at, transaction_of}
 use Rattle.office_history.specs.Net.{Cell, in_main_terms, in_year, net, paid, pell_main, sheet, taken}
 use Rattle.office_history.specs.Past.{application, at_school, book_in, earlier, given, higher, is_extra, is_higher, term_in, the_book, the_term}
@@ -31,6 +31,7 @@ use Rattle.office_history.specs.Accounts.{AreSums, IsEntry}
 use Rattle.office_history.specs.Rows.{year_row}
 use Rattle.office_history.specs.declared.account.Account.{Account}
 use Rattle.office_history.specs.declared.rows.YearRow.{YearRow}
+use Rattle.pell_schedule.specs.declared.Ceiling.{Ceiling}
 use Rattle.office_history.proofs.AccountSteps.{entry-sums}
 use Rattle.office_history.proofs.Bounds.{paid-most}
 use Rattle.office_history.proofs.Sixes.{six-ext, six-most}
@@ -45,8 +46,9 @@ with_nets : (row : YearRow) (ns ns' : List ℕ) (m m' : ℕ) → ns ≡ ns' → 
     ◌≡◌ {A = YearRow} (record row { nets = ns; main = m }) (record row { nets = ns'; main = m' })
 with_nets row ns ns' m m' e d = λ i. record row { nets = e i; main = d i }
 
-with_award : (row : YearRow) (n n' : ℕ) → n ≡ n' → ◌≡◌ {A = YearRow} (record row { scheduled = n }) (record row { scheduled = n' })
-with_award row n n' e = λ i. record row { scheduled = e i }
+with_award : (row : YearRow) (n n' : ℕ) (c c' : Ceiling) → n ≡ n' → c ≡ c' →
+    ◌≡◌ {A = YearRow} (record row { scheduled = n; ceiling = c }) (record row { scheduled = n'; ceiling = c' })
+with_award row n n' c c' e d = λ i. record row { scheduled = e i; ceiling = d i }
 
 -- ---- money that moves in a term
 -- of a year nothing but its nets changes
@@ -120,6 +122,7 @@ with_application past s y new wins = record (year_row past s y) {
   transaction = transaction_of (if wins then new else application past s y);
   application_at = if wins then length past + 1 else application_at past s y;
   scheduled = award_under (the_book past y) (if wins then new else application past s y);
+  ceiling = ceiling_under (the_book past y) (if wins then new else application past s y);
 }
 
 -- a year after an application, which is of it or not
@@ -130,14 +133,15 @@ pub of_kind : (f : Filing) (what : What) → f.what ≡ what → f ≡ record { 
 of_kind f what is = λ i. record { key = f.key; what = is i }
 
 pub applied_row : (past : List Filing) (f : Filing) (a : Application) → f.what ≡ Apply a → breaks past f ≡ None →
-    year_applied (year_row past a.student a.year) a (award_under (the_book past a.year) (Some a)) (length past + 1) ≡ year_row (f ∷ past) a.student a.year
+    year_applied (year_row past a.student a.year) a (award_under (the_book past a.year) (Some a)) (ceiling_under (the_book past a.year) (Some a)) (length past + 1)
+    ≡ year_row (f ∷ past) a.student a.year
 applied_row past f a is sound =
     let whole = of_kind f (Apply a) is in
     let rule : breaks past (record { key = f.key; what = Apply a }) ≡ None = subst (λ (g : Filing). breaks past g ≡ None) whole sound in
     let same : (a.student == a.student && a.year == a.year) ≡ true = rw (eq-eqb a.student a.student refl, eq-eqb a.year a.year refl) refl in
     let wins : is_higher (Some a) (application past a.student a.year) ≡ true = above a (application past a.student a.year) (correction past f.key a rule).above in
     sym (subst (λ (g : Filing). year_row (g ∷ past) a.student a.year
-    ≡ year_applied (year_row past a.student a.year) a (award_under (the_book past a.year) (Some a)) (length past + 1)) (sym whole)
+    ≡ year_applied (year_row past a.student a.year) a (award_under (the_book past a.year) (Some a)) (ceiling_under (the_book past a.year) (Some a)) (length past + 1)) (sym whole)
     (ap (with_given past a.student a.year a) same ∙ ap (with_application past a.student a.year (Some a)) wins))
 
 pub applied_changes : (past : List Filing) (f : Filing) (a : Application) → f.what ≡ Apply a → ChangesYear past f a.student a.year
@@ -192,6 +196,11 @@ award_stays : (new old : Option Book) (o : Option Application) → (old ≡ None
 award_stays None old o lacks = refl
 award_stays (Some b) None o lacks = rw (lacks refl) refl
 award_stays (Some b) (Some c) o lacks = refl
+
+ceiling_stays : (new old : Option Book) (o : Option Application) → (old ≡ None → o ≡ None) → ceiling_under (earlier new old) o ≡ ceiling_under old o
+ceiling_stays None old o lacks = refl
+ceiling_stays (Some b) None o lacks = rw (lacks refl) refl
+ceiling_stays (Some b) (Some c) o lacks = refl
 
 -- ---- a term
 -- whether a cell's term is on file
@@ -277,7 +286,8 @@ none_of_these (Originate b) apply pay withdraw repay adjust = refl
 unchanged : (past : List Filing) (key : Key) (what : What) → changes_none what ≡ true → IsLegal past → (s y : ℕ) →
     year_row (record { key = key; what = what } ∷ past) s y ≡ year_row past s y
 unchanged past key (BookFiled b) none legal s y =
-    with_award (year_row past s y) _ _ (award_stays (given (b.year == y) b) (the_book past y) (application past s y) (no_application past s y legal))
+    with_award (year_row past s y) _ _ _ _ (award_stays (given (b.year == y) b) (the_book past y) (application past s y) (no_application past s y legal))
+    (ceiling_stays (given (b.year == y) b) (the_book past y) (application past s y) (no_application past s y legal))
 unchanged past key (Calendar c) none legal s y =
     with_nets (year_row past s y) (six (λ p. net past (in_year s y p))) (six (λ p. net past (in_year s y p))) _ _ refl (main_stays past key c legal s y)
 unchanged past key (School b) none legal s y = refl

@@ -5,6 +5,7 @@ use Rattle.aid_types.specs.Programs.{minus, plus}
 use Rattle.aid_types.specs.declared.application.Application.{Application}
 use Rattle.aid_types.specs.declared.term.Term.{Term}
 use Rattle.lifetime_ledger.specs.Used.{use_of}
+use Rattle.pell_schedule.specs.declared.Ceiling.{Ceiling}
 use Rattle.office_history.specs.Past.{first_of_two, is_extra}
 use Rattle.office_history.specs.Rows.{year_row}
 use Rattle.office_history.specs.declared.account.Account.{Account}
@@ -23,9 +24,14 @@ year_moved before term moved = record before {
   main = main_moved (is_extra term) before.main moved;
 }
 
--- a year with an application that corrects it, the award that this gives, and its position
-abbrev pub year_applied : YearRow → Application → ℕ → ℕ → YearRow
-year_applied before a award here = record before { transaction = a.transaction; application_at = here; scheduled = award }
+-- a year with an application that corrects it, the award that this gives, the ceiling that decides on it, and its position
+abbrev pub year_applied : YearRow → Application → ℕ → Ceiling → ℕ → YearRow
+year_applied before a award ceiling here = record before {
+  transaction = a.transaction;
+  application_at = here;
+  scheduled = award;
+  ceiling = ceiling;
+}
 
 -- no more is paid of a year than one and a half of its award
 abbrev pub IsWithinYear : YearRow → Type 0

@@ -5,7 +5,7 @@ ghost use Rattle.aid_types.specs.Programs.{rank as rank_of};
 ghost use Rattle.aid_types.specs.declared.application.Application.{Application as Applied};
 ghost use Rattle.aid_types.specs.Ranges.{IsBetween};
 ghost use Rattle.office_history.specs.Answer.{IsLegal};
-ghost use Rattle.office_history.specs.Award.{award_under};
+ghost use Rattle.office_history.specs.Award.{award_under, ceiling_under};
 ghost use Rattle.office_history.specs.Past.{first_of_two, is_extra, the_book, the_term};
 ghost use Rattle.office_history.specs.Accounts.{AreSums};
 ghost use Rattle.office_history.specs.Rows.{student_row, year_row};
@@ -19,11 +19,12 @@ ghost use Rattle.office_changes.specs.Moved.{IsWithinYear, main_moved, student_m
 ghost use Rattle.office_history.specs.Own.{IsOwnEntry};
 
 use crate::changed::{student_name, year_name};
-use crate::uncounted::term_of;
+use crate::uncounted::{ceiling_on, term_of};
 use aid_filings::{Amount, Filing, PriorFacts, What};
 use aid_types::{Application, Program, School, Student, Term, Year};
 use lifetime_ledger::use_of;
 use office_history::{Account, OnFile, StudentRow, StudentYear, YearRow};
+use pell_schedule::Ceiling;
 
 /// The row of a student's year that a filing writes after the filings so far, where it moves this much in its own term:
 /// an application and its award, or the nets with what is paid and taken back. `None` where it changes no year. `before` is
@@ -62,13 +63,22 @@ pub fn year_after<P: OnFile>(
 
 // A student's year with this application and its award in force.
 fn applied<P: OnFile>(past: &P, filed: &Application, before: &YearRow, award: u32) -> YearRow
-    ensures { result ≡ year_applied before.now filed.now award (length (P.history past.now) + 1) }
+    requires { award ≡ award_under (the_book (P.history past.now) filed.now.year) (Some filed.now) }
+    ensures { result ≡ year_applied before.now filed.now award (ceiling_under (the_book (P.history past.now) filed.now.year) (Some filed.now))
+        (length (P.history past.now) + 1) }
 {
     let position = past.front() + 1;
+    // An application that has an award is below the ceiling.
+    let ceiling = if award == 0 {
+        ceiling_on(past, filed)
+    } else {
+        Ceiling::NONE
+    };
     YearRow {
         transaction: u32::from(filed.transaction),
         application_at: position,
         scheduled: award,
+        ceiling,
         ..*before
     }
 }

@@ -1,9 +1,12 @@
 //! What is on file, asked where no looks are counted.
-ghost use Rattle.std.specs.Prelude.{◌≡◌, ◌<◌};
+ghost use Rattle.std.specs.Prelude.{◌≡◌, ◌<◌, Some};
+ghost use Rattle.office_history.specs.Award.{ceiling_under};
+ghost use Rattle.office_history.specs.Past.{the_book};
 ghost use Rattle.office_history.specs.Rows.{place_row, school_row, school_year_row, term_row};
 
-use aid_types::{School, Student, Year};
-use office_history::{OnFile, PlaceRow, SchoolRow, SchoolYearRow, TermRow};
+use aid_types::{Application, School, Student, Year};
+use office_history::{OnFile, PlaceRow, SchoolRow, SchoolYearRow, TermRow, ceiling};
+use pell_schedule::Ceiling;
 use sorted_rows::Steps;
 use std::marker::Brand;
 use std::sync::ledger::{Blank, Ledger};
@@ -15,6 +18,25 @@ fn blank_steps<L: Ledger>(blank: Blank) -> Steps<L>
     requires some { 0 < blank.parts }
 {
     Steps::<L>::new(blank)
+}
+
+fn ceiling_of_book<P: OnFile, L: Ledger>(past: &P, filed: &Application, blank: Blank) -> Ceiling
+    requires name { blank.name ≡ L.name }
+    requires parts { blank.parts ≡ L.parts }
+    requires some { 0 < blank.parts }
+    ensures { result ≡ ceiling_under (the_book (P.history past.now) filed.now.year) (Some filed.now) }
+{
+    match past.book(filed.year, &mut blank_steps::<L>(blank)) {
+        Some(book) => ceiling(book, filed),
+        None => Ceiling::NONE,
+    }
+}
+
+/// The ceiling that decides on an application under its year's book.
+pub(crate) fn ceiling_on<P: OnFile>(past: &P, filed: &Application) -> Ceiling
+    ensures { result ≡ ceiling_under (the_book (P.history past.now) filed.now.year) (Some filed.now) }
+{
+    ceiling_of_book::<P, Brand>(past, filed, Blank::new(1))
 }
 
 fn term_on<P: OnFile, L: Ledger>(

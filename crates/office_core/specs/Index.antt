@@ -11,6 +11,7 @@ use Rattle.aid_filings.specs.declared.filing.What.TheVariants.{Book as BookFiled
 use Rattle.aid_filings.specs.declared.reply.Outcome.{Outcome}
 use Rattle.aid_types.specs.Programs.{six}
 use Rattle.aid_types.specs.declared.number.Key.{Key}
+use Rattle.pell_schedule.specs.Award.{no_ceiling}
 use Rattle.office_history.specs.Answer.{IsLegal}
 use Rattle.office_history.specs.Positions.{book_at}
 use Rattle.office_history.specs.Past.{key_at}
@@ -65,7 +66,7 @@ student_or None = record { row = record { prior_at = 0; pell_at = 0; used = 0 };
 student_or (Some entry) = entry
 
 abbrev pub year_or : Option YearRow → YearRow
-year_or None = record { transaction = 0; application_at = 0; scheduled = 0; nets = six (λ p. 0); main = 0 }
+year_or None = record { transaction = 0; application_at = 0; scheduled = 0; ceiling = no_ceiling; nets = six (λ p. 0); main = 0 }
 year_or (Some row) = row
 
 abbrev pub school_year_or : Option SchoolYearRow → SchoolYearRow

@@ -6,6 +6,7 @@ ghost use Rattle.office_core.specs.Index.{position_or, school_or, school_year_or
 
 use aid_types::ByProgram;
 use office_history::{Account, PlaceRow, SchoolRow, SchoolYearRow, StudentRow, YearRow};
+use pell_schedule::Ceiling;
 
 /// What names a filing in the index: its number, and then its school. Numbers rise at each school, so a new name comes last or
 /// nearly so.
@@ -89,6 +90,7 @@ pub(crate) fn year_told(row: Option<&YearRow>) -> YearRow
             transaction: 0,
             application_at: 0,
             scheduled: 0,
+            ceiling: Ceiling::NONE,
             nets: ByProgram::EMPTY,
             main: 0,
         },

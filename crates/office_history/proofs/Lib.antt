@@ -34,6 +34,7 @@ pub mod CellSums
 pub mod Enrolled
 pub mod AccountSteps
 pub mod Bounds
+pub mod Ceilings
 pub mod FiledTerms
 pub mod Greatest
 pub mod InForce

@@ -86,5 +86,5 @@ module _ (f : Facts) (key : Key) (a : Amount) where
   pub none_beside : broken_of f key (Pay a) ≡ None → rank a.program ≡ 3 → f.other_school ≡ 0
   none_beside h e =
       let q = hold_only is_pell (pell_lines f key.school) (eq-eqb _ _ e) (hold_front l1 (l2 ++ (l3 ++ (l4 ++ l5))) (tail h)) in
-      let n : f.other_school ≤ 0 = ltb-false 0 f.other_school q.1.0 in
+      let n : f.other_school ≤ 0 = ltb-false 0 f.other_school q.1.1.0 in
       omega arith

@@ -5,7 +5,8 @@ use Rattle.aid_types.specs.declared.application.Application.{Application}
 use Rattle.aid_filings.specs.declared.filing.Filing.{Filing}
 use Rattle.aid_types.specs.declared.award.Refusal.{Refusal}
 use Rattle.sai_index.specs.Fits.{unfit}
-use Rattle.pell_schedule.specs.Award.{decision_of}
+use Rattle.pell_schedule.specs.Award.{ceiling_of, decision_of, no_ceiling}
+use Rattle.pell_schedule.specs.declared.Ceiling.{Ceiling}
 use Rattle.office_history.specs.Past.{the_book, application}
 
 -- the Scheduled Award that an application gives under a book, 0 where one of them is missing. It is a word of its own, so
@@ -21,6 +22,19 @@ award_under (Some b) (Some a) = scheduled_of b a
 -- the Scheduled Award of the application in force
 abbrev pub scheduled : List Filing → ℕ → ℕ → ℕ
 scheduled past student year = award_under (the_book past year) (application past student year)
+
+-- the ceiling that decides on an application under a book, a word of its own as well; none where one of them is missing
+unfoldable pub ceiling_by : Book → Application → Ceiling
+ceiling_by b a = ceiling_of b a
+
+abbrev pub ceiling_under : Option Book → Option Application → Ceiling
+ceiling_under None a = no_ceiling
+ceiling_under (Some b) None = no_ceiling
+ceiling_under (Some b) (Some a) = ceiling_by b a
+
+-- that on the application in force
+abbrev pub ceiling : List Filing → ℕ → ℕ → Ceiling
+ceiling past student year = ceiling_under (the_book past year) (application past student year)
 
 -- why an application is out of range for the year's book, if it is
 abbrev pub unfit_under : Option Book → Application → Option Refusal

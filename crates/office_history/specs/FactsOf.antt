@@ -9,7 +9,7 @@ use Rattle.aid_filings.specs.declared.filing.Filing.{Filing}
 use Rattle.aid_filings.specs.declared.filing.What.{What}
 use Rattle.aid_filings.specs.declared.filing.What.TheVariants.{Book as BookFiled, School, Calendar, Prior, Apply, Enrol, Originate, Pay, Withdraw, Repay, Adjust}
 use Rattle.office_history.specs.Past.{the_book, the_school, the_term, the_withdrawal, credits, cost, application, terms_on_file}
-use Rattle.office_history.specs.Award.{scheduled, unfit_under}
+use Rattle.office_history.specs.Award.{ceiling, scheduled, unfit_under}
 use Rattle.office_history.specs.Net.{cell_of, is_cell, net, cell_at, net_at, in_year, in_term, at_school_in_year, pell_term, pell_year, pell_main, used_else, owed, repaid, post, paid_after}
 use Rattle.office_history.specs.Positions.{terms_of, full_of, book_at, school_at, term_at, prior_at, pell_at, cost_at, withdrawn_at, transaction_of, could_of, least_code, is_paid_beside, term_over, overlap_at, main_term_count, award_filed}
 
@@ -30,6 +30,8 @@ no_facts = record {
   pell_at = 0;
   transaction = 0;
   scheduled = 0;
+  ceiling_index = 0;
+  ceiling_bound = 0;
   cost_at = 0;
   cost = 0;
   credits = 0;
@@ -83,6 +85,8 @@ aid_facts past school student year term = record (desk_facts past school) {
 -- what a payment of a program reads besides
 abbrev pub payment_facts : List Filing → ℕ → ℕ → ℕ → ℕ → ℕ → Facts
 payment_facts past school student year term program = record (aid_facts past school student year term) {
+  ceiling_index = (ceiling past student year).index;
+  ceiling_bound = (ceiling past student year).bound;
   other_school = least_code (is_paid_beside past school student (the_term past school year term)) (terms_on_file past);
   after = paid_after past (is_cell (cell_at school student year term program));
   after_all = paid_after past (in_term school student year term);

@@ -9,7 +9,7 @@ use Rattle.aid_filings.specs.declared.filing.What.TheVariants.{Apply, Enrol}
 use Rattle.aid_types.specs.declared.application.Application.{Application}
 use Rattle.aid_types.specs.Programs.{six}
 use Rattle.enrolment.specs.Terms.{shares_day}
-use Rattle.office_history.specs.Award.{scheduled}
+use Rattle.office_history.specs.Award.{ceiling, scheduled}
 use Rattle.office_history.specs.Net.{cell_at, at_school_in_year, in_term, in_year, is_cell, net, owed, paid, paid_after, pell_main, post, repaid, taken, used}
 use Rattle.office_history.specs.Positions.{application_at, cost_at, could_of, first_term_at, full_of, pell_at, prior_at, school_at, term_at, terms_of, transaction_of, withdrawn_at}
 use Rattle.office_history.specs.Past.{application, cost, credits, terms_on_file, the_school, the_term, the_withdrawal}
@@ -77,6 +77,7 @@ year_row past student year = record {
   transaction = transaction_of (application past student year);
   application_at = application_at past student year;
   scheduled = scheduled past student year;
+  ceiling = ceiling past student year;
   nets = six (λ p. net past (in_year student year p));
   main = pell_main past student year;
 }

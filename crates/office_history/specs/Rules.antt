@@ -12,7 +12,7 @@ use Rattle.rule_lines.specs.declared.line.RuleLine.{RuleLine}
 use Rattle.rule_lines.specs.RuleLines.{over, stands, lacks, where_true, too_early, only, told}
 use Rattle.filing_rules.specs.Rules.{rule_90, rule_21, rule_23, rule_24, rule_53, rule_62, rule_91, limit_of}
 use Rattle.office_history.specs.Past.{the_book, the_school, the_term, the_withdrawal, credits, cost, application, terms_on_file}
-use Rattle.office_history.specs.Award.{scheduled, unfit_under}
+use Rattle.office_history.specs.Award.{ceiling, scheduled, unfit_under}
 use Rattle.office_history.specs.Net.{cell_of, is_cell, cell_at, net, net_at, in_year, in_term, at_school_in_year, pell_term, pell_year, pell_main, used_else, owed, repaid, post, paid_after}
 use Rattle.office_history.specs.Positions.{full_of, terms_of, book_at, school_at, term_at, prior_at, pell_at, cost_at, withdrawn_at, transaction_of, could_of, least_code, is_paid_beside, payment_for, payment_at, term_over, overlap_at, main_term_count, award_filed}
 
@@ -59,13 +59,14 @@ module _ (past : List Filing) (school student year term : ℕ) where
       rule_90 (length past) ∷ lacks 12 (school_at past school) school 0 ∷ lacks 30 (term_at past school year term) term 0
       ∷ lacks 31 (transaction_of (application past student year)) student year ∷ lacks 50 (cost_at past school student year) student school ∷ []
 
-  -- a payment of so many cents of a program; 51: not enrolled; 40: no Pell for this student; 54 to 57: the limits
+  -- a payment of so many cents of a program; 51: not enrolled; 43: the index is at or above the ceiling; 40: no Pell for this student; 54 to 57: the limits
   abbrev pub payment_rules : ℕ → ℕ → List RuleLine
   payment_rules program cents =
       standing_rules
       ++ (lacks 51 (credits past school student year term) student term ∷ rule_53 (program == 3) cents
       ∷ only (program == 3)
-      (where_true 40 (scheduled past student year == 0) (transaction_of (application past student year)) 0 ∷ rule_58 ∷ [])
+      (stands 43 (ceiling past student year).index (ceiling past student year).bound
+      ∷ where_true 40 (scheduled past student year == 0) (transaction_of (application past student year)) 0 ∷ rule_58 ∷ [])
       ++ (rule_52 program cents
       ++ (only (program == 3) (pell_limits 54 55 56 cents)
       ++ (only (program == 4) (past_fseog 55 cents ∷ []) ++ (past_cost 57 cents ∷ [])))))

@@ -1,11 +1,11 @@
 //! The award of an application.
 ghost use Rattle.std.specs.Prelude.{◌≡◌, ◌≤◌};
-ghost use Rattle.office_history.specs.Award.{scheduled_of};
+ghost use Rattle.office_history.specs.Award.{ceiling_by, scheduled_of};
 ghost use Rattle.pell_schedule.specs.Award.{decision_of};
 
 use aid_books::Book;
 use aid_types::Application;
-use pell_schedule::{Decision, decide};
+use pell_schedule::{Ceiling, Decision, ceiling_for, decide};
 use sai_index::index;
 
 /// The Scheduled Award in dollars of an application under a book, at most 100,000 (HEA 401(b)).
@@ -14,6 +14,13 @@ pub fn award(book: &Book, application: &Application) -> u32
     ensures at_most { result ≤ 100000 }
 {
     decide(book, application, index(book, application).index).scheduled
+}
+
+/// The ceiling that decides on an application under a book (HEA 401(b)(1)(D)).
+pub fn ceiling(book: &Book, application: &Application) -> Ceiling
+    ensures { result ≡ ceiling_by book.now application.now }
+{
+    ceiling_for(book, application, index(book, application).index)
 }
 
 /// The decision on an application by its own index (HEA 401(b), 475 to 477).

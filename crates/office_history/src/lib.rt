@@ -15,7 +15,7 @@ mod rows;
 mod sums;
 
 pub use account::Account;
-pub use decided::{award, decision};
+pub use decided::{award, ceiling, decision};
 pub use laws::{
     admitted_is_legal, complete, legal_front, legal_keys, legal_length, legal_within,
     older_outcome, repeated_filing, same_is_equal, sound_is_worked_out,

@@ -2,6 +2,7 @@
 //! is nothing; amounts are in cents, awards and costs in dollars, lifetime use in thousandths of a percent.
 use crate::account::Account;
 use aid_types::{ByProgram, Term};
+use pell_schedule::Ceiling;
 
 /// A school: its position, its main terms in a year and its full-time credits.
 #[derive(Clone, Copy, PartialEq, Eq, Debug)]
@@ -38,12 +39,13 @@ pub struct PlaceRow {
 }
 
 /// A student's year at all schools: the transaction and the position of the application in force with the Scheduled Award that
-/// it gives, all three 0 where there is none; the nets by program, and the net Pell of the main terms.
+/// it gives and the ceiling that decides on it, all 0 where there is none; the nets by program, and the net Pell of the main terms.
 #[derive(Clone, Copy, PartialEq, Eq, Debug)]
 pub struct YearRow {
     pub transaction: u32,
     pub application_at: u32,
     pub scheduled: u32,
+    pub ceiling: Ceiling,
     pub nets: ByProgram,
     pub main: u64,
 }

@@ -7,6 +7,7 @@ use Rattle.std.proofs.lemmas.Nat.{mul-le}
 use Rattle.aid_types.specs.declared.application.Application.{Application}
 use Rattle.aid_types.specs.declared.application.Side.{Side}
 use Rattle.aid_books.specs.declared.book.Book.{Book}
+use Rattle.pell_schedule.specs.declared.Ceiling.{Ceiling}
 use Rattle.pell_schedule.specs.Award.{IsTold, ceiling_at, ceiling_bound, counted_income, decision, is_at_ceiling, is_barred, no_ceiling}
 
 -- a percent of an amount above 0
@@ -72,9 +73,21 @@ counted_above c side h = rw (ne_eqb c 0 (λ none. absurd (omega (arith, none))))
 pub unawarded : (book : Book) (a : Application) (index : ℤ) → is_barred a ≡ false → is_at_ceiling book index ≡ true → (decision book a index).scheduled ≡ 0
 unawarded book a index h at = rw (h, at) refl
 
-no_ceiling : (book : Book) (index : ℤ) → book.ceiling ≡ 0 → is_at_ceiling book index ≡ false
-unfolding is_at_ceiling
-no_ceiling book index h = rw h refl
+pub none_barred : (book : Book) (a : Application) (index : ℤ) → is_barred a ≡ true → ceiling_at book a index ≡ no_ceiling
+none_barred book a index h = rw h refl
+
+pub none_below : (book : Book) (a : Application) (index : ℤ) → is_barred a ≡ false → is_at_ceiling book index ≡ false
+    → ceiling_at book a index ≡ no_ceiling
+none_below book a index h at = rw (h, at) refl
+
+-- so an award means that no ceiling decides
+pub none_awarded : (book : Book) (a : Application) (index : ℤ) → ((decision book a index).scheduled ≡ 0 → ⊥) → ceiling_at book a index ≡ no_ceiling
+none_awarded book a index awarded = go (is_barred a) refl (is_at_ceiling book index) refl
+  where
+    go : (b : Bool) → is_barred a ≡ b → (c : Bool) → is_at_ceiling book index ≡ c → ceiling_at book a index ≡ no_ceiling
+    go true barred c at = none_barred book a index barred
+    go false barred false at = none_below book a index barred at
+    go false barred true at = absurd (awarded (unawarded book a index barred at))
 
 -- where the ceiling decides
 pub told : (book : Book) (a : Application) (index : ℤ) → is_barred a ≡ false → is_at_ceiling book index ≡ true
@@ -93,7 +106,7 @@ told book a index h at =
     }
 
 -- where it doesn't
-pub untold : (book : Book) (a : Application) (index : ℤ) → IsTold book a index (record { index = 0; bound = 0 })
+pub untold : (book : Book) (a : Application) (index : ℤ) → IsTold book a index (no_ceiling)
 untold book a index = record {
   none = λ no. refl;
   kept = λ one. absurd (omega (arith, one));
@@ -101,10 +114,3 @@ untold book a index = record {
   least = λ one. absurd (omega (arith, one));
   unawarded = λ one. absurd (omega (arith, one));
 }
-
-pub none_barred : (book : Book) (a : Application) (index : ℤ) → is_barred a ≡ true → ceiling_at book a index ≡ record { index = 0; bound = 0 }
-none_barred book a index h = rw h refl
-
-pub none_below : (book : Book) (a : Application) (index : ℤ) → is_barred a ≡ false → is_at_ceiling book index ≡ false
-    → ceiling_at book a index ≡ record { index = 0; bound = 0 }
-none_below book a index h at = rw (h, at) refl

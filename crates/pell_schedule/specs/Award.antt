@@ -81,11 +81,15 @@ is_at_ceiling book index = nat_lt 0 book.ceiling && int_le (pos book.ceiling *�
 abbrev pub ceiling_bound : Book → ℕ
 ceiling_bound book = (book.ceiling * unsigned_abs book.pell.maximum + 99) / 100
 
+-- no ceiling decides
+abbrev pub no_ceiling : Ceiling
+no_ceiling = record { index = 0; bound = 0 }
+
 -- an index at the ceiling with the least such index, where that is why there is no award, else 0 and 0
 abbrev pub ceiling_at : Book → Application → ℤ → Ceiling
 ceiling_at book a index =
     if not (is_barred a) && is_at_ceiling book index then record { index = unsigned_abs index; bound = ceiling_bound book }
-    else record { index = 0; bound = 0 }
+    else no_ceiling
 
 -- an income above 0 and at most so much of the guideline that the award is a Maximum (HEA 401(b)(1))
 unfoldable pub is_maximum : Book → Formula → Application → Bool
@@ -146,7 +150,7 @@ pub record IsDecidedByCase (f : Formula) (book : Book) (a : Application) (index 
 
 -- a ceiling is told by an index and the least that it takes, above 0 and no greater; or it isn't, by 0 and 0
 pub record IsTold (book : Book) (a : Application) (index : ℤ) (told : Ceiling) : Type 0 where
-  pub none : book.ceiling ≡ 0 → told ≡ record { index = 0; bound = 0 }
+  pub none : book.ceiling ≡ 0 → told ≡ no_ceiling
   pub kept : 1 ≤ told.index → index ≡ pos told.index
   pub above : told.bound ≤ told.index
   pub least : 1 ≤ told.bound → (other : ℤ) → pos told.bound ≤ℤ other ↔ IsTrue (is_at_ceiling book other)

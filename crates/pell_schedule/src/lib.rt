@@ -53,6 +53,11 @@ pub struct Ceiling {
     pub bound: u32,
 }
 
+impl Ceiling {
+    /// No ceiling decides.
+    pub const NONE: Ceiling = Ceiling { index: 0, bound: 0 };
+}
+
 /// The award of an application with this index (HEA 401(b)).
 pub fn decide(book: &Book, a: &Application, index: i32) -> Decision
     requires { IsIndex index }
@@ -80,7 +85,7 @@ pub fn ceiling_for(book: &Book, a: &Application, index: i32) -> Ceiling
             bound: ceiling_bound(book),
         }
     } else {
-        Ceiling { index: 0, bound: 0 }
+        Ceiling::NONE
     }
 }
 

@@ -2,7 +2,7 @@
 ghost use Rattle.std.specs.Prelude.{◌≡◌, ◌∷◌, sum};
 ghost use Rattle.aid_filings.specs.declared.reply.Outcome.TheVariants.{Returned};
 ghost use Rattle.office_history.specs.Answer.{indexed, outcome_of};
-ghost use Rattle.office_history.specs.Award.{scheduled as scheduled_award};
+ghost use Rattle.office_history.specs.Award.{ceiling as ceiling_told, scheduled as scheduled_award};
 ghost use Rattle.office_history.specs.Net.{sheet as sheet_after};
 ghost use Rattle.office_history.specs.Past.{application as application_of, application_in as application_told, is_higher as is_higher_of, the_book};
 ghost use Rattle.office_history.specs.Positions.{application_at};
@@ -13,7 +13,8 @@ use crate::plain::Plain;
 use aid_filings::{Filing, Outcome, What, WithdrawFacts};
 use aid_types::{Application, Key, Student, Year};
 use office_answers::{indexed_by_book, returned_outcome};
-use office_history::{OnFile, award};
+use office_history::{OnFile, award, ceiling};
+use pell_schedule::Ceiling;
 
 impl Plain<'_> {
     /// The student's application in force in the year, which is the first with the highest transaction, and its position.
@@ -43,6 +44,16 @@ impl Plain<'_> {
         match (self.book_of(year), self.application(student, year).1) {
             (Some(book), Some(application)) => award(book, &application),
             _ => 0,
+        }
+    }
+
+    /// The ceiling of the year that decides on the application in force; none where the book or the application is missing.
+    pub(crate) fn ceiling(&self, student: Student, year: Year) -> Ceiling
+        ensures { result ≡ ceiling_told self.now student year }
+    {
+        match (self.book_of(year), self.application(student, year).1) {
+            (Some(book), Some(application)) => ceiling(book, &application),
+            _ => Ceiling::NONE,
         }
     }
 

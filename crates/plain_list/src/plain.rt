@@ -171,6 +171,7 @@ impl OnFile for Plain<'_> {
             transaction: application.map_or(0, |filed| u32::from(filed.transaction)),
             application_at,
             scheduled: self.scheduled(student, year),
+            ceiling: self.ceiling(student, year),
             nets: self.nets(student, year),
             main: self.net_of(&Cells::InMainTerms(student, year)),
         }

@@ -1,7 +1,8 @@
-use Rattle.std.proofs.Common.{◌≡◌, ℕ, ◌+◌, ◌≤◌, ap, arith, ◌∙◌, List, length}
+use Rattle.std.proofs.Common.{◌≡◌, ℕ, ◌+◌, ◌≤◌, ap, arith, ◌∙◌, List, length, Some}
 use Rattle.aid_filings.specs.declared.filing.Filing.{Filing}
 use Rattle.office_history.specs.Answer.{IsLegal}
-use Rattle.office_history.specs.Past.{the_term}
+use Rattle.office_history.specs.Past.{the_book, the_term}
+use Rattle.office_history.specs.Award.{ceiling_under}
 use Rattle.office_history.specs.Rows.{year_row}
 use Rattle.office_history.specs.declared.rows.YearRow.{YearRow}
 use Rattle.office_changes.specs.Changed.{year_changed}
@@ -67,7 +68,7 @@ returns-in-Apply-clause-written g c =
     let before = c.requires.before _ (ap year_changed c.in-Apply.is) in
     year_written past c.args.filing.now a.student a.year c.year_name.result c.applied.result c.year_name.ensures
     (c.applied.ensures
-    ∙ (λ i. year_applied (before i) a (c.requires.award a c.in-Apply.is i) (length past + 1))
+    ∙ (λ i. year_applied (before i) a (c.requires.award a c.in-Apply.is i) (ceiling_under (the_book past a.year) (Some a)) (length past + 1))
     ∙ applied_row past c.args.filing.now a c.in-Apply.is c.requires.legal.2)
     (applied_changes past c.args.filing.now a c.in-Apply.is)
 
