@@ -254,6 +254,20 @@ OFFICES = {
         report(example(f"year-{which}.txt").decode(), which, *year)
         for which, *year in [("standing", "2025"), ("awards", "2025"), ("returns", "2025"), ("lifetime",)]
     ],
+    "a second year, with a ceiling": [
+        book(), (["file"], example("year.csv"), example("year.txt").decode()),
+        (["book", "4"], example("2026.toml"), "1 18 accepted 19 noted"),
+        (["file"], example("second-year.csv"), example("second-year.txt").decode()),
+        report("""\
+        5001 A    5427 calculated   2075       900.00  121594
+        5002 A   -1500 maximum      7500         0.00       0
+        5003 A    5296 calculated   2205         0.00       0
+        5004 A   24820 nothing         0         0.00       0
+rows 4""", "standing", "2026"),
+        report("""\
+        5001 A    5104 calculated   2290      1791.26  121594
+rows 1""", "standing", "2025"),
+    ],
     "reports": BASE + [
         filed(
             "prior,0,3,77,550000", *base(600, 200), "pay,110,9,5001,2025,1,pell,3000.00", "pay,110,10,5001,2025,1,unsub,2000.00",

@@ -22,11 +22,12 @@ use Rattle.lifetime_ledger.specs.Used.{use_of}
 use Rattle.rule_lines.specs.declared.line.RuleLine.{RuleLine}
 use Rattle.rule_lines.specs.RuleLines.{told, too_early, lacks, over, only, stands, where_true}
 use Rattle.filing_rules.specs.Rules.{limit_of, rule_53, rule_62, rule_91, rule_21, rule_23, rule_24}
-use Rattle.office_history.specs.Award.{award_under, scheduled, unfit_under}
+use Rattle.office_history.specs.Award.{award_under, ceiling, ceiling_under, scheduled, unfit_under}
 use Rattle.office_history.specs.Net.{at_school_in_year, in_year, net, pell_main, pell_term, pell_year, used_else, cell_at, in_term, is_cell, paid_after, post}
 use Rattle.office_history.specs.Past.{application, at_school, book_in, cost, cost_in, credits, pell_payment_in, prior_in, school_in, term_in, terms_on_file, the_book, the_school, the_term, the_withdrawal, withdrawal_in}
 use Rattle.office_history.specs.Positions.{award_filed, book_at, full_of, if_fit, is_paid_beside, payment_at, term_over, could_of, cost_at, main_term_count, overlap_at, school_at, term_at, terms_of, transaction_of, withdrawn_at}
 use Rattle.office_history.specs.Rules.{past_cost, past_fseog, rule_58, rule_63, rule_93, pell_limits, rule_52, rules_of}
+use Rattle.office_history.proofs.Ceilings.{none_under}
 use Rattle.headline.specs.Rules.{keeps_award, keeps_limits, keeps_pell, keeps_post, may_be_aided, may_file}
 use Rattle.headline.proofs.Tests.{and_both, and_then, and_last, and_second, and_three, and_four, and_five, and_six, and_turn, below, within, is_nothing, limit_if, limit_or, or_then}
 use Rattle.headline.proofs.Lines.{all_keep, keep_both, keep_only, keep_told, three_groups}
@@ -241,6 +242,7 @@ apply_is past key a =
 pay_is : (past : List Filing) (key : Key) (a : Amount) → All (λ t. 0 < t.school) (terms_on_file past) → Same past key (Pay a)
 pay_is past key a coded =
     with_room past (by_amount (a.cents == 0) is_pell (a.cents % 100 == 0) (not (scheduled past a.student a.year == 0))
+    (nat_lt 0 (ceiling past a.student a.year).index) (below_ceiling (the_book past a.year) (application past a.student a.year))
     (aided_kept past key.school a.student a.year a.term 51)
     (no_code (is_paid_beside past key.school a.student (the_term past key.school a.year a.term)) (terms_on_file past) coded)
     (post_kept past key.school a.student a.year a.term (rank a.program) a.cents)
@@ -252,7 +254,8 @@ pay_is past key a coded =
     is_pell = rank a.program == 3
 
     pell : List RuleLine
-    pell = where_true 40 (scheduled past a.student a.year == 0) (transaction_of (application past a.student a.year)) 0
+    pell = stands 43 (ceiling past a.student a.year).index (ceiling past a.student a.year).bound
+        ∷ where_true 40 (scheduled past a.student a.year == 0) (transaction_of (application past a.student a.year)) 0
         ∷ rule_58 past key.school a.student a.year a.term ∷ []
 
     after : List RuleLine
@@ -263,14 +266,14 @@ pay_is past key a coded =
         ++ (only (rank a.program == 4) (past_fseog past key.school a.student a.year a.term 55 a.cents ∷ [])
         ++ (past_cost past key.school a.student a.year a.term 57 a.cents ∷ []))
 
-    not_zero : (n : ℕ) → not (n == 0) ≡ true → n ≡ 0 → ⊥
-    not_zero n awarded none = let same : (n == 0) ≡ true = rw none refl in cc
-
     -- a student who is awarded Pell is below the ceiling
     below_ceiling : (b : Option Book) (o : Option Application) → not (award_under b o == 0) ≡ true → nat_lt 0 (ceiling_under b o).index ≡ false
     below_ceiling None o awarded = refl
     below_ceiling (Some b) None awarded = refl
     below_ceiling (Some b) (Some a) awarded = rw (none_under (Some b) a (not_zero (award_under (Some b) (Some a)) awarded)) refl
+
+    not_zero : (n : ℕ) → not (n == 0) ≡ true → n ≡ 0 → ⊥
+    not_zero n awarded none = let same : (n == 0) ≡ true = rw none refl in cc
 
     inner : (none pell dollars award over y n r v : Bool) → (award ≡ true → over ≡ false) → y ≡ n → (none ≡ false → r ≡ v) →
         (not none && ((not pell || dollars && award && y) && r))
@@ -286,9 +289,9 @@ pay_is past key a coded =
     by_amount : (none pell dollars award over : Bool) → (award ≡ true → over ≡ false) → {x y z w m n k l : Bool} →
         x ≡ m → y ≡ n → z ≡ k → (none ≡ false → w ≡ l) →
         (x && not none && (not pell || dollars && award && y) && z && w)
-        ≡ (m && (not (none || pell && not dollars) && ((not pell || (award && (n && true))) && (k && l))))
-    by_amount none pell dollars award {x} {y} {z} {w} {m} {n} {k} {l} p q r s =
-        and_five p refl refl r refl ∙ and_both refl (inner none pell dollars award y n (k && w) (k && l) q (λ e. and_both refl (s e)))
+        ≡ (m && (not (none || pell && not dollars) && ((not pell || (not over && (award && (n && true)))) && (k && l))))
+    by_amount none pell dollars award over below {x} {y} {z} {w} {m} {n} {k} {l} p q r s =
+        and_five p refl refl r refl ∙ and_both refl (inner none pell dollars award over y n (k && w) (k && l) below q (λ e. and_both refl (s e)))
 
 -- what may be filed in an office that isn't full, by its kind
 pub kind_is : (past : List Filing) (key : Key) (what : What) → All (λ t. 0 < t.school) (terms_on_file past) → Same past key what

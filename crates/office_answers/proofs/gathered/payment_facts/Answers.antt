@@ -19,6 +19,8 @@ returns-clause-facts g c =
     ∙ (λ i. slice_index (aid.place i).account.after program)
     ∙ six-rank (λ p. paid_after past (is_cell (cell_at c.args.school c.args.student c.args.year c.args.number p))) c.args.program in
     λ i. record (aid.facts i) {
+      ceiling_index = (aid.year i).ceiling.index;
+      ceiling_bound = (aid.year i).ceiling.bound;
       used_else = c.used_else.ensures.value i;
       other_school = code i;
       after = after i;
