@@ -1,9 +1,10 @@
 //! Whole applications.
-ghost use Rattle.aid_types.specs.Ranges.{IsBetween, IsIndex, IsSignedAmount};
+ghost use Rattle.std.specs.Prelude.{◌≤◌};
+ghost use Rattle.aid_types.specs.Ranges.{IsAmount, IsBetween, IsIndex, IsSignedAmount};
 
 use crate::households::{applicant, earner, family_of_four, no_lines, nothing};
 use aid_types::{Application, Formula, Refusal, Way};
-use pell_schedule::{Decision, decide};
+use pell_schedule::{Decision, ceiling_for, decide};
 use sai_index::{IndexLines, fits, formula_of, index};
 use sai_parent::ParentLines;
 use specimen::specimen_book;
@@ -233,6 +234,82 @@ fn who_had_to_file(rt: HostRuntime) {
     assert_by_filing(&rt, false, true, false, calculated);
     assert_by_filing(&rt, false, false, false, greatest);
     assert_by_filing(&rt, false, false, true, none);
+}
+
+// Asserts the decision on a dependent student of married parents with these incomes, three in the family, in a year whose
+// ceiling is so many percent of the greatest award, and what is told of that ceiling.
+fn assert_under_ceiling(
+    rt: &impl Abort,
+    percent: u16,
+    agi: i64,
+    foreign: i64,
+    index: i32,
+    wanted: (Way, u32),
+    told: (u32, u32),
+)
+    requires percent_in_range { percent ≤ 9999 }
+    requires agi_in_range { IsSignedAmount agi }
+    requires foreign_in_range { IsAmount foreign }
+    requires index_in_range { IsIndex index }
+{
+    let mut book = specimen_book();
+    book.ceiling = percent;
+    let mut parents = nothing();
+    parents.agi = agi;
+    parents.foreign = foreign;
+    let a = applicant(2006, 3, nothing(), parents);
+    let found = decide(&book, &a, index);
+    assert_eq!(rt; (found.way, found.scheduled), wanted, "at {agi}, {foreign} and {index}");
+    let ceiling = ceiling_for(&book, &a, index);
+    assert_eq!(rt; (ceiling.index, ceiling.bound), told, "at {agi}, {foreign} and {index}");
+}
+
+// Twice 7,395 dollars are 14,790.
+#[test]
+fn index_at_the_ceiling(rt: HostRuntime) {
+    assert_under_ceiling(&rt, 200, 68_365, 0, 14_789, (Way::Minimum, 740), (0, 0));
+    assert_under_ceiling(&rt, 200, 68_365, 0, 14_790, (Way::Nothing, 0), (14_790, 14_790));
+    assert_under_ceiling(&rt, 0, 68_365, 0, 14_790, (Way::Minimum, 740), (0, 0));
+    assert_under_ceiling(&rt, 200, 43_505, 0, 14_790, (Way::Nothing, 0), (14_790, 14_790));
+    // One percent is 73.95 dollars.
+    assert_under_ceiling(&rt, 1, 60_000, 0, 73, (Way::Calculated, 7320), (0, 0));
+    assert_under_ceiling(&rt, 1, 60_000, 0, 74, (Way::Nothing, 0), (74, 74));
+    assert_under_ceiling(&rt, 1, 60_000, 0, 999_999, (Way::Nothing, 0), (999_999, 74));
+}
+
+#[test]
+fn foreign_income_under_a_ceiling(rt: HostRuntime) {
+    assert_under_ceiling(&rt, 200, 43_505, 0, 900, (Way::Maximum, 7395), (0, 0));
+    assert_under_ceiling(&rt, 200, 43_505, 1, 900, (Way::Calculated, 6495), (0, 0));
+    assert_under_ceiling(&rt, 0, 43_505, 1, 900, (Way::Maximum, 7395), (0, 0));
+    assert_under_ceiling(&rt, 200, 0, 1, 900, (Way::Maximum, 7395), (0, 0));
+    assert_under_ceiling(&rt, 0, 0, 1, 900, (Way::Calculated, 6495), (0, 0));
+    assert_under_ceiling(&rt, 200, 68_365, 1, 6658, (Way::Nothing, 0), (0, 0));
+}
+
+// Asserts that with an index at the ceiling there is no award, whether the household had to file or not, and what is told of
+// the ceiling: nothing of a student with a first degree.
+fn assert_at_ceiling(rt: &impl Abort, parents_file: bool, bachelor: bool, told: (u32, u32)) {
+    let mut book = specimen_book();
+    book.ceiling = 200;
+    let mut a = applicant(2006, 3, nothing(), nothing());
+    a.parents_file = parents_file;
+    a.bachelor = bachelor;
+    let wanted = Decision {
+        way: Way::Nothing,
+        scheduled: 0,
+        sai: 20_000,
+    };
+    assert_eq!(rt; decide(&book, &a, 20_000), wanted);
+    let ceiling = ceiling_for(&book, &a, 20_000);
+    assert_eq!(rt; (ceiling.index, ceiling.bound), told);
+}
+
+#[test]
+fn ceiling_before_the_ways_and_behind_the_bar(rt: HostRuntime) {
+    assert_at_ceiling(&rt, true, false, (20_000, 14_790));
+    assert_at_ceiling(&rt, false, false, (20_000, 14_790));
+    assert_at_ceiling(&rt, false, true, (0, 0));
 }
 
 // Asserts the formula of an application, and that it is refused with these two values, or fits where there are none.
