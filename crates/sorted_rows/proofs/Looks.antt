@@ -1,5 +1,5 @@
 -- How many looks a search takes that halves what is left at each.
-use Rattle.std.proofs.Common.{◌≡◌, ℕ, zero, suc, ◌+◌, ◌*◌, ◌^◌, ◌<◌, ◌≤◌, arith, sym, subst, List, Some, get_or, add-one, inl, inr}
+use Rattle.std.proofs.Common.{◌≡◌, ℕ, zero, suc, ◌+◌, ◌*◌, ◌^◌, ◌<◌, ◌≤◌, arith, sym, subst, ◌∙◌, pow-add, List, Some, get_or, add-one, inl, inr}
 use Rattle.std.specs.List.{slice_get}
 use Rattle.std.specs.declared.cmp.Ordering.{Ordering}
 use Rattle.std.proofs.Math.Nat.{pow-succ', mul-le-mul_left, mul_assoc, mul_left_comm}
@@ -27,6 +27,31 @@ one_look all looks left rest are some half = record {
   halved = subst (λ (p : ℕ). p * rest ≤ all) (sym (pow_more looks)) (product (2 ^ looks) left rest all are.halved half);
   few = omega (arith, pow_more looks, at_least (2 ^ looks) left all are.halved some);
 }
+
+-- if the looks so far miss no more rows than this, one more that leaves so many doesn't either
+pub one_missed : (all looks left rest : ℕ) → all + 2 ≤ 2 ^ looks * (left + 2) → left ≤ 2 * rest + 2 → all + 2 ≤ 2 ^ (looks + 1) * (rest + 2)
+one_missed all looks left rest so_far half =
+    let more : 2 ^ looks * (left + 2) ≤ 2 ^ looks * (2 * (rest + 2)) = mul-le-mul_left {m = left + 2} {n = 2 * (rest + 2)} (2 ^ looks) (omega arith) in
+    let twice : (2 * 2 ^ looks) * (rest + 2) ≡ 2 ^ looks * (2 * (rest + 2)) = mul_assoc 2 (2 ^ looks) (rest + 2) ∙ sym (mul_left_comm (2 ^ looks) 2 (rest + 2)) in
+    subst (λ (p : ℕ). all + 2 ≤ p * (rest + 2)) (sym (pow_more looks)) (omega (arith, so_far, more, twice))
+
+-- where none is left, all were missed
+pub all_missed : (all looks left : ℕ) → all + 2 ≤ 2 ^ looks * (left + 2) → left ≡ 0 → all + 2 ≤ 2 ^ (looks + 1)
+all_missed all looks left so_far none = omega (arith, pow_more looks, subst (λ (n : ℕ). all + 2 ≤ 2 ^ looks * (n + 2)) none so_far)
+
+positive : (looks : ℕ) → 1 ≤ 2 ^ looks
+positive looks = pow_mono {i = 0} {j = looks} (omega arith)
+
+-- two numbers from 1 on are together at most their product and 1
+sum_in_product : (a b : ℕ) → 1 ≤ a → 1 ≤ b → a + b ≤ a * b + 1
+sum_in_product zero b some_a some_b = omega arith
+sum_in_product (suc a) b some_a some_b = omega (arith, mul-le-mul_left {m = 1} {n = b} a some_b)
+
+-- two searches that miss miss all rows
+pub both_missed : (in_tail in_main tail main : ℕ) → tail + 2 ≤ 2 ^ (in_tail + 1) → main + 2 ≤ 2 ^ (in_main + 1) → tail + main + 2 ≤ 2 ^ (in_tail + in_main + 1)
+both_missed in_tail in_main tail main tail_missed main_missed =
+    let product : 2 ^ (in_tail + in_main) ≡ 2 ^ in_tail * 2 ^ in_main = pow-add 2 in_tail in_main in
+    omega (arith, pow_more (in_tail + in_main), pow_more in_tail, pow_more in_main, product, sum_in_product (2 ^ in_tail) (2 ^ in_main) (positive in_tail) (positive in_main))
 
 -- the looks are at most the binary digits of the number of rows
 pub looks_in_digits : (looks all digits : ℕ) → 2 ^ looks ≤ 2 * all + 1 → all < 2 ^ digits → looks ≤ digits

@@ -1,5 +1,5 @@
 //! Rows found by key, with the looks counted or not.
-ghost use Rattle.std.specs.Prelude.{◌≡◌, ◌+◌, ◌-◌, ◌*◌, ◌^◌, ◌<◌, ◌≤◌, true, length, IfOk, IfErr};
+ghost use Rattle.std.specs.Prelude.{◌≡◌, ◌+◌, ◌-◌, ◌*◌, ◌^◌, ◌<◌, ◌≤◌, true, None, length, IfOk, IfErr, IfSome};
 ghost use Rattle.std.specs.List.Sorted.{IsStrictlySortedBy};
 ghost use Rattle.std.specs.Map.{keys_of};
 ghost use Rattle.sorted_rows.specs.Places.{IsAfterSmaller, IsGap, IsHere, value_at};
@@ -18,6 +18,8 @@ pub(crate) fn find<K: Ord + Copy, V: Copy, L: Ledger>(
     requires sorted { IsStrictlySortedBy K.cmp (keys_of rows.now) }
     ensures value { result ≡ value_at K.cmp key.now rows.now }
     ensures later { steps.old ≤ steps.new }
+    ensures met { IfSome result (λ _. steps.old + 1 ≤ steps.new) }
+    ensures missed { result ≡ None → length rows.now + 2 ≤ 2 ^ (steps.new - steps.old + 1) }
     ensures looks { 2 ^ (steps.new - steps.old) ≤ 2 * length rows.now + 1 }
 {
     match search(rows, key, steps) {

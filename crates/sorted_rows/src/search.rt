@@ -6,7 +6,8 @@ use crate::Steps;
 use std::cmp::Ordering;
 use std::sync::ledger::Ledger;
 
-/// The place of the row with the key, or the place where such a row would go. Each look at a row is one step.
+/// The place of the row with the key, or the place where such a row would go. Each look at a row is one step: one at least
+/// where the row is found, and where it isn't, so many that what is left after halving by each is none.
 pub(crate) fn search<K: Ord, V, L: Ledger>(
     rows: &[(K, V)],
     key: &K,
@@ -15,6 +16,8 @@ pub(crate) fn search<K: Ord, V, L: Ledger>(
     ensures found { IfOk result (IsHere K.cmp key.now rows.now) }
     ensures gap { IfErr result (IsGap K.cmp key.now rows.now) }
     ensures later { steps.old ≤ steps.new }
+    ensures met { IfOk result (λ _. steps.old + 1 ≤ steps.new) }
+    ensures missed { IfErr result (λ _. length rows.now + 2 ≤ 2 ^ (steps.new - steps.old + 1)) }
     ensures looks { 2 ^ (steps.new - steps.old) ≤ 2 * length rows.now + 1 }
 {
     let mut low = 0;

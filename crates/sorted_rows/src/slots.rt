@@ -1,5 +1,5 @@
 //! Rows that stay where they were put, with a table of their numbers by key.
-ghost use Rattle.std.specs.Prelude.{◌≡◌, ◌+◌, ◌*◌, ◌^◌, ◌<◌, ◌≤◌, ◌↔◌, ◌++◌, [], ◌∷◌, ℕ, Some, None, IfSome, OnOk, OnErr, cond, max, length};
+ghost use Rattle.std.specs.Prelude.{◌≡◌, ◌+◌, ◌-◌, ◌*◌, ◌^◌, ◌<◌, ◌≤◌, ◌↔◌, ◌++◌, [], ◌∷◌, ℕ, Some, None, IfSome, OnOk, OnErr, cond, max, length};
 ghost use Rattle.std.specs.List.{slice_get};
 ghost use Rattle.std.specs.Option.{is_none, option_copied};
 ghost use Rattle.sorted_rows.specs.Places.{AreStaying, IsHere, IsWritten, value_at};
@@ -62,11 +62,13 @@ impl<K: Ord + Copy, V: Copy> Slots<K, V> {
     }
 
     /// The slot of a key. Each look at a slot is a step: two at most for each binary digit of the number of rows, and one
-    /// less where there is a row.
+    /// less where there is a row. They are one at least where the key is found, and where it isn't, about one for each digit.
     pub fn slot_of<L: Ledger>(&self, key: &K, steps: &mut Steps<L>) -> Option<u32>
         ensures found { IfSome result (IsHere K.cmp key.now self.now.rows) }
         ensures none { result ≡ None ↔ value_at K.cmp key.now self.now.rows ≡ None }
         ensures later { steps.old ≤ steps.new }
+        ensures met { IfSome result (λ _. steps.old + 1 ≤ steps.new) }
+        ensures missed { result ≡ None → length self.now.rows + 2 ≤ 2 ^ (steps.new - steps.old + 1) }
         ensures looks { (digits : ℕ) → length self.now.rows < 2 ^ digits → steps.new ≤ steps.old + 2 * digits }
         ensures spared { (digits : ℕ) → 0 < length self.now.rows → length self.now.rows < 2 ^ digits → steps.new + 1 ≤ steps.old + 2 * digits }
     {
@@ -106,6 +108,8 @@ impl<K: Ord + Copy, V: Copy> Slots<K, V> {
     pub fn get<L: Ledger>(&self, key: &K, steps: &mut Steps<L>) -> Option<&V>
         ensures value { option_copied result ≡ value_at K.cmp key.now self.now.rows }
         ensures later { steps.old ≤ steps.new }
+        ensures met { IfSome result (λ _. steps.old + 2 ≤ steps.new) }
+        ensures missed { result ≡ None → length self.now.rows + 2 ≤ 2 ^ (steps.new - steps.old + 1) }
         ensures looks { (digits : ℕ) → length self.now.rows < 2 ^ digits → steps.new ≤ steps.old + 2 * digits }
     {
         let slot = self.slot_of(key, steps)?;

@@ -1,5 +1,5 @@
 //! The table: most rows in one sorted list, and in a short one new keys that wait to be merged.
-ghost use Rattle.std.specs.Prelude.{◌≡◌, ◌+◌, ◌*◌, ◌<◌, ◌≤◌, ◌^◌, [], ℕ, Some, None, OnOk, OnErr, cond, max, length};
+ghost use Rattle.std.specs.Prelude.{◌≡◌, ◌+◌, ◌-◌, ◌*◌, ◌<◌, ◌≤◌, ◌^◌, [], ℕ, Some, None, IfSome, OnOk, OnErr, cond, max, length};
 ghost use Rattle.std.specs.Option.{is_none};
 ghost use Rattle.sorted_rows.specs.Places.{IsWritten, tail_looks, value_at};
 
@@ -68,10 +68,13 @@ impl<K: Ord + Copy, V: Copy> Table<K, V> {
 
     /// The value of a key. Each look at a row is a step: ten at most in the tail, and elsewhere one for each binary digit of
     /// the number of rows. So among 200,000 rows a value is found in 28 looks. They are never more than two for each binary
-    /// digit of the number of rows, and one less where there is a row.
+    /// digit of the number of rows, and one less where there is a row. They are one at least where the key is found, and where
+    /// it isn't, about one for each binary digit.
     pub fn get<L: Ledger>(&self, key: &K, steps: &mut Steps<L>) -> Option<V>
         ensures value { result ≡ value_at K.cmp key.now self.now.rows }
         ensures later { steps.old ≤ steps.new }
+        ensures met { IfSome result (λ _. steps.old + 1 ≤ steps.new) }
+        ensures missed { result ≡ None → length self.now.rows + 2 ≤ 2 ^ (steps.new - steps.old + 1) }
         ensures looks { (digits : ℕ) → length self.now.rows < 2 ^ digits → steps.new ≤ steps.old + tail_looks + digits }
         ensures twice { (digits : ℕ) → length self.now.rows < 2 ^ digits → steps.new ≤ steps.old + 2 * digits }
         ensures spared { (digits : ℕ) → 0 < length self.now.rows → length self.now.rows < 2 ^ digits → steps.new + 1 ≤ steps.old + 2 * digits }

@@ -1,6 +1,6 @@
 use Rattle.std.proofs.Common.{◌≡◌, ◌+◌, ◌-◌, ◌*◌, ◌^◌, ◌≤◌, length, arith, ℕ, subst, Some, ◌/◌}
 use Rattle.std.specs.List.{slice_get}
-use Rattle.sorted_rows.proofs.Looks.{AreLooks, one_look, compared}
+use Rattle.sorted_rows.proofs.Looks.{AreLooks, one_look, one_missed, all_missed, compared}
 use Rattle.sorted_rows.proofs.search.search.Goals as goal
 
 pub returns-in-Equal-clause-looks : goal.returns-in-Equal-clause-looks
@@ -19,6 +19,8 @@ loop-low-preserved-in-Less g c =
       within = omega arith;
       before = c.loop-low.invariant.before;
       after = compared g.K.Ord.cmp c.args.key.now c.args.rows.now _ c.index-rows-middle.result _ (rw (← c.cmp.ensures) c.in-Less.is);
+      missed = subst (λ (k : ℕ). n + 2 ≤ 2 ^ k * (rest + 2)) {x = c.loop-low.steps - c.args.steps.now + 1} (omega arith)
+          (one_missed n (c.loop-low.steps - c.args.steps.now) (c.loop-low.high - c.loop-low.low) rest c.loop-low.invariant.missed (omega arith));
       later = omega arith;
       looks = subst (λ (k : ℕ). AreLooks n k rest) {x = c.loop-low.steps - c.args.steps.now + 1} (omega arith) looks;
     }
@@ -35,6 +37,12 @@ loop-low-preserved g c =
           let same : j ≡ c.loop-low.low + (c.loop-low.high - c.loop-low.low) / 2 = omega arith in
           compared g.K.Ord.cmp c.args.key.now c.args.rows.now _ c.index-rows-middle.result _ (rw (← c.cmp.ensures) c.in-Greater.is) e (subst (λ (i : ℕ). slice_get c.args.rows.now i ≡ Some e) same at);
       after = c.loop-low.invariant.after;
+      missed = subst (λ (k : ℕ). n + 2 ≤ 2 ^ k * (rest + 2)) {x = c.loop-low.steps - c.args.steps.now + 1} (omega arith)
+          (one_missed n (c.loop-low.steps - c.args.steps.now) (c.loop-low.high - c.loop-low.low) rest c.loop-low.invariant.missed (omega arith));
       later = omega arith;
       looks = subst (λ (k : ℕ). AreLooks n k rest) {x = c.loop-low.steps - c.args.steps.now + 1} (omega arith) looks;
     }
+
+pub returns-clause-missed : goal.returns-clause-missed
+returns-clause-missed g c =
+    all_missed (length c.args.rows.now) (c.loop-low.steps - c.args.steps.now) (c.loop-low.high - c.loop-low.low) c.loop-low.invariant.missed (omega arith)
