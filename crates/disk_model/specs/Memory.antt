@@ -1,7 +1,10 @@
 -- What a disk in memory shows.
-use Rattle.std.specs.Prelude.{ℕ, List}
+use Rattle.std.specs.Prelude.{ℕ, Bool, List, Option}
+use Rattle.aid_edges.specs.Faults.{next_count}
 use Rattle.disk_model.specs.Telling.{Telling}
 use Rattle.disk_model.specs.Calls.{telling, longest_buffer}
+use Rattle.disk_model.specs.Turns.{turn_of, is_failure}
+use Rattle.disk_model.specs.declared.stop.DiskStop.{DiskStop}
 use Rattle.disk_model.specs.declared.memory.MemoryDisk.{MemoryDisk}
 
 -- its present bytes, which are what a read gives
@@ -19,3 +22,15 @@ memory_faults disk = disk.faults
 -- the greatest length of a buffer that was handed to one of its reads, of all that its record holds
 abbrev pub memory_longest_read : MemoryDisk → ℕ
 memory_longest_read disk = longest_buffer disk.calls.items
+
+-- how many calls it had
+abbrev pub memory_made : MemoryDisk → ℕ
+memory_made disk = disk.made
+
+-- the numbers of the calls that fail, and the call from which on all do
+abbrev pub memory_lists : MemoryDisk → List ℕ × Option DiskStop
+memory_lists disk = (disk.failing.items, disk.stop)
+
+-- its next call is one that fails
+abbrev pub fails_next : MemoryDisk → Bool
+fails_next disk = is_failure (turn_of disk.failing.items disk.stop (next_count disk.made))

@@ -1,5 +1,5 @@
 // A disk in memory. It keeps what it began with and a record of its calls, and so tells what a crash may leave.
-ghost use Rattle.std.specs.Prelude.{◌≡◌, ◌≤◌, ◌+◌, ◌++◌, [], ◌∷◌, ℕ, List, length, OnOk, OnErr, IfOk, max, take};
+ghost use Rattle.std.specs.Prelude.{◌≡◌, ◌≤◌, ◌+◌, ◌++◌, [], ◌∷◌, ℕ, List, length, OnOk, OnErr, IfOk, IsErr, IsTrue, max, take};
 ghost use Rattle.disk_model.specs.Faults.{Rose, next_count};
 ghost use Rattle.disk_model.specs.Telling.{IsHonest, IsQuiet, IsRead, IsWrite, IsCut, IsSync, Torn, Cut, Allow, Fronts, overwrite};
 ghost use Rattle.disk_model.specs.Calls.{telling, reads_after, reads_by, buffer_of, IsLook};
@@ -24,8 +24,8 @@ pub struct MemoryDisk {
 }
 
 impl MemoryDisk {
-    ghost use Rattle.disk_model.specs.Turns.{turn_of};
-    ghost use Rattle.disk_model.specs.Memory.{memory_bytes, memory_tells, memory_faults, memory_longest_read};
+    ghost use Rattle.disk_model.specs.Turns.{turn_of, is_failure};
+    ghost use Rattle.disk_model.specs.Memory.{memory_bytes, memory_tells, memory_faults, memory_longest_read, memory_made, memory_lists, fails_next};
 
     /// A disk with these bytes, all of them on it. The calls with these numbers fail, counted from 1.
     pub fn new(
@@ -39,6 +39,8 @@ impl MemoryDisk {
         ensures quiet { IfOk result (λ disk. IsQuiet (memory_tells disk)) }
         ensures faults { IfOk result (λ disk. memory_faults disk ≡ 0) }
         ensures longest { IfOk result (λ disk. memory_longest_read disk ≡ 0) }
+        ensures made { IfOk result (λ disk. memory_made disk ≡ 0) }
+        ensures lists { IfOk result (λ disk. memory_lists disk ≡ (failing.items, stop)) }
     {
         let start = bytes.to_vec(alloc)?;
         Ok(MemoryDisk {
@@ -103,6 +105,8 @@ impl MemoryDisk {
         ensures start { self.new.start ≡ self.old.start }
         ensures bytes { self.new.bytes ≡ self.old.bytes }
         ensures faults { self.new.faults ≡ self.old.faults }
+        ensures made { self.new.made ≡ self.old.made }
+        ensures lists { memory_lists self.new ≡ memory_lists self.old }
     {
         self.calls.push(call)?;
         Ok(())
@@ -119,6 +123,8 @@ impl MemoryDisk {
         ensures longest { memory_longest_read self.new ≡ memory_longest_read self.old }
         ensures start { self.new.start ≡ self.old.start }
         ensures faults { self.new.faults ≡ self.old.faults }
+        ensures made { self.new.made ≡ self.old.made }
+        ensures lists { memory_lists self.new ≡ memory_lists self.old }
     {
         self.calls.push(call)?;
         self.bytes = next;
@@ -134,6 +140,9 @@ impl MemoryDisk {
         ensures no_less { memory_longest_read self.old ≤ memory_longest_read self.new }
         ensures no_more { memory_longest_read self.new ≤ max (memory_longest_read self.old) (buffer_of call) }
         ensures faults { self.new.faults ≡ self.old.faults }
+        ensures fails { IsTrue (fails_next self.old) → IsTrue (is_failure result) }
+        ensures counted { self.new.made ≡ next_count self.old.made }
+        ensures lists { memory_lists self.new ≡ memory_lists self.old }
     {
         let turn = self.turn();
         match self.note(call) {
@@ -151,6 +160,8 @@ impl MemoryDisk {
         ensures done { OnOk result (self.new.bytes.items ≡ overwrite at left.now self.old.bytes.items) }
         ensures longest { memory_longest_read self.new ≡ memory_longest_read self.old }
         ensures faults { self.new.faults ≡ self.old.faults }
+        ensures made { self.new.made ≡ self.old.made }
+        ensures lists { memory_lists self.new ≡ memory_lists self.old }
     {
         let next = with_bytes(self.alloc, &self.bytes, at as usize, left)?;
         let left = left.to_vec(self.alloc)?;
@@ -167,6 +178,8 @@ impl MemoryDisk {
         ensures done { OnOk result (self.new.bytes.items ≡ take len self.old.bytes.items ++ left.now) }
         ensures longest { memory_longest_read self.new ≡ memory_longest_read self.old }
         ensures faults { self.new.faults ≡ self.old.faults }
+        ensures made { self.new.made ≡ self.old.made }
+        ensures lists { memory_lists self.new ≡ memory_lists self.old }
     {
         let mut next = self.bytes[..len as usize].to_vec(self.alloc)?;
         next.extend_from_slice(left)?;
@@ -181,6 +194,8 @@ impl MemoryDisk {
         ensures told { IsWrite at (length bytes.now) (memory_tells self.old) (memory_tells self.new) }
         ensures longest { memory_longest_read self.new ≡ memory_longest_read self.old }
         ensures faults { self.new.faults ≡ self.old.faults }
+        ensures made { self.new.made ≡ self.old.made }
+        ensures lists { memory_lists self.new ≡ memory_lists self.old }
     {
         let left = filling(self.alloc, fill, bytes)?;
         self.write(at, bytes.len(), &left)
@@ -192,6 +207,8 @@ impl MemoryDisk {
         ensures told { IsCut len (memory_tells self.old) (memory_tells self.new) }
         ensures longest { memory_longest_read self.new ≡ memory_longest_read self.old }
         ensures faults { self.new.faults ≡ self.old.faults }
+        ensures made { self.new.made ≡ self.old.made }
+        ensures lists { memory_lists self.new ≡ memory_lists self.old }
     {
         let left = remains(self.alloc, fill, &self.bytes[len as usize..])?;
         self.cut_to(len, &left)
@@ -204,6 +221,8 @@ impl MemoryDisk {
         ensures failed { OnErr result ((c : List ℕ) → (memory_tells self.old).image c → (memory_tells self.new).image c) }
         ensures longest { memory_longest_read self.new ≡ memory_longest_read self.old }
         ensures faults { self.new.faults ≡ self.old.faults }
+        ensures made { self.new.made ≡ self.old.made }
+        ensures lists { memory_lists self.new ≡ memory_lists self.old }
     {
         self.note(DiskCall::Sync)
     }
@@ -214,6 +233,8 @@ impl MemoryDisk {
         ensures failed { (c : List ℕ) → (memory_tells self.old).image c → (memory_tells self.new).image c }
         ensures longest { memory_longest_read self.new ≡ memory_longest_read self.old }
         ensures faults { self.new.faults ≡ self.old.faults }
+        ensures made { self.new.made ≡ self.old.made }
+        ensures lists { memory_lists self.new ≡ memory_lists self.old }
     {
         let _ = self.note(DiskCall::FailedSync);
     }
@@ -243,9 +264,9 @@ fn filling(alloc: Global, fill: Fill, bytes: &[u8]) -> Result<Vec<u8>, AllocErro
     }
 }
 
-// Each call has the trait's clauses, and says what becomes of the longest read.
+// Each call has the trait's clauses, and says what becomes of the longest read and when it is one that fails.
 impl Disk for MemoryDisk {
-    ghost use Rattle.disk_model.specs.Memory.{memory_bytes, memory_tells, memory_faults, memory_longest_read};
+    ghost use Rattle.disk_model.specs.Memory.{memory_bytes, memory_tells, memory_faults, memory_longest_read, memory_made, memory_lists, fails_next};
 
     ghost tells = { λ d. telling d.start.items d.bytes.items d.calls.items };
 
@@ -259,6 +280,9 @@ impl Disk for MemoryDisk {
         ensures cause { OnErr result (Rose (memory_faults self.old) (memory_faults self.new)) }
         ensures unmoved { OnOk result (memory_faults self.new ≡ memory_faults self.old) }
         ensures longest { memory_longest_read self.new ≡ memory_longest_read self.old }
+        ensures fails { IsTrue (fails_next self.old) → IsErr result }
+        ensures counted { memory_made self.new ≡ next_count (memory_made self.old) }
+        ensures lists { memory_lists self.new ≡ memory_lists self.old }
     {
         match self.look(DiskCall::Len) {
             Turn::Works => Ok(self.bytes.len() as u64),
@@ -277,6 +301,9 @@ impl Disk for MemoryDisk {
         ensures longest { OnOk result (memory_longest_read self.new ≡ max (memory_longest_read self.old) (length buf.old)) }
         ensures no_less { memory_longest_read self.old ≤ memory_longest_read self.new }
         ensures no_more { memory_longest_read self.new ≤ max (memory_longest_read self.old) (length buf.old) }
+        ensures fails { IsTrue (fails_next self.old) → IsErr result }
+        ensures counted { memory_made self.new ≡ next_count (memory_made self.old) }
+        ensures lists { memory_lists self.new ≡ memory_lists self.old }
     {
         match self.look(DiskCall::Read { buffer: buf.len() }) {
             Turn::Works => Ok(copy_from(&self.bytes, at, buf)),
@@ -294,6 +321,9 @@ impl Disk for MemoryDisk {
         ensures cause { OnErr result (Rose (memory_faults self.old) (memory_faults self.new)) }
         ensures unmoved { OnOk result (memory_faults self.new ≡ memory_faults self.old) }
         ensures longest { memory_longest_read self.new ≡ memory_longest_read self.old }
+        ensures fails { IsTrue (fails_next self.old) → IsErr result }
+        ensures counted { memory_made self.new ≡ next_count (memory_made self.old) }
+        ensures lists { memory_lists self.new ≡ memory_lists self.old }
     {
         match self.turn() {
             Turn::Works => match self.write(at, bytes.len(), bytes) {
@@ -317,6 +347,9 @@ impl Disk for MemoryDisk {
         ensures cause { OnErr result (Rose (memory_faults self.old) (memory_faults self.new)) }
         ensures unmoved { OnOk result (memory_faults self.new ≡ memory_faults self.old) }
         ensures longest { memory_longest_read self.new ≡ memory_longest_read self.old }
+        ensures fails { IsTrue (fails_next self.old) → IsErr result }
+        ensures counted { memory_made self.new ≡ next_count (memory_made self.old) }
+        ensures lists { memory_lists self.new ≡ memory_lists self.old }
     {
         match self.turn() {
             Turn::Works => match self.cut_to(len, &[]) {
@@ -339,6 +372,9 @@ impl Disk for MemoryDisk {
         ensures cause { OnErr result (Rose (memory_faults self.old) (memory_faults self.new)) }
         ensures unmoved { OnOk result (memory_faults self.new ≡ memory_faults self.old) }
         ensures longest { memory_longest_read self.new ≡ memory_longest_read self.old }
+        ensures fails { IsTrue (fails_next self.old) → IsErr result }
+        ensures counted { memory_made self.new ≡ next_count (memory_made self.old) }
+        ensures lists { memory_lists self.new ≡ memory_lists self.old }
     {
         match self.turn() {
             Turn::Works => match self.record_sync() {
