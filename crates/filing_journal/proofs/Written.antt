@@ -1,15 +1,15 @@
--- What the images stand for when a gate is opened and the next payload is written ahead.
+-- What the images stand for when the next payload is written ahead and a gate is opened.
 use Rattle.std.proofs.Common.{◌≡◌, ◌⊎◌, inl, inr, ℕ, zero, suc, ◌+◌, ◌-◌, ◌<◌, ◌≤◌, List, [], ◌∷◌, ◌++◌, length, take, drop, refl, sym, ◌∙◌, ap, subst, arith, append_assoc, length-append, length-drop, take-append-drop}
 use Rattle.std.proofs.lemmas.List.{append-nil}
 use Rattle.std.specs.Prelude.{slice_set}
-use Rattle.disk_model.specs.Telling.{Telling, Torn, After, EachImage, EachMoment, IsKeptWrite, IsWrite, overwrite}
-use Rattle.disk_model.proofs.Moments.{torn_none, started, goes_on, weaken, join}
-use Rattle.filing_journal.specs.Ahead.{block_of, IsAhead, GateWrites, IsKeptGateWrites, with_gate_written}
+use Rattle.disk_model.specs.Telling.{Telling, Torn, EachImage, EachMoment, IsWrite, overwrite}
+use Rattle.disk_model.proofs.Moments.{started, goes_on}
+use Rattle.filing_journal.specs.Ahead.{block_of, IsAhead, HasNext}
 use Rattle.filing_journal.specs.Stands.{Payloads, StandsFor, WithGateOpen, gate_place, front_of, body_of}
 use Rattle.filing_journal.specs.declared.header.Header.{Header}
 use Rattle.filing_journal.proofs.Headers.{length-front_of}
-use Rattle.filing_journal.proofs.Bytes.{torn_length, torn_front, overwrite_front, length-take_le, length-slice_set}
-use Rattle.filing_journal.proofs.Gates.{gate_in, gate_torn, gate_written, gate_place-push, staged}
+use Rattle.filing_journal.proofs.Bytes.{torn_front, overwrite_set, length-take_le, length-slice_set}
+use Rattle.filing_journal.proofs.Gates.{gate_in, gate_inside, gate_place-push, staged}
 
 -- a block of a payload that is one
 pub block_some : (p : List ℕ) → 1 ≤ length p → block_of p ≡ body_of p ++ 0 ∷ []
@@ -43,10 +43,9 @@ overwrite_none at file =
     let same : at + 0 ≡ at = omega arith in
     ap (λ (n : ℕ). take at file ++ [] ++ drop n file) same ∙ ap (λ (l : List ℕ). l ++ drop at file) (append-nil (take at file)) ∙ take-append-drop at file
 
--- where no payload is written ahead, the gate alone is written
-pub opened_none : (gate behind : ℕ) (next file : List ℕ) → next ≡ [] → overwrite gate (1 ∷ []) file ≡ with_gate_written gate behind next file
-opened_none gate behind next file none =
-    sym (ap (λ (l : List ℕ). with_gate_written gate behind l file) none ∙ overwrite_none (behind + 1) (overwrite gate (1 ∷ []) file))
+-- where there is none, nothing is written
+pub none_written : (at : ℕ) (next file : List ℕ) → next ≡ [] → file ≡ overwrite at (block_of next) file
+none_written at next file none = sym (ap (λ (l : List ℕ). overwrite at (block_of l) file) none ∙ overwrite_none at file)
 
 -- a torn write makes a file no longer than its own end and the file's
 pub torn_within : (d c : List ℕ) (at n end : ℕ) → length d ≤ end → at + n ≤ end → Torn at n d c → length c ≤ end
@@ -106,70 +105,62 @@ ahead_torn header d c h p n s torn =
 pub ahead_in : (header : Header) (d : List ℕ) (h : Payloads) (p : List ℕ) → WithGateOpen header h p d → gate_place (h ++ p ∷ []) + 1 ≤ length d
 ahead_in header d h p s = omega (arith, gate_in header (slice_set d (gate_place h) 1) (h ++ p ∷ []) s, length-slice_set d (gate_place h) 1)
 
--- the two writes, torn or not, leave the payload behind its gate
-pub opening_torn : (header : Header) (d c : List ℕ) (h : Payloads) (p : List ℕ) (gate behind n : ℕ) → gate ≡ gate_place h → behind ≡ gate_place (h ++ p ∷ [])
-    → WithGateOpen header h p d → GateWrites gate behind n d c → WithGateOpen header h p c
-opening_torn header d c h p gate behind n place next s step =
-    let first = gate_torn header d step.0 h p s (subst (λ (k : ℕ). Torn k 1 d step.0) place step.1) in
-    ahead_torn header step.0 c h p n first (subst (λ (k : ℕ). Torn (k + 1) n step.0 c) next step.2)
+set_front : (xs ys : List ℕ) (k v : ℕ) → k < length xs → slice_set (xs ++ ys) k v ≡ slice_set xs k v ++ ys
+set_front [] ys k v lt = absurd (omega (arith, lt))
+set_front (x ∷ xs) ys zero v lt = refl
+set_front (x ∷ xs) ys (suc k) v lt = ap (λ (l : List ℕ). x ∷ l) (set_front xs ys k v (omega (arith, lt)))
 
--- and make it no longer than its own end and that of the second write
-pub opening_within : (d c : List ℕ) (gate behind n end : ℕ) → gate < behind → length d ≤ end → behind + 1 + n ≤ end → GateWrites gate behind n d c → length c ≤ end
-opening_within d c gate behind n end lt le in_end step =
-    torn_within step.0 c (behind + 1) n end (torn_within d step.0 gate 1 end le (omega (arith, lt, in_end)) step.1) in_end step.2
+-- a byte before a write may be set before it or behind it
+overwrite_set_before : (file bytes : List ℕ) (k v at : ℕ) → k < at → at ≤ length file → slice_set (overwrite at bytes file) k v ≡ overwrite at bytes (slice_set file k v)
+overwrite_set_before file bytes k v at lt inside =
+    let size : length (take at file) ≡ at = length-take_le at file inside in
+    let rest = drop (at + length bytes) file in
+    set_front (take at file ++ bytes) rest k v (omega (arith, lt, size, length-append (take at file) bytes))
+    ∙ ap (λ (l : List ℕ). l ++ rest) (set_front (take at file) bytes k v (omega (arith, lt, size)))
+    ∙ ap (λ (l : List ℕ). l ++ bytes ++ rest) (sym (take-set at file k v))
+    ∙ ap (λ (l : List ℕ). take at (slice_set file k v) ++ bytes ++ l) (sym (drop-set (at + length bytes) file k v (omega (arith, lt))))
 
--- what is written behind the gate leaves what the file stands for
-overwrite_keeps : (header : Header) (d c : List ℕ) (h : Payloads) (block : List ℕ) → StandsFor header d h → c ≡ overwrite (gate_place h + 1) block d → StandsFor header c h
-overwrite_keeps header d c h block s is =
-    let front = front_of header h ++ s.gate ∷ [] in
-    let at = gate_place h + 1 in
-    let whole : d ≡ front ++ s.free = s.whole ∙ sym (append_assoc (front_of header h) (s.gate ∷ []) s.free) in
-    let place : at ≡ length front = omega (arith, length-front_of header h, length-append (front_of header h) (s.gate ∷ [])) in
-    let rest = block ++ drop (at + length block) (front ++ s.free) in
-    record {
-      gate = s.gate;
-      free = rest;
-      closed = s.closed;
-      whole = is ∙ ap (λ (l : List ℕ). overwrite at block l) whole ∙ overwrite_front front s.free block at place ∙ append_assoc (front_of header h) (s.gate ∷ []) rest;
-      sizes = s.sizes;
-    }
+-- once the next payload is written whole behind a staged one, the file with both gates open stands for both
+pub next_written : (header : Header) (d c : List ℕ) (h : Payloads) (p next : List ℕ) (behind : ℕ) → behind ≡ gate_place (h ++ p ∷ []) → length next ≤ 8192
+    → WithGateOpen header h p d → c ≡ overwrite (behind + 1) (block_of next) d → HasNext header h p next c
+next_written header d c h p next behind place fits s is some =
+    let k = gate_place h in
+    let at = gate_place (h ++ p ∷ []) + 1 in
+    let block = body_of next ++ 0 ∷ [] in
+    let whole : c ≡ overwrite at block d = is ∙ ap (λ (g : ℕ). overwrite (g + 1) (block_of next) d) place ∙ ap (λ (l : List ℕ). overwrite at l d) (block_some next some) in
+    staged header (slice_set d k 1) (slice_set c k 1) (h ++ p ∷ []) next (record { some = some; fits = fits }) s
+    (ap (λ (l : List ℕ). slice_set l k 1) whole ∙ overwrite_set_before d block k 1 at (omega (arith, gate_place-push h p)) (ahead_in header d h p s))
 
--- once both writes are on the disk, the file stands for the payloads with it
-pub opened_stands : (header : Header) (d c : List ℕ) (h : Payloads) (p next : List ℕ) (gate behind : ℕ) → gate ≡ gate_place h → behind ≡ gate_place (h ++ p ∷ [])
-    → WithGateOpen header h p d → c ≡ with_gate_written gate behind next d → StandsFor header c (h ++ p ∷ [])
-opened_stands header d c h p next gate behind place after s is =
-    let m = overwrite gate (1 ∷ []) d in
-    overwrite_keeps header m c (h ++ p ∷ []) (block_of next) (gate_written header d m h p s (ap (λ (k : ℕ). overwrite k (1 ∷ []) d) place))
-    (is ∙ ap (λ (k : ℕ). overwrite (k + 1) (block_of next) m) after)
+-- and once the gate of the first is open, the next stands behind its gate
+pub opened_ahead : (header : Header) (d c : List ℕ) (h : Payloads) (p next : List ℕ) (gate : ℕ) → gate ≡ gate_place h → WithGateOpen header h p d → HasNext header h p next d
+    → c ≡ overwrite gate (1 ∷ []) d → 1 ≤ length next → WithGateOpen header (h ++ p ∷ []) next c
+opened_ahead header d c h p next gate place s there is some =
+    subst (λ (l : List ℕ). WithGateOpen header (h ++ p ∷ []) next l)
+    (sym (is ∙ ap (λ (k : ℕ). overwrite k (1 ∷ []) d) place ∙ overwrite_set d (gate_place h) 1 (gate_inside header d h p s))) (there some)
 
--- and has the next one behind its gate
-pub opened_ahead : (header : Header) (d c : List ℕ) (h : Payloads) (p next : List ℕ) (gate behind : ℕ) → gate ≡ gate_place h → behind ≡ gate_place (h ++ p ∷ [])
-    → WithGateOpen header h p d → 1 ≤ length next → length next ≤ 8192 → c ≡ with_gate_written gate behind next d → WithGateOpen header (h ++ p ∷ []) next c
-opened_ahead header d c h p next gate behind place after s some fits is =
-    let m = overwrite gate (1 ∷ []) d in
-    staged header m c (h ++ p ∷ []) next (record { some = some; fits = fits }) (gate_written header d m h p s (ap (λ (k : ℕ). overwrite k (1 ∷ []) d) place))
-    (is ∙ ap (λ (k : ℕ). overwrite (k + 1) (block_of next) m) after ∙ ap (λ (l : List ℕ). overwrite (gate_place (h ++ p ∷ []) + 1) l m) (block_some next some))
+-- a write behind a staged payload, done or failed, leaves it
+pub next_staged : (header : Header) (old new : Telling) (h : Payloads) (p : List ℕ) (behind n : ℕ) → behind ≡ gate_place (h ++ p ∷ [])
+    → EachImage old (WithGateOpen header h p) → IsWrite (behind + 1) n old new → EachImage new (WithGateOpen header h p)
+next_staged header old new h p behind n place staged write c now =
+    let from = write.images c now in
+    ahead_torn header from.0 c h p n (staged from.0 from.1) (subst (λ (k : ℕ). Torn (k + 1) n from.0 c) place from.2)
 
--- the first write alone, done or failed
-pub opening_begun : (old new : Telling) (gate behind n : ℕ) → ((c : List ℕ) → old.image_since old.moment c → old.image c) → IsWrite gate 1 old new → IsKeptGateWrites gate behind n old new
-opening_begun old new gate behind n only write = record {
-  images = λ c now. let from = write.images c now in (from.0, from.1, (c, from.2, torn_none (behind + 1) n c));
-  moments = goes_on old old new (After (GateWrites gate behind n) old.image)
-      (started old (After (GateWrites gate behind n) old.image) (λ c since. (c, only c since, (c, torn_none gate 1 c, torn_none (behind + 1) n c))))
-      write.time (λ c now. let from = write.images c now in (from.0, from.1, (c, from.2, torn_none (behind + 1) n c)));
-}
+-- and what the file stands for
+pub next_stands : (header : Header) (old new : Telling) (h : Payloads) (p : List ℕ) (behind n : ℕ) → behind ≡ gate_place (h ++ p ∷ [])
+    → EachImage old (λ file. StandsFor header file h) → EachImage old (WithGateOpen header h p) → IsWrite (behind + 1) n old new → EachImage new (λ file. StandsFor header file h)
+next_stands header old new h p behind n place each staged write c now =
+    let from = write.images c now in
+    behind_keeps header from.0 c h (behind + 1) n (each from.0 from.1) (omega (arith, place, gate_place-push h p))
+    (omega (arith, place, ahead_in header from.0 h p (staged from.0 from.1))) from.2
 
--- both writes and the sync, done or failed
-pub opening_kept : (old mid new : Telling) (gate behind n : ℕ) → ((c : List ℕ) → old.image_since old.moment c → old.image c) → IsWrite gate 1 old mid → IsKeptWrite (behind + 1) n mid new
-    → IsKeptGateWrites gate behind n old new
-opening_kept old mid new gate behind n only first second =
-    let begun = opening_begun old mid gate behind n only first in
-    let both : (c : List ℕ) → After (Torn (behind + 1) n) mid.image c → After (GateWrites gate behind n) old.image c = λ c after.
-    let from = first.images after.0 after.1 in (from.0, from.1, (after.0, from.2, after.2)) in
-    record {
-      images = λ c now. both c (second.images c now);
-      moments = join old mid new (After (GateWrites gate behind n) old.image) begun.moments (weaken mid new (After (Torn (behind + 1) n) mid.image) (After (GateWrites gate behind n) old.image) both second.moments);
-    }
+-- nothing was written ahead
+pub none_ahead : (header : Header) (told : Telling) (h : Payloads) (ahead : List ℕ) → ahead ≡ [] → IsAhead header told h ahead
+none_ahead header told h ahead none some = absurd (omega (arith, some, ap length none))
+
+-- and what was written ahead, which is that payload or nothing
+pub next_ahead : (header : Header) (told : Telling) (h : Payloads) (p ahead : List ℕ) → (ahead ≡ p) ⊎ (ahead ≡ []) → EachImage told (WithGateOpen header h p) → IsAhead header told h ahead
+next_ahead header told h p ahead (inl is) staged = λ some. subst (λ (q : List ℕ). EachImage told (WithGateOpen header h q)) (sym is) staged
+next_ahead header told h p ahead (inr none) staged = none_ahead header told h ahead none
 
 -- what was written ahead, if anything, lies in the file with its closed gate
 pub ahead_inside : (header : Header) (d : List ℕ) (h : Payloads) (ahead : List ℕ) → StandsFor header d h → (1 ≤ length ahead → WithGateOpen header h ahead d)
@@ -199,9 +190,3 @@ pub lengthened_moments : (header : Header) (old new : Telling) (h : Payloads) (a
 lengthened_moments header old new h ahead at n only place each stands write =
     goes_on old old new (λ file. StandsFor header file h) (started old (λ file. StandsFor header file h) (λ c since. each c (only c since)))
     write.time (lengthened_stands header old new h ahead at n place each stands write)
-
--- where no payload is written ahead, the file keeps its length
-pub opening_length : (d c : List ℕ) (gate behind n : ℕ) → n ≡ 0 → gate + 1 ≤ length d → behind + 1 ≤ length d → GateWrites gate behind n d c → length c ≡ length d
-opening_length d c gate behind n none inside room step =
-    let first : length step.0 ≡ length d = torn_length d step.0 gate 1 inside step.1 in
-    torn_length step.0 c (behind + 1) n (omega (arith, none, room, first)) step.2 ∙ first

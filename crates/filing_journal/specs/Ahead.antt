@@ -1,7 +1,7 @@
--- A payload that is written before it is put, and what opening a gate writes.
-use Rattle.std.specs.Prelude.{ℕ, ◌+◌, ◌≤◌, List, [], ◌∷◌, ◌++◌, length}
-use Rattle.disk_model.specs.Telling.{Telling, Torn, After, Follow, EachImage, EachMoment, overwrite}
-use Rattle.filing_journal.specs.Stands.{Payloads, WithGateOpen, body_of}
+-- A payload that is written before it is put.
+use Rattle.std.specs.Prelude.{ℕ, ◌≤◌, List, [], ◌∷◌, ◌++◌, length, slice_set}
+use Rattle.disk_model.specs.Telling.{Telling, EachImage}
+use Rattle.filing_journal.specs.Stands.{Payloads, WithGateOpen, body_of, gate_place}
 use Rattle.filing_journal.specs.declared.header.Header.{Header}
 
 -- what is written of a payload behind its gate, with a closed gate behind it; of none nothing
@@ -13,15 +13,7 @@ block_of (byte ∷ bytes) = body_of (byte ∷ bytes) ++ 0 ∷ []
 abbrev pub IsAhead : Header → Telling → Payloads → List ℕ → Type 0
 IsAhead header told payloads ahead = 1 ≤ length ahead → EachImage told (WithGateOpen header payloads ahead)
 
--- a gate was written, and a block of n bytes behind the next gate, each of them torn or not
-abbrev pub GateWrites : (gate behind n : ℕ) → List ℕ → List ℕ → Type 0
-GateWrites gate behind n old new = (between : List ℕ) × Torn gate 1 old between × Torn (behind + 1) n between new
-
--- the two writes and a sync behind them, done or failed
-pub record IsKeptGateWrites (gate behind n : ℕ) (old new : Telling) : Type 0 where
-  pub images : Follow (GateWrites gate behind n) old.image new.image
-  pub moments : EachMoment old new (After (GateWrites gate behind n) old.image)
-
--- the bytes after the two writes
-abbrev pub with_gate_written : (gate behind : ℕ) → List ℕ → List ℕ → List ℕ
-with_gate_written gate behind next old = overwrite (behind + 1) (block_of next) (overwrite gate (1 ∷ []) old)
+-- The file, once the gate byte behind the payloads and the one behind this payload are set to 1, stands for them with this one and
+-- the next, where there is a next one.
+abbrev pub HasNext : Header → Payloads → (payload next : List ℕ) → List ℕ → Type 0
+HasNext header payloads payload next file = 1 ≤ length next → WithGateOpen header (payloads ++ payload ∷ []) next (slice_set file (gate_place payloads) 1)

@@ -5,7 +5,7 @@ ghost use Rattle.filing_journal.specs.Ahead.{block_of};
 use std::marker::Model;
 
 /// The greatest length of a payload that is written ahead.
-const MOST_AHEAD: usize = 512;
+pub(crate) const MOST_AHEAD: usize = 512;
 
 /// A payload that stands behind the closed gate before it is put, or none. A contract sees its bytes: none where it is none.
 #[derive(Drop)]

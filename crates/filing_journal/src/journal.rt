@@ -1,13 +1,13 @@
 // Records behind gates. A payload is on the disk before its gate is opened, by a write of its own.
-ghost use Rattle.std.specs.Prelude.{◌≡◌, ◌+◌, ◌*◌, ◌<◌, ◌≤◌, ◌^◌, ◌++◌, [], ◌∷◌, List, ℕ, true, false, length, None, OnOk, OnErr, IfErr};
+ghost use Rattle.std.specs.Prelude.{◌≡◌, ◌⊎◌, ◌+◌, ◌*◌, ◌<◌, ◌≤◌, ◌^◌, ◌++◌, [], ◌∷◌, List, ℕ, true, false, length, None, OnOk, OnErr, IfErr};
 ghost use Rattle.std.specs.Option.{ForSome};
 ghost use Rattle.disk_model.specs.Faults.{Rose};
-ghost use Rattle.disk_model.specs.Telling.{IsHonest, EachMoment, EachImage, IsKept, IsKeptWrite, overwrite};
-ghost use Rattle.filing_journal.specs.Ahead.{block_of, IsKeptGateWrites, with_gate_written};
+ghost use Rattle.disk_model.specs.Telling.{IsHonest, EachMoment, EachImage, IsKept, IsKeptWrite, IsWrite, overwrite};
+ghost use Rattle.filing_journal.specs.Ahead.{block_of, HasNext};
 ghost use Rattle.filing_journal.specs.Stands.{Payloads, StandsFor, IsPayload, BeforeOrWith, EndsBehind, WithGateOpen, body_of, gate_place};
 ghost use Rattle.filing_journal.specs.declared.header.Header.{Header};
 
-use crate::ahead::{Ahead, part_ahead};
+use crate::ahead::{Ahead, MOST_AHEAD, part_ahead};
 use aid_edges::CAPACITY;
 use disk_model::{Disk, Failed, write_kept};
 
@@ -77,26 +77,27 @@ fn write_record<D: Disk>(disk: &mut D, gate: u64, payload: &[u8]) -> Result<(), 
     write_kept(disk, gate + 1, &block[..size])
 }
 
-// Opens a gate, and writes a payload behind the next one, where there is one. One sync keeps both.
-fn open_gate<D: Disk>(disk: &mut D, gate: u64, behind: u64, next: &[u8]) -> Result<(), Failed>
-    requires fits { length next.now ≤ 8192 }
-    requires order { gate < behind }
-    requires end { behind + 1 < 2 ^ 64 }
-    requires inside { IsHonest (D.tells disk.old) → behind + 1 ≤ length (D.tells disk.old).reads }
+// Writes a payload behind a closed gate, where there is one, and a closed gate behind it. No sync keeps them yet.
+fn write_ahead<D: Disk>(disk: &mut D, gate: u64, next: &[u8]) -> Result<(), Failed>
+    requires fits { length next.now ≤ 512 }
+    requires end { gate + 1 < 2 ^ 64 }
+    requires inside { IsHonest (D.tells disk.old) → gate + 1 ≤ length (D.tells disk.old).reads }
     ensures honest { (D.tells disk.new).honest ≡ (D.tells disk.old).honest }
     ensures told { IsHonest (D.tells disk.old)
-        → IsKeptGateWrites gate behind (length (block_of next.now)) (D.tells disk.old) (D.tells disk.new) }
+        → IsWrite (gate + 1) (length (block_of next.now)) (D.tells disk.old) (D.tells disk.new) }
     ensures done { IsHonest (D.tells disk.old)
-        → OnOk result (IsKept (with_gate_written gate behind next.now (D.tells disk.old).reads) (D.tells disk.new)) }
+        → OnOk result ((D.tells disk.new).reads ≡ overwrite (gate + 1) (block_of next.now) (D.tells disk.old).reads) }
     ensures later { D.faults disk.old ≤ D.faults disk.new }
     ensures cause { OnErr result (Rose (D.faults disk.old) (D.faults disk.new)) }
     ensures unmoved { OnOk result (D.faults disk.new ≡ D.faults disk.old) }
 {
     if next.is_empty() {
-        return write_kept(disk, gate, &[OPEN]);
+        return Ok(());
     }
-    disk.write_at(gate, &[OPEN])?;
-    write_record(disk, behind, next)
+    let size = next.len() + 5;
+    let mut block = [0; MOST_AHEAD + 5];
+    fill(&mut block[..size], next);
+    disk.write_at(gate + 1, &block[..size])
 }
 
 impl<D: Disk> Journal<D> {
@@ -136,7 +137,8 @@ impl<D: Disk> Journal<D> {
 
     /// Makes the file longer, where that is allowed: by 4,096 zeros behind the closed gate and what was written ahead, unless
     /// payloads of so many bytes surely end before the zeros that were written so far. They stand for nothing: a sync of bytes
-    /// inside a file takes less time than one of a file that got longer. It takes no memory.
+    /// inside a file takes less time than one of a file that got longer. Where they can't be written, the file is made no longer
+    /// from then on. It takes no memory.
     pub fn lengthen(&mut self, size: usize) -> Result<(), Failed>
         requires decided { IsDecided self.old }
         requires size { size ≤ 16384 }
@@ -144,8 +146,9 @@ impl<D: Disk> Journal<D> {
         requires stands { IsHonest (D.tells (journal_disk self.old))
             → (header : Header) × ((before : Payloads) × Keeps D.Disk header self.old before) }
 
-        // Where it isn't allowed nothing is done, and where it is, no more than that is written.
+        // Where it isn't allowed nothing is done, and where it is, no more than that is written. After a fault it isn't.
         ensures unasked { ¬ (MayLengthen self.old) → self.new ≡ self.old }
+        ensures tried_once { OnErr result (¬ (MayLengthen self.new)) }
         ensures within { IsHonest (D.tells (journal_disk self.old))
             → (header : Header) (before : Payloads) → Keeps D.Disk header self.old before
             → (end : ℕ) → EachImage (D.tells (journal_disk self.old)) (λ file. length file ≤ end)
@@ -172,7 +175,10 @@ impl<D: Disk> Journal<D> {
         if end + size as u64 + 2 * AROUND <= lengthened {
             return Ok(());
         }
-        self.disk.write_at(end, &ZEROS)?;
+        if self.disk.write_at(end, &ZEROS).is_err() {
+            self.lengthened = None;
+            return Err(Failed);
+        }
         self.lengthened = Some(end + ZEROS.len() as u64);
         Ok(())
     }
@@ -233,8 +239,9 @@ impl<D: Disk> Journal<D> {
     }
 
     /// The same put. `next`, where it isn't empty, is the payload that will likely be put after it: where it has at most
-    /// 512 bytes it is written ahead, behind a closed gate, by the same sync that keeps this one's gate. A put of a payload that
-    /// was written ahead takes this one sync. It takes no memory.
+    /// 512 bytes it is written ahead, behind a closed gate, before this one's gate is opened, and the sync that keeps the gate keeps
+    /// it too. A put of a payload that was written ahead takes this one sync. Where the next one can't be written, this one isn't
+    /// put, and nothing is undecided. It takes no memory.
     pub fn put_ahead(&mut self, payload: &[u8], next: &[u8]) -> Result<(), PutError>
         requires decided { IsDecided self.old }
         requires payload { IsPayload payload.now }
@@ -285,11 +292,12 @@ impl<D: Disk> Journal<D> {
         ensures cause { OnErr result (Rose (D.faults (journal_disk self.old)) (D.faults (journal_disk self.new))) }
         ensures unmoved { OnOk result (D.faults (journal_disk self.new) ≡ D.faults (journal_disk self.old)) }
     {
-        if self.stage(payload).is_err() {
+        let next = part_ahead(next);
+        if self.stage_with_next(payload, next).is_err() {
             return Err(PutError::DiskFault { undecided: false });
         }
         self.undecided = Some(payload.len());
-        self.open(part_ahead(next))
+        self.open(next)
     }
 
     /// Opens the gate of the undecided payload, again. It takes no memory.
@@ -342,7 +350,8 @@ impl<D: Disk> Journal<D> {
             → OnOk result (EachImage (D.tells (journal_disk self.new)) (WithGateOpen header before payload.now)) }
         ensures still { IsHonest (D.tells (journal_disk self.old))
             → (header : Header) (before : Payloads) → Keeps D.Disk header self.old before
-            → OnErr result (Keeps D.Disk header self.new before) }
+            → Keeps D.Disk header self.new before }
+        ensures ahead { (self.new.ahead ≡ payload.now) ⊎ (self.new.ahead ≡ []) }
         ensures moments { IsHonest (D.tells (journal_disk self.old))
             → (header : Header) (before : Payloads) → Keeps D.Disk header self.old before
             → EachMoment (D.tells (journal_disk self.old)) (D.tells (journal_disk self.new)) (λ file. StandsFor header file before) }
@@ -366,7 +375,46 @@ impl<D: Disk> Journal<D> {
         write_record(&mut self.disk, self.gate, payload)
     }
 
-    // Opens the gate of the undecided payload, and writes another one ahead, where there is one.
+    // Stages a payload, and writes the next one ahead, behind the closed gate that stands behind it, where there is one.
+    fn stage_with_next(&mut self, payload: &[u8], next: &[u8]) -> Result<(), Failed>
+        requires payload { IsPayload payload.now }
+        requires next { length next.now ≤ 512 }
+        requires room { journal_count self.old < 2 ^ 32 }
+        requires stands { IsHonest (D.tells (journal_disk self.old))
+            → (header : Header) × ((before : Payloads) × Keeps D.Disk header self.old before) }
+        ensures honest { (D.tells (journal_disk self.new)).honest ≡ (D.tells (journal_disk self.old)).honest }
+        ensures staged { IsHonest (D.tells (journal_disk self.old))
+            → (header : Header) (before : Payloads) → Keeps D.Disk header self.old before
+            → OnOk result (EachImage (D.tells (journal_disk self.new)) (WithGateOpen header before payload.now)) }
+        ensures next { IsHonest (D.tells (journal_disk self.old))
+            → (header : Header) (before : Payloads) → Keeps D.Disk header self.old before
+            → OnOk result (HasNext header before payload.now next.now (D.tells (journal_disk self.new)).reads) }
+        ensures still { IsHonest (D.tells (journal_disk self.old))
+            → (header : Header) (before : Payloads) → Keeps D.Disk header self.old before
+            → OnErr result (Keeps D.Disk header self.new before) }
+        ensures moments { IsHonest (D.tells (journal_disk self.old))
+            → (header : Header) (before : Payloads) → Keeps D.Disk header self.old before
+            → EachMoment (D.tells (journal_disk self.old)) (D.tells (journal_disk self.new)) (λ file. StandsFor header file before) }
+        ensures ends { IsHonest (D.tells (journal_disk self.old))
+            → (header : Header) (before : Payloads) → Keeps D.Disk header self.old before
+            → (end : ℕ) → EachImage (D.tells (journal_disk self.old)) (λ file. length file ≤ end)
+            → gate_place (before ++ payload.now ∷ []) + 1 + length (block_of next.now) ≤ end
+            → EachImage (D.tells (journal_disk self.new)) (λ file. length file ≤ end) }
+        ensures alone { IsHonest (D.tells (journal_disk self.old)) → next.now ≡ []
+            → (header : Header) (before : Payloads) → Keeps D.Disk header self.old before
+            → EndsBehind before (D.tells (journal_disk self.old)).reads
+            → OnOk result (EachImage (D.tells (journal_disk self.new)) (EndsBehind (before ++ payload.now ∷ []))) }
+        ensures same { (self.new.gate ≡ self.old.gate) × (self.new.count ≡ self.old.count) × (self.new.undecided ≡ self.old.undecided) }
+        ensures later { D.faults (journal_disk self.old) ≤ D.faults (journal_disk self.new) }
+        ensures cause { OnErr result (Rose (D.faults (journal_disk self.old)) (D.faults (journal_disk self.new))) }
+        ensures unmoved { OnOk result (D.faults (journal_disk self.new) ≡ D.faults (journal_disk self.old)) }
+    {
+        self.stage(payload)?;
+        let behind = self.gate + payload.len() as u64 + AROUND;
+        write_ahead(&mut self.disk, behind, next)
+    }
+
+    // Opens the gate of the undecided payload, behind which this one was written ahead, where there is one. The sync keeps both.
     fn open(&mut self, next: &[u8]) -> Result<(), PutError>
         requires undecided { HasUndecided self.old }
         requires next { length next.now ≤ 512 }
@@ -375,6 +423,7 @@ impl<D: Disk> Journal<D> {
         ensures honest { (D.tells (journal_disk self.new)).honest ≡ (D.tells (journal_disk self.old)).honest }
         ensures kept { IsHonest (D.tells (journal_disk self.old))
             → (header : Header) (before : Payloads) (payload : List ℕ) → MayKeep D.Disk header self.old before payload
+            → HasNext header before payload next.now (D.tells (journal_disk self.old)).reads
             → OnOk result (Keeps D.Disk header self.new (before ++ payload ∷ [])) }
         ensures still { IsHonest (D.tells (journal_disk self.old))
             → (header : Header) (before : Payloads) (payload : List ℕ) → MayKeep D.Disk header self.old before payload
@@ -382,16 +431,13 @@ impl<D: Disk> Journal<D> {
         ensures moments { IsHonest (D.tells (journal_disk self.old))
             → (header : Header) (before : Payloads) (payload : List ℕ) → MayKeep D.Disk header self.old before payload
             → EachMoment (D.tells (journal_disk self.old)) (D.tells (journal_disk self.new)) (BeforeOrWith header before payload) }
-        ensures ends { IsHonest (D.tells (journal_disk self.old))
-            → (header : Header) (before : Payloads) (payload : List ℕ) → MayKeep D.Disk header self.old before payload
-            → (end : ℕ) → EachImage (D.tells (journal_disk self.old)) (λ file. length file ≤ end)
-            → gate_place (before ++ payload ∷ []) + 1 + length (block_of next.now) ≤ end
-            → EachImage (D.tells (journal_disk self.new)) (λ file. length file ≤ end) }
-        ensures length { IsHonest (D.tells (journal_disk self.old)) → next.now ≡ []
+
+        // No image gets longer or shorter.
+        ensures lengths { IsHonest (D.tells (journal_disk self.old))
+            → (file : List ℕ) → (D.tells (journal_disk self.new)).image file
+            → (old : List ℕ) × (D.tells (journal_disk self.old)).image old × (length file ≡ length old) }
+        ensures length { IsHonest (D.tells (journal_disk self.old))
             → OnOk result (length (D.tells (journal_disk self.new)).reads ≡ length (D.tells (journal_disk self.old)).reads) }
-        ensures lengths { IsHonest (D.tells (journal_disk self.old)) → next.now ≡ [] → (n : ℕ)
-            → EachImage (D.tells (journal_disk self.old)) (λ file. length file ≡ n)
-            → EachImage (D.tells (journal_disk self.new)) (λ file. length file ≡ n) }
         ensures refusal { IfErr result (λ e. e ≡ PutError.DiskFault true) }
         ensures count { OnOk result (journal_count self.new ≡ journal_count self.old + 1) }
         ensures decided { OnOk result (IsDecided self.new) }
@@ -402,11 +448,10 @@ impl<D: Disk> Journal<D> {
         ensures unmoved { OnOk result (D.faults (journal_disk self.new) ≡ D.faults (journal_disk self.old)) }
     {
         if let Some(n) = self.undecided {
-            let behind = self.gate + n as u64 + 5;
-            if open_gate(&mut self.disk, self.gate, behind, next).is_err() {
+            if write_kept(&mut self.disk, self.gate, &[OPEN]).is_err() {
                 return Err(PutError::DiskFault { undecided: true });
             }
-            self.gate = behind;
+            self.gate += n as u64 + AROUND;
             self.count += 1;
             self.undecided = None;
             self.ahead.set(next);

@@ -12,14 +12,14 @@ write_at-requires g c honest =
     let now = g.met.D.Disk.reads_as_image disk honest in
     omega (arith, keep.gate, c.block_size.ensures.size, ahead_inside header reads h c.args.self.now.ahead (keep.each reads now) (λ some. keep.ahead some reads now))
 
-pub returns-in_err-write_at-clause-kept : goal.returns-in_err-write_at-clause-kept
-returns-in_err-write_at-clause-kept g c honest header h keep =
+pub returns-then-is_err-clause-kept : goal.returns-then-is_err-clause-kept
+returns-then-is_err-clause-kept g c honest header h keep =
     let self = c.args.self.now in
     let old = g.D.Disk.tells self.disk in
     let new = g.D.Disk.tells c.write_at.new.self in
     let at = self.gate + 1 + c.block_size.result in
     let place : at ≡ gate_place h + 1 + length (block_of self.ahead) = omega (arith, keep.gate, c.block_size.ensures.size) in
-    let write = c.in_err-write_at.ensures.told honest in
+    let write = c.write_at.ensures.told honest in
     record {
       each = lengthened_stands header old new h self.ahead at 4096 place keep.each keep.ahead write;
       ahead = lengthened_ahead header old new h self.ahead at 4096 place keep.ahead write;
@@ -28,12 +28,12 @@ returns-in_err-write_at-clause-kept g c honest header h keep =
       count = keep.count;
     }
 
-pub returns-in_err-write_at-clause-moments : goal.returns-in_err-write_at-clause-moments
-returns-in_err-write_at-clause-moments g c honest header h keep =
+pub returns-then-is_err-clause-moments : goal.returns-then-is_err-clause-moments
+returns-then-is_err-clause-moments g c honest header h keep =
     let self = c.args.self.now in
     let at = self.gate + 1 + c.block_size.result in
     lengthened_moments header (g.D.Disk.tells self.disk) (g.D.Disk.tells c.write_at.new.self) h self.ahead at 4096
-    (λ x since. g.met.D.Disk.only_now self.disk x honest since) (omega (arith, keep.gate, c.block_size.ensures.size)) keep.each keep.ahead (c.in_err-write_at.ensures.told honest)
+    (λ x since. g.met.D.Disk.only_now self.disk x honest since) (omega (arith, keep.gate, c.block_size.ensures.size)) keep.each keep.ahead (c.write_at.ensures.told honest)
 
 pub returns-clause-kept : goal.returns-clause-kept
 returns-clause-kept g c honest header h keep =
@@ -42,7 +42,7 @@ returns-clause-kept g c honest header h keep =
     let new = g.D.Disk.tells c.write_at.new.self in
     let at = self.gate + 1 + c.block_size.result in
     let place : at ≡ gate_place h + 1 + length (block_of self.ahead) = omega (arith, keep.gate, c.block_size.ensures.size) in
-    let write = c.in_ok-write_at.ensures.told honest in
+    let write = c.write_at.ensures.told honest in
     record {
       each = lengthened_stands header old new h self.ahead at 4096 place keep.each keep.ahead write;
       ahead = lengthened_ahead header old new h self.ahead at 4096 place keep.ahead write;
@@ -56,14 +56,14 @@ returns-clause-moments g c honest header h keep =
     let self = c.args.self.now in
     let at = self.gate + 1 + c.block_size.result in
     lengthened_moments header (g.D.Disk.tells self.disk) (g.D.Disk.tells c.write_at.new.self) h self.ahead at 4096
-    (λ x since. g.met.D.Disk.only_now self.disk x honest since) (omega (arith, keep.gate, c.block_size.ensures.size)) keep.each keep.ahead (c.in_ok-write_at.ensures.told honest)
+    (λ x since. g.met.D.Disk.only_now self.disk x honest since) (omega (arith, keep.gate, c.block_size.ensures.size)) keep.each keep.ahead (c.write_at.ensures.told honest)
 
-pub returns-in_err-write_at-clause-within : goal.returns-in_err-write_at-clause-within
-returns-in_err-write_at-clause-within g c honest header h keep end each room x now =
-    let from = (c.in_err-write_at.ensures.told honest).images x now in
+pub returns-then-is_err-clause-within : goal.returns-then-is_err-clause-within
+returns-then-is_err-clause-within g c honest header h keep end each room x now =
+    let from = (c.write_at.ensures.told honest).images x now in
     torn_within from.0 x (c.args.self.now.gate + 1 + c.block_size.result) 4096 end (each from.0 from.1) (omega (arith, room, keep.gate, c.block_size.ensures.size)) from.2
 
 pub returns-clause-within : goal.returns-clause-within
 returns-clause-within g c honest header h keep end each room x now =
-    let from = (c.in_ok-write_at.ensures.told honest).images x now in
+    let from = (c.write_at.ensures.told honest).images x now in
     torn_within from.0 x (c.args.self.now.gate + 1 + c.block_size.result) 4096 end (each from.0 from.1) (omega (arith, room, keep.gate, c.block_size.ensures.size)) from.2

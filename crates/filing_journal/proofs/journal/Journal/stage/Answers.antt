@@ -2,9 +2,9 @@ use Rattle.std.proofs.Common.{◌≡◌, ◌+◌, [], ◌∷◌, ◌++◌, List,
 use Rattle.disk_model.specs.Telling.{Torn, After, IsKept, EachImage, overwrite}
 use Rattle.disk_model.proofs.Moments.{weaken}
 use Rattle.filing_journal.specs.Stands.{StandsFor, EndsBehind, WithGateOpen, IsPayload, body_of}
-use Rattle.filing_journal.proofs.Exits.{on_ok_map, on_err_any}
+use Rattle.filing_journal.proofs.Exits.{on_ok_map}
 use Rattle.filing_journal.proofs.Gates.{stage_keeps, staged_images, staged_ends, gate_place-push}
-use Rattle.filing_journal.proofs.Written.{ahead_in, torn_within}
+use Rattle.filing_journal.proofs.Written.{ahead_in, torn_within, none_ahead}
 use Rattle.filing_journal.proofs.journal.Journal.stage.Goals as goal
 
 pub returns-clause-staged : goal.returns-clause-staged
@@ -20,9 +20,9 @@ returns-clause-staged g c honest header h keep =
 pub returns-clause-still : goal.returns-clause-still
 returns-clause-still g c honest header h keep =
     let told = c.write_record.ensures.told honest in
-    on_err_any c.write_record.result _ record {
+    record {
       each = λ x now. let from = told.images x now in stage_keeps header from.0 x h _ (keep.each from.0 from.1) (subst (λ k. Torn (k + 1) (length c.args.payload.now + 5) from.0 x) keep.gate from.2);
-      ahead = λ some. absurd (omega (arith, some, ap length c.set.ensures));
+      ahead = none_ahead header (g.D.Disk.tells c.write_record.new.disk) h c.set.new.self c.set.ensures;
       decided = keep.decided;
       gate = keep.gate;
       count = keep.count;
