@@ -1,14 +1,15 @@
 //! What is read of the filings so far to judge an application, a payment or a withdrawal: the facts that its rules are tried
 //! on, and what its outcome is worked out from. Each row is asked for once, but for the book of an application, which is asked
 //! for with its position.
-ghost use Rattle.std.specs.Prelude.{◌≡◌, ◌+◌, ◌*◌, ◌≤◌, Some, None};
+ghost use Rattle.std.specs.Prelude.{◌≡◌, ◌+◌, ◌*◌, ◌≤◌, Some, None, IsSome, IsTrue};
 ghost use Rattle.aid_types.specs.Programs.{rank as rank_of};
 ghost use Rattle.aid_filings.specs.declared.filing.What.TheVariants.{Apply, Withdraw};
 ghost use Rattle.office_history.specs.Answer.{indexed};
 ghost use Rattle.office_history.specs.Award.{unfit_under};
 ghost use Rattle.office_history.specs.FactsOf.{aid_facts as aid_facts_of, facts_of, payment_facts as payment_facts_of};
 ghost use Rattle.office_history.specs.Net.{used_else as used_else_of};
-ghost use Rattle.office_history.specs.Past.{the_book};
+ghost use Rattle.office_history.specs.FirstEnrolments.{places_of};
+ghost use Rattle.office_history.specs.Past.{the_book, the_term};
 ghost use Rattle.office_history.specs.Rows.{place_row, student_row, term_row, terms_at, year_row};
 ghost use Rattle.office_answers.specs.Walked.{walked};
 
@@ -57,6 +58,7 @@ pub(crate) fn application_facts<P: OnFile, L: Ledger>(
     ensures facts { result.facts ≡ facts_of (P.history past.now) key.now (Apply filed.now) }
     ensures brought { unfit_under (the_book (P.history past.now) filed.now.year) filed.now ≡ None
         → result.brought ≡ indexed (the_book (P.history past.now) filed.now.year) (Some filed.now) }
+    ensures later { steps.old ≤ steps.new }
     ensures cost { steps.new ≤ steps.old + 5 * P.looks past.now + 4 * walked (P.history past.now) key.now.school (Some filed.now.student) }
 {
     let book = past.book(filed.year, steps);
@@ -114,6 +116,7 @@ fn aid_facts<P: OnFile, L: Ledger>(
     ensures term { result.term ≡ term_row (P.history past.now) school award_year number }
     ensures place { result.place ≡ place_row (P.history past.now) school student award_year number }
     ensures year { result.year ≡ year_row (P.history past.now) student award_year }
+    ensures later { steps.old ≤ steps.new }
     ensures cost { steps.new ≤ steps.old + 4 * P.looks past.now + 4 * terms_at (P.history past.now) school }
 {
     let (desk, term) = past.term(school, award_year, number, steps);
@@ -155,6 +158,9 @@ pub(crate) fn payment_facts<P: OnFile, L: Ledger>(
     ensures facts { result.facts ≡ payment_facts_of (P.history past.now) school student year number (rank_of program) }
     ensures year { result.year ≡ year_row (P.history past.now) student year }
     ensures student { result.student ≡ student_row (P.history past.now) student }
+    ensures later { steps.old ≤ steps.new }
+    ensures walked { IsTrue (P.counts past.now) → IsSome (the_term (P.history past.now) school year number)
+        → steps.old + 3 * places_of (P.history past.now) student ≤ steps.new }
     ensures cost { steps.new ≤ steps.old + 5 * P.looks past.now + 4 * walked (P.history past.now) school (Some student) }
 {
     let aid = aid_facts(past, school, student, year, number, steps);
@@ -187,6 +193,7 @@ pub(crate) fn withdrawal_facts<P: OnFile, L: Ledger>(
     ensures facts { result.facts ≡ facts_of (P.history past.now) key.now (Withdraw withdrawal.now) }
     ensures term { result.term ≡ term_row (P.history past.now) key.now.school withdrawal.now.year withdrawal.now.term }
     ensures place { result.place ≡ place_row (P.history past.now) key.now.school withdrawal.now.student withdrawal.now.year withdrawal.now.term }
+    ensures later { steps.old ≤ steps.new }
     ensures cost { steps.new ≤ steps.old + 5 * P.looks past.now + 4 * walked (P.history past.now) key.now.school (Some withdrawal.now.student) }
 {
     let (student, year) = (withdrawal.student, withdrawal.year);

@@ -23,6 +23,7 @@ pub(crate) fn noted_facts<P: OnFile, L: Ledger>(
 ) -> Facts
     requires { IsNoted filing.now.what }
     ensures value { result ≡ facts_of (P.history past.now) filing.now.key filing.now.what }
+    ensures later { steps.old ≤ steps.new }
     ensures cost { steps.new ≤ steps.old + 5 * P.looks past.now + 4 * walked (P.history past.now) filing.now.key.school (student_of filing.now.what) }
 {
     let key = &filing.key;
@@ -90,6 +91,7 @@ fn calendar_facts<P: OnFile, L: Ledger>(
     steps: &mut Steps<L>,
 ) -> Facts
     ensures value { result ≡ facts_of (P.history past.now) key.now (Calendar calendar.now) }
+    ensures later { steps.old ≤ steps.new }
     ensures cost { steps.new ≤ steps.old + P.looks past.now + 4 * walked (P.history past.now) key.now.school None }
 {
     let filings = past.front();
@@ -110,6 +112,7 @@ fn enrolment_facts<P: OnFile, L: Ledger>(
     steps: &mut Steps<L>,
 ) -> Facts
     ensures value { result ≡ facts_of (P.history past.now) key.now (Enrol filed.now) }
+    ensures later { steps.old ≤ steps.new }
     ensures cost { steps.new ≤ steps.old + 3 * P.looks past.now + 4 * terms_at (P.history past.now) key.now.school }
 {
     let (school, term) = past.term(key.school, filed.year, filed.term, steps);
@@ -131,6 +134,7 @@ fn repayment_facts<P: OnFile, L: Ledger>(
     steps: &mut Steps<L>,
 ) -> Facts
     ensures value { result ≡ facts_of (P.history past.now) key.now (Repay filed.now) }
+    ensures later { steps.old ≤ steps.new }
     ensures cost { steps.new ≤ steps.old + 2 * P.looks past.now }
 {
     let place = past.place(key.school, filed.student, filed.year, filed.term, steps);
@@ -149,6 +153,7 @@ fn adjustment_facts<P: OnFile, L: Ledger>(
     steps: &mut Steps<L>,
 ) -> Facts
     ensures value { result ≡ facts_of (P.history past.now) key.now (Adjust filed.now) }
+    ensures later { steps.old ≤ steps.new }
     ensures cost { steps.new ≤ steps.old + 2 * P.looks past.now + 4 * terms_at (P.history past.now) key.now.school }
 {
     let (school, term) = past.term(key.school, filed.year, filed.term, steps);

@@ -1,8 +1,10 @@
 //! Quotes, and where a student stands, over whatever keeps what is on file.
-ghost use Rattle.std.specs.Prelude.{◌≡◌, ℕ, ◌+◌, ◌*◌, ◌<◌, ◌≤◌, Some, None};
+ghost use Rattle.std.specs.Prelude.{◌≡◌, ℕ, ◌+◌, ◌*◌, ◌<◌, ◌≤◌, Some, None, IsSome, IsTrue};
 ghost use Rattle.std.specs.Option.{option_copied};
 ghost use Rattle.rule_lines.specs.RuleLines.{first_broken};
 ghost use Rattle.office_history.specs.Answer.{quote_of, standing_of, standing_under};
+ghost use Rattle.office_history.specs.FirstEnrolments.{places_of};
+ghost use Rattle.office_history.specs.Past.{the_term};
 ghost use Rattle.office_history.specs.Rows.{filing_in, told_application};
 ghost use Rattle.office_history.specs.Rules.{payment_rules};
 ghost use Rattle.office_answers.specs.Walked.{walked};
@@ -32,6 +34,9 @@ pub fn quote<P: OnFile, L: Ledger>(
     ensures below { (dollars : ℕ) → 0 < dollars → 100 * dollars ≤ result
         → first_broken (payment_rules (P.history past.now) school student year term 3 (100 * dollars)) ≡ None }
     ensures at_most { result ≤ 99999900 }
+    ensures later { steps.old ≤ steps.new }
+    ensures walked { IsTrue (P.counts past.now) → IsSome (the_term (P.history past.now) school year term)
+        → steps.old + 3 * places_of (P.history past.now) student ≤ steps.new }
     ensures cost { steps.new ≤ steps.old + 5 * P.looks past.now + 4 * walked (P.history past.now) school (Some student) }
 {
     // The front tells that what is on file is legal.
@@ -50,6 +55,7 @@ pub fn standing<P: OnFile, L: Ledger>(
     steps: &mut Steps<L>,
 ) -> StandingRow
     ensures value { result ≡ standing_of (P.history past.now) student year }
+    ensures later { steps.old ≤ steps.new }
     ensures cost { steps.new ≤ steps.old + 3 * P.looks past.now }
 {
     let book = past.book(year, steps);

@@ -1,5 +1,5 @@
 //! The verdict on a filing, and with what it is admitted, over whatever keeps what is on file.
-ghost use Rattle.std.specs.Prelude.{◌≡◌, ◌+◌, ◌*◌, ◌≤◌, sum};
+ghost use Rattle.std.specs.Prelude.{◌≡◌, ◌≢◌, ◌+◌, ◌-◌, ◌*◌, ◌^◌, ◌≤◌, IsTrue, length, sum};
 ghost use Rattle.aid_filings.specs.Students.{student_of};
 ghost use Rattle.aid_filings.specs.declared.filing.What.TheVariants.{Apply, Pay, Withdraw};
 ghost use Rattle.aid_filings.specs.declared.reply.Outcome.TheVariants.{Returned};
@@ -7,6 +7,7 @@ ghost use Rattle.aid_types.specs.Ranges.{EachIsCents, IsBetween};
 ghost use Rattle.office_history.specs.Answer.{IsLegal, answer_of, breaks, judged};
 ghost use Rattle.office_answers.specs.Brought.{IsWithPayment, paid_with};
 ghost use Rattle.office_answers.specs.Noted.{IsNoted};
+ghost use Rattle.office_history.specs.Past.{key_at};
 ghost use Rattle.office_history.specs.Rows.{student_row, year_row};
 ghost use Rattle.office_answers.specs.Walked.{walked};
 
@@ -27,6 +28,10 @@ use withdrawal_returns::Lines;
 #[tactic(auto, using(crate::proofs::Judged::answer_other, crate::proofs::Judged::nothing_there, crate::proofs::Judged::judged_new))]
 pub fn answer<P: OnFile, L: Ledger>(past: &P, filing: &Filing, steps: &mut Steps<L>) -> Verdict
     ensures value { result ≡ answer_of (P.history past.now) filing.now }
+    ensures later { steps.old ≤ steps.new }
+    ensures met { IsTrue (P.counts past.now) → key_at filing.now.key (P.history past.now) ≢ 0 → steps.old + 1 ≤ steps.new }
+    ensures missed { IsTrue (P.counts past.now) → key_at filing.now.key (P.history past.now) ≡ 0
+        → length (P.history past.now) + 2 ≤ 2 ^ (steps.new - steps.old + 1) }
     ensures cost { steps.new ≤ steps.old + 6 * P.looks past.now + 4 * walked (P.history past.now) filing.now.key.school (student_of filing.now.what) }
 {
     let _filings = past.front();
@@ -50,6 +55,7 @@ pub fn answer<P: OnFile, L: Ledger>(past: &P, filing: &Filing, steps: &mut Steps
 fn judge<P: OnFile, L: Ledger>(past: &P, filing: &Filing, steps: &mut Steps<L>) -> Verdict
     requires legal { IsLegal (P.history past.now) }
     ensures value { result ≡ judged (P.history past.now) filing.now (breaks (P.history past.now) filing.now) }
+    ensures later { steps.old ≤ steps.new }
     ensures cost { steps.new ≤ steps.old + 5 * P.looks past.now + 4 * walked (P.history past.now) filing.now.key.school (student_of filing.now.what) }
 {
     match &filing.what {
@@ -66,6 +72,7 @@ fn judge_noted<P: OnFile, L: Ledger>(past: &P, filing: &Filing, steps: &mut Step
     requires legal { IsLegal (P.history past.now) }
     requires noted { IsNoted filing.now.what }
     ensures value { result ≡ judged (P.history past.now) filing.now (breaks (P.history past.now) filing.now) }
+    ensures later { steps.old ≤ steps.new }
     ensures cost { steps.new ≤ steps.old + 5 * P.looks past.now + 4 * walked (P.history past.now) filing.now.key.school (student_of filing.now.what) }
 {
     let facts = noted_facts(past, filing, steps);
@@ -86,6 +93,7 @@ fn judge_application<P: OnFile, L: Ledger>(
     requires legal { IsLegal (P.history past.now) }
     requires what { filing.now.what ≡ Apply application.now }
     ensures value { result ≡ judged (P.history past.now) filing.now (breaks (P.history past.now) filing.now) }
+    ensures later { steps.old ≤ steps.new }
     ensures cost { steps.new ≤ steps.old + 5 * P.looks past.now + 4 * walked (P.history past.now) filing.now.key.school (student_of filing.now.what) }
 {
     let read = application_facts(past, &filing.key, application, steps);
@@ -106,6 +114,7 @@ fn judge_payment<P: OnFile, L: Ledger>(
     requires legal { IsLegal (P.history past.now) }
     requires what { filing.now.what ≡ Pay payment.now }
     ensures value { result ≡ judged (P.history past.now) filing.now (breaks (P.history past.now) filing.now) }
+    ensures later { steps.old ≤ steps.new }
     ensures cost { steps.new ≤ steps.old + 5 * P.looks past.now + 4 * walked (P.history past.now) filing.now.key.school (student_of filing.now.what) }
 {
     let Amount {
@@ -133,6 +142,7 @@ fn judge_withdrawal<P: OnFile, L: Ledger>(
     requires legal { IsLegal (P.history past.now) }
     requires what { filing.now.what ≡ Withdraw withdrawal.now }
     ensures value { result ≡ judged (P.history past.now) filing.now (breaks (P.history past.now) filing.now) }
+    ensures later { steps.old ≤ steps.new }
     ensures cost { steps.new ≤ steps.old + 5 * P.looks past.now + 4 * walked (P.history past.now) filing.now.key.school (student_of filing.now.what) }
 {
     let read = withdrawal_facts(past, &filing.key, withdrawal, steps);

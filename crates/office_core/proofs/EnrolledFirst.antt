@@ -13,7 +13,8 @@ use Rattle.office_history.specs.Answer.{IsLegal}
 use Rattle.office_history.specs.Names.{place_name}
 use Rattle.office_history.specs.declared.rows.PlaceRow.{PlaceRow}
 use Rattle.office_changes.specs.Changed.{IsPlaceBefore, place_changed}
-use Rattle.office_walks.specs.Links.{before_in, is_first, newest_place}
+use Rattle.office_history.specs.FirstEnrolments.{is_first}
+use Rattle.office_walks.specs.Links.{before_in, newest_place}
 use Rattle.office_walks.proofs.EnrolmentsFirst.{no_credits}
 use Rattle.office_core.specs.Index.{AreStudents, student_entry, student_or}
 use Rattle.office_core.specs.declared.entries.StudentEntry.{StudentEntry}

@@ -28,9 +28,9 @@ pub record AreRows (past : List Filing) (rows : IndexRows) : Type 0 where
   pub school_years : AreSchoolYears past rows.school_years
   pub links : AreLinked past rows.places rows.befores rows.links
 
--- and has at most one row more
+-- and has at most one row more, that of the keys one more
 pub record HaveOneMore (old new : IndexRows) : Type 0 where
-  pub keys : length new.keys ≤ length old.keys + 1
+  pub keys : length new.keys ≡ length old.keys + 1
   pub books : length new.books ≤ length old.books + 1
   pub schools : length new.schools ≤ length old.schools + 1
   pub students : length new.students ≤ length old.students + 1
@@ -51,7 +51,7 @@ grown past f outcomes o old new legal brought before rows more = record {
   years = rows.years;
   school_years = rows.school_years;
   links = rows.links;
-  few_keys = omega (arith, more.keys, before.few_keys);
+  all_keys = omega (arith, more.keys, before.all_keys);
   few_books = omega (arith, more.books, before.few_books);
   few_schools = omega (arith, more.schools, before.few_schools);
   few_students = omega (arith, more.students, before.few_students);

@@ -2,6 +2,7 @@ mod AnswerLaws
 mod AtPosition
 mod Digits
 mod IndexGrown
+mod Looked
 mod NetTold
 mod NoRows
 mod OtherRules

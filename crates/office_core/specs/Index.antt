@@ -132,7 +132,7 @@ pub record IndexRows : Type 0 where
   pub befores : List ℕ
   pub links : List EnrolmentLink
 
--- they tell what is on file, and no table has more rows than there are filings
+-- they tell what is on file; there are as many keys as filings, and no table has more rows
 pub record IsIndexed (past : List Filing) (outcomes : List Outcome) (rows : IndexRows) : Type 0 where
   pub legal : IsLegal past
   pub outcomes_kept : outcomes ≡ outcomes_of past
@@ -144,7 +144,7 @@ pub record IsIndexed (past : List Filing) (outcomes : List Outcome) (rows : Inde
   pub years : AreYears past rows.years
   pub school_years : AreSchoolYears past rows.school_years
   pub links : AreLinked past rows.places rows.befores rows.links
-  pub few_keys : length rows.keys ≤ length past
+  pub all_keys : length rows.keys ≡ length past
   pub few_books : length rows.books ≤ length past
   pub few_schools : length rows.schools ≤ length past
   pub few_students : length rows.students ≤ length past

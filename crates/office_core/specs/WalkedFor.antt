@@ -1,5 +1,5 @@
--- How many rows an ask may walk over: the terms of the school and the enrolments of the student that are asked about. Where a
--- student stands is told without a walk.
+-- How many rows an ask may walk over: the terms of the school that is asked about, and the terms at schools in which the student
+-- is enrolled. Where a student stands is told without a walk.
 use Rattle.std.specs.Prelude.{ℕ, List, Some}
 use Rattle.aid_filings.specs.Students.{student_of}
 use Rattle.aid_filings.specs.declared.filing.Filing.{Filing}

@@ -70,7 +70,7 @@ pub(crate) fn write_key(keys: &mut Table<FilingNumber, u32>, filing: &Filing, po
     requires room { 1 ≤ keys.old.room }
     ensures rows { (past : List Filed) → position ≡ length past + 1 → key_at filing.now.key past ≡ 0 → AreKeys past keys.old.rows → AreKeys (filing.now ∷ past) keys.new.rows }
     ensures room { keys.old.room ≤ keys.new.room + 1 }
-    ensures count { length keys.new.rows ≤ length keys.old.rows + 1 }
+    ensures count { length keys.new.rows ≡ length keys.old.rows + 1 }
 {
     let name = FilingNumber {
         number: filing.key.number,

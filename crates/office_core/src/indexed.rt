@@ -216,6 +216,7 @@ impl Indexed {
     // The school with a code and its newest term.
     fn school_entry<L: Ledger>(&self, code: u32, steps: &mut Steps<L>) -> SchoolEntry
         ensures value { result ≡ school_entry self.now.history code }
+        ensures later { steps.old ≤ steps.new }
         ensures cost { steps.new ≤ steps.old + 2 * digits_of (length self.now.history) }
     {
         school_told(self.schools.get(&code, steps))
@@ -224,6 +225,7 @@ impl Indexed {
     // A student and the newest enrolment that is the first in its place.
     fn student_entry<L: Ledger>(&self, student: Student, steps: &mut Steps<L>) -> StudentEntry
         ensures value { result ≡ student_entry self.now.history student }
+        ensures later { steps.old ≤ steps.new }
         ensures cost { steps.new ≤ steps.old + 2 * digits_of (length self.now.history) }
     {
         student_told(self.students.get(&student.0, steps))
@@ -231,12 +233,14 @@ impl Indexed {
 }
 
 impl OnFile for Indexed {
-    ghost use Rattle.std.specs.Prelude.{◌*◌, length};
+    ghost use Rattle.std.specs.Prelude.{◌*◌, length, true};
     ghost use Rattle.office_core.specs.Digits.{digits_of};
 
     ghost history = { λ o. o.history };
 
     ghost looks = { λ o. 2 * digits_of (length o.history) };
+
+    ghost counts = { λ o. true };
 
     fn front(&self) -> u32 {
         self.filings.as_slice().len() as u32

@@ -1,5 +1,5 @@
 //! The office.
-ghost use Rattle.std.specs.Prelude.{◌≡◌, ◌≢◌, ◌↔◌, ◌+◌, ◌*◌, ◌^◌, ◌<◌, ◌≤◌, ◌∷◌, [], ℕ, Some, None, max, length, reverse, IsTrue, is_some, IsOk, IsSome, IfSome, OnOk, OnErr};
+ghost use Rattle.std.specs.Prelude.{◌≡◌, ◌≢◌, ◌↔◌, ◌+◌, ◌-◌, ◌*◌, ◌^◌, ◌<◌, ◌≤◌, ◌∷◌, [], ℕ, Some, None, max, length, reverse, IsTrue, is_some, IsOk, IsSome, IfSome, OnOk, OnErr};
 ghost use Rattle.std.specs.List.{AllPairs};
 ghost use Rattle.std.specs.Option.{option_copied};
 ghost use Rattle.aid_filings.specs.declared.filing.Amount.{Amount};
@@ -14,7 +14,8 @@ ghost use Rattle.aid_filings.specs.declared.reply.Verdict.TheVariants.{Admit, Ag
 ghost use Rattle.aid_types.specs.Programs.{rank as rank_of};
 ghost use Rattle.office_history.specs.Answer.{breaks, outcome_of, outcome_at, answer_of, answer_to, is_admit, quote_of, standing_of, IsLegal};
 ghost use Rattle.office_history.specs.Net.{cell_at, net_at as net_of_cell};
-ghost use Rattle.office_history.specs.Past.{key_at};
+ghost use Rattle.office_history.specs.FirstEnrolments.{places_of};
+ghost use Rattle.office_history.specs.Past.{key_at, the_term};
 ghost use Rattle.office_history.specs.Within.{IsWithinEveryLimit};
 ghost use Rattle.office_history.specs.Rows.{filing_in, place_row, school_row, school_year_row};
 ghost use Rattle.office_core.specs.Register.{IsKeyUsedAt, IsPellPayment};
@@ -203,7 +204,7 @@ impl Office {
 
     /// The verdict on an ask: `judge`, `quote` or `standing`. It changes nothing and takes no memory. `steps` counts the
     /// looks at rows of an index: at most twelve for each binary digit of the number of filings, and four for each term of the
-    /// school and each enrolment of the student that are asked about.
+    /// school that is asked about and each term at a school in which the student is enrolled.
     pub fn ask<L: Ledger>(&self, ask: &Ask, steps: &mut Steps<L>) -> Verdict
         ensures answer { result ≡ answer_to self.now.history ask.now }
 
@@ -234,6 +235,16 @@ impl Office {
         // Without an application in force nothing is paid.
         ensures unpaid { (student year : ℕ) → (row : Row) → ask.now ≡ StandingAsked student year → result ≡ Standing row
             → row.transaction ≡ 0 → row.paid ≡ 0 }
+
+        // The search for a filing's key is counted: one look at least where the key stands, and about one for each binary digit
+        // of the number of filings where it doesn't. So is the walk along the student's terms where a quote's term is on file:
+        // three looks at least for each.
+        ensures met { (filing : Filed) → ask.now ≡ FileAsked filing → key_at filing.key self.now.history ≢ 0 → steps.old + 1 ≤ steps.new }
+        ensures missed { (filing : Filed) → ask.now ≡ FileAsked filing → key_at filing.key self.now.history ≡ 0
+            → length self.now.history + 2 ≤ 2 ^ (steps.new - steps.old + 1) }
+        ensures walked { (school student year term : ℕ) → ask.now ≡ QuoteAsked school student year term
+            → IsSome (the_term self.now.history school year term) → steps.old + 3 * places_of self.now.history student ≤ steps.new }
+        ensures later { steps.old ≤ steps.new }
         ensures counted { (digits : ℕ) → length self.now.history < 2 ^ digits
             → steps.new ≤ steps.old + 12 * digits + 4 * walked_for self.now.history ask.now }
     {

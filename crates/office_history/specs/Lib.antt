@@ -14,3 +14,4 @@ pub mod FiledTerms
 pub mod Names
 pub mod Own
 pub mod Rows
+pub mod FirstEnrolments

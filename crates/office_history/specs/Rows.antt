@@ -1,6 +1,6 @@
 -- What is on file of one thing, told of a history.
 use Rattle.std.specs.Prelude.{ℕ, zero, suc, ◌==◌, ◌&&◌, Bool, false, not, List, length, reverse, Option, Some, None}
-use Rattle.std.specs.List.{count_by, filter, slice_get}
+use Rattle.std.specs.List.{filter, slice_get}
 use Rattle.aid_filings.specs.Calendars.{term_of}
 use Rattle.aid_filings.specs.declared.filing.CalendarFacts.{CalendarFacts}
 use Rattle.aid_filings.specs.declared.filing.Filing.{Filing}
@@ -93,13 +93,11 @@ school_year_row past school student year = record {
 abbrev pub student_row : List Filing → ℕ → StudentRow
 student_row past student = record { prior_at = prior_at past student; pell_at = pell_at past student; used = used past student }
 
--- how many terms a school has on file, and how many enrolments stand of a student
+-- how many terms a school has on file
 abbrev pub terms_at : List Filing → ℕ → ℕ
 terms_at past school = length (filter (λ t. t.school == school) (terms_on_file past))
 
+-- what is filed is an enrolment of the student
 abbrev pub is_enrolment : ℕ → What → Bool
 is_enrolment student (Enrol e) = e.student == student
 is_enrolment student _ = false
-
-abbrev pub enrolments_of : List Filing → ℕ → ℕ
-enrolments_of past student = count_by (λ f. is_enrolment student f.what) past

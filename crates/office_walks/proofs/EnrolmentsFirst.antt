@@ -1,10 +1,8 @@
--- The first enrolments of a student: each term at a school that the student enrolled in has one, and there are no more of them
--- than enrolments.
-use Rattle.std.proofs.Common.{◌≡◌, ℕ, ◌+◌, ◌≤◌, refl, sym, ap, subst, ◌∙◌, arith, cond, Bool, true, false, ◌&&◌, ◌||◌, not, Option, Some, None, ◌⊎◌, inl, inr, List, [], ◌∷◌, length, zero-le, eq-eqb, eqb-true}
+-- The first enrolments of a student: each term at a school that the student enrolled in has one.
+use Rattle.std.proofs.Common.{◌≡◌, ℕ, ◌≤◌, refl, sym, ap, subst, ◌∙◌, arith, cond, Bool, true, false, ◌&&◌, ◌||◌, not, Option, Some, None, ◌⊎◌, inl, inr, List, [], ◌∷◌, eq-eqb, eqb-true}
 use Rattle.std.specs.Prelude.{◌==◌, is_some, nat_lt}
 use Rattle.std.specs.List.{Contains, list_any}
 use Rattle.std.proofs.lemmas.Bool.{and_parts}
-use Rattle.std.proofs.lemmas.List.Sums.{sum_by-cons}
 use Rattle.aid_types.specs.declared.number.Key.{Key}
 use Rattle.aid_filings.specs.declared.filing.EnrolFacts.{EnrolFacts}
 use Rattle.aid_filings.specs.declared.filing.Filing.{Filing}
@@ -14,9 +12,8 @@ use Rattle.office_history.specs.Answer.{IsLegal, breaks}
 use Rattle.office_history.specs.Rules.{rules_of}
 use Rattle.office_history.specs.Past.{amount_or, at_school, credits, credits_in, given, if_here, later, latest}
 use Rattle.rule_lines.proofs.Holds.{all_hold}
-use Rattle.office_history.specs.Rows.{enrolments_of, is_enrolment}
 use Rattle.office_history.proofs.Among.{among_cases, among_head, among_rest}
-use Rattle.office_walks.specs.Links.{enrols_in, first_enrolments, is_first, is_first_in, is_first_of, places_of}
+use Rattle.office_history.specs.FirstEnrolments.{enrols_in, first_enrolments, is_first, is_first_in, is_first_of}
 
 -- an enrolment as a filing
 abbrev enrolling : Key → EnrolFacts → Filing
@@ -167,19 +164,3 @@ enrols student past school (Pay b) h = absurd cc
 enrols student past school (Withdraw b) h = absurd cc
 enrols student past school (Repay b) h = absurd cc
 enrols student past school (Adjust b) h = absurd cc
-
--- so there are no more of them than enrolments
-pub few_places : (past : List Filing) (student : ℕ) → places_of past student ≤ enrolments_of past student
-few_places [] student = zero-le
-few_places (f ∷ past) student =
-    let more = sum_by-cons (λ g. cond (is_enrolment student g.what) 1 0) f past in
-    let step = one (is_first_of student past f) refl (few_places past student) in
-    omega (arith, more, step)
-  where
-    one : (b : Bool) → is_first_of student past f ≡ b → places_of past student ≤ enrolments_of past student →
-        length (cond b (f ∷ first_enrolments past student) (first_enrolments past student)) ≤ cond (is_enrolment student f.what) 1 0 + enrolments_of past student
-    one true e ih =
-        let w = enrols student past f.key.school f.what e in
-        let own : is_enrolment student f.what ≡ true = ap (is_enrolment student) w.1 ∙ w.2 in
-        rw own (omega arith)
-    one false e ih = omega arith

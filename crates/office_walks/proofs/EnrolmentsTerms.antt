@@ -29,7 +29,7 @@ use Rattle.office_history.proofs.LeastNumbers.{code_tells, told_least, told_none
 use Rattle.office_history.proofs.LeastTerms.{nothing_found}
 use Rattle.office_history.proofs.TermsOnFile.{coded_terms, over_found}
 use Rattle.office_walks.specs.Enrolments.{comes_before, first_over, if_own, is_beside, is_beside_in, is_term_beside, least_school, over_in, over_of, refusal_of, shares, term_over_in}
-use Rattle.office_walks.specs.Links.{first_enrolments}
+use Rattle.office_history.specs.FirstEnrolments.{first_enrolments}
 use Rattle.office_walks.specs.declared.enrolments.Over.{Over}
 use Rattle.office_walks.proofs.EnrolmentsFirst.{IsFirstEnrolled, first_enrolled}
 use Rattle.office_walks.proofs.EnrolmentsLeast.{AreCoded, CodeFound, FirstFound, IsAtMost, IsNotBefore, code_below, code_found, first_below, first_found}

@@ -14,7 +14,8 @@ use Rattle.office_history.specs.Past.{terms_on_file}
 use Rattle.office_history.specs.Rows.{is_enrolment}
 use Rattle.office_history.specs.declared.rows.PlaceRow.{PlaceRow}
 use Rattle.office_walks.specs.Enrolments.{IsEnrolment, earlier_over, first_over, is_beside, least_school, over_of, refusal_of}
-use Rattle.office_walks.specs.Links.{AreLinked, first_enrolments, is_enrolled, is_first_of, places_of}
+use Rattle.office_history.specs.FirstEnrolments.{first_enrolments, is_first_of, places_of}
+use Rattle.office_walks.specs.Links.{AreLinked, is_enrolled}
 use Rattle.office_walks.specs.declared.enrolments.Over.{Over}
 use Rattle.office_walks.specs.declared.links.EnrolmentLink.{EnrolmentLink}
 use Rattle.office_history.specs.declared.names.StudentPlace.{StudentPlace}
@@ -77,13 +78,13 @@ pub record IsBesideWalk (past : List Filing) (school student : ℕ) (this : Term
   pub along : IsAlong (is_first_of student) past older position
   pub value : least_school (is_beside past school student this) (first_enrolments past student) 0 ≡ least_school (is_beside past school student this) (first_enrolments older student) least
   pub few : steps + 4 * places_of older student ≤ begun + 4 * places_of past student
-  pub counted : begun + 2 * places_of past student ≤ steps + 2 * places_of older student
+  pub counted : begun + 3 * places_of past student ≤ steps + 3 * places_of older student
 
 pub beside_step : (h : List Filing) (befores : List ℕ) (links : List EnrolmentLink) (rows : List (StudentPlace × PlaceRow)) (school student : ℕ) (this : Term) (n least steps begun : ℕ) →
     IsLegal (reverse h) → AreLinked (reverse h) rows befores links → IsBesideWalk (reverse h) school student this n least steps begun → 0 < n →
     (f : Filing) → f ≡ get_or h (n - 1) f → (k : ℕ) (next later : ℕ) →
     next ≡ lesser_code (is_beside (reverse h) school student this f) f.key.school least →
-    later ≤ steps + 4 → steps + 2 ≤ later → IsBesideWalk (reverse h) school student this (get_or befores (n - 1) k) next later begun
+    later ≤ steps + 4 → steps + 3 ≤ later → IsBesideWalk (reverse h) school student this (get_or befores (n - 1) k) next later begun
 beside_step h befores links rows school student this n least steps begun legal linked w pos f read k next later is cheap looked =
     let s = step h befores links rows student w.older n legal linked w.along pos in
     let fewer = one_fewer h befores links rows student w.older n legal linked w.along pos in
@@ -106,7 +107,7 @@ beside_end past school student this n least steps begun legal w e =
     sym all ∙ code_beside past legal student school this
 
 pub beside_looks : (past : List Filing) (school student : ℕ) (this : Term) (n least steps begun : ℕ) → IsBesideWalk past school student this n least steps begun → n ≡ 0 →
-    begun + 2 * places_of past student ≤ steps
+    begun + 3 * places_of past student ≤ steps
 beside_looks past school student this n least steps begun w e =
     let none : places_of w.older student ≡ 0 = ap (λ (fs : List Filing). length fs) (none_left past w.older student n w.along e) in
     let all = w.counted in
@@ -118,13 +119,13 @@ pub record IsOverWalk (past : List Filing) (award student year position : ℕ) (
   pub along : IsAlong (is_first_of student) past older position
   pub value : first_over (over_of past award student year) (first_enrolments past student) None ≡ first_over (over_of past award student year) (first_enrolments older student) first
   pub few : steps + 4 * places_of older student ≤ begun + 4 * places_of past student
-  pub counted : begun + 2 * places_of past student ≤ steps + 2 * places_of older student
+  pub counted : begun + 3 * places_of past student ≤ steps + 3 * places_of older student
 
 pub over_step : (h : List Filing) (befores : List ℕ) (links : List EnrolmentLink) (rows : List (StudentPlace × PlaceRow)) (award student year n : ℕ) (first : Option Over) (steps begun : ℕ) →
     IsLegal (reverse h) → AreLinked (reverse h) rows befores links → IsOverWalk (reverse h) award student year n first steps begun → 0 < n →
     (f : Filing) → f ≡ get_or h (n - 1) f → (k : ℕ) (next : Option Over) (later : ℕ) →
     next ≡ earlier_over (over_of (reverse h) award student year f) first →
-    later ≤ steps + 4 → steps + 2 ≤ later → IsOverWalk (reverse h) award student year (get_or befores (n - 1) k) next later begun
+    later ≤ steps + 4 → steps + 3 ≤ later → IsOverWalk (reverse h) award student year (get_or befores (n - 1) k) next later begun
 over_step h befores links rows award student year n first steps begun legal linked w pos f read k next later is cheap looked =
     let s = step h befores links rows student w.older n legal linked w.along pos in
     let fewer = one_fewer h befores links rows student w.older n legal linked w.along pos in
@@ -147,7 +148,7 @@ over_end past award student year n first steps begun legal w e =
     ap refusal_of (sym all) ∙ over_told past legal student award year
 
 pub over_looks : (past : List Filing) (award student year n : ℕ) (first : Option Over) (steps begun : ℕ) → IsOverWalk past award student year n first steps begun → n ≡ 0 →
-    begun + 2 * places_of past student ≤ steps
+    begun + 3 * places_of past student ≤ steps
 over_looks past award student year n first steps begun w e =
     let none : places_of w.older student ≡ 0 = ap (λ (fs : List Filing). length fs) (none_left past w.older student n w.along e) in
     let all = w.counted in

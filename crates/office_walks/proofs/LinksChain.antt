@@ -9,7 +9,8 @@ use Rattle.aid_filings.specs.declared.filing.Filing.{Filing}
 use Rattle.aid_filings.specs.declared.filing.What.{What}
 use Rattle.aid_filings.specs.declared.filing.What.TheVariants.{Book, School, Calendar, Prior, Apply, Enrol, Originate, Pay, Withdraw, Repay, Adjust}
 use Rattle.office_history.proofs.Oldest.{reverse-middle}
-use Rattle.office_walks.specs.Links.{before_in, befores_of, is_first, is_first_in, is_first_of, is_term_of, last_at, newest_place, newest_term, passing}
+use Rattle.office_history.specs.FirstEnrolments.{is_first, is_first_in, is_first_of, passing}
+use Rattle.office_walks.specs.Links.{before_in, befores_of, is_term_of, last_at, newest_place, newest_term}
 
 -- none of the newer filings passes, each after those before it
 abbrev pub NonePass : (List Filing → Filing → Bool) → List Filing → List Filing → Type 0

@@ -313,6 +313,7 @@ pub record IsTermWalk (past : List Filing) (school year number position : ℕ) (
   pub along : IsAlong (λ past. is_term_of school) past older position
   pub place : term_at past school year number ≡ first_of_two true (term_at older school year number) row.at
   pub term : the_term past school year number ≡ earlier row.term (the_term older school year number)
+  pub rising : begun ≤ steps
   pub cost : steps + 2 * count_by (is_term_of school) older ≡ begun + 2 * terms_at past school
 
 pub term_start : (past : List Filing) (school year number newest steps : ℕ) → newest ≡ newest_term past school →
@@ -322,6 +323,7 @@ term_start past school year number newest steps e = record {
   along = along_start (λ past. is_term_of school) past newest e;
   place = found_none (term_at past school year number);
   term = refl;
+  rising = omega arith;
   cost = omega (arith, terms_counted past school);
 }
 
@@ -348,6 +350,7 @@ term_step h befores school year number n row steps begun linked w pos f read d n
           (the_term (reverse h) school year number) row.term w.term
           ∙ ap (λ (o : Option Term). earlier (later o row.term) (the_term s.rest school year number)) asked
           ∙ ap (λ (o : Option Term). earlier o (the_term s.rest school year number)) (sym term_is);
+      rising = let old = w.rising in omega arith;
       cost = let k = walked_one (is_term_of school) h befores w.older n s in let old = w.cost in omega arith;
     }
 

@@ -1,14 +1,14 @@
 -- Of each term of a school, and of each first enrolment of a student in a term, where the one before it stands; and the links of
 -- enrolments.
-use Rattle.std.specs.Prelude.{◌≡◌, ℕ, ◌+◌, ◌==◌, ◌&&◌, Bool, true, false, List, [], ◌∷◌, ◌++◌, length, reverse, Some, is_some, not, if◌then◌else◌}
-use Rattle.std.specs.List.{list_any, slice_get}
+use Rattle.std.specs.Prelude.{◌≡◌, ℕ, ◌+◌, ◌==◌, Bool, true, false, List, [], ◌∷◌, ◌++◌, length, reverse, Some, if◌then◌else◌}
+use Rattle.std.specs.List.{slice_get}
 use Rattle.aid_filings.specs.declared.filing.EnrolFacts.{EnrolFacts}
 use Rattle.aid_filings.specs.declared.filing.Filing.{Filing}
 use Rattle.aid_filings.specs.declared.filing.What.{What}
 use Rattle.aid_filings.specs.declared.filing.What.TheVariants.{Calendar, Enrol}
 use Rattle.office_history.specs.Answer.{IsLegal}
 use Rattle.office_history.specs.Positions.{school_at, term_at}
-use Rattle.office_history.specs.Past.{at_school, credits_in}
+use Rattle.office_history.specs.FirstEnrolments.{is_first, is_first_of}
 use Rattle.office_history.specs.Rows.{is_enrolment}
 use Rattle.office_history.specs.declared.rows.PlaceRow.{PlaceRow}
 use Rattle.office_walks.specs.declared.links.EnrolmentLink.{EnrolmentLink}
@@ -27,21 +27,6 @@ is_term_of school f = if f.key.school == school then is_calendar f.what else fal
 abbrev pub is_enrolled : ℕ → Filing → Bool
 is_enrolled student f = is_enrolment student f.what
 
--- a filing enrols the student in the term at the school
-abbrev pub enrols_in : ℕ → ℕ → ℕ → ℕ → Filing → Bool
-enrols_in school student year term f = is_some (at_school school (credits_in student year term) f)
-
--- an enrolment after these filings is the student's first in its term at the school
-abbrev pub is_first : List Filing → ℕ → EnrolFacts → Bool
-is_first past school e = not (list_any (enrols_in school e.student e.year e.term) past)
-
-abbrev pub is_first_in : ℕ → List Filing → ℕ → What → Bool
-is_first_in student past school (Enrol e) = e.student == student && is_first past school e
-is_first_in student past school _ = false
-
-abbrev pub is_first_of : ℕ → List Filing → Filing → Bool
-is_first_of student past f = is_first_in student past f.key.school f.what
-
 -- the position of the newest filing that passes after those before it, 0 where there is none
 abbrev pub last_at : (List Filing → Filing → Bool) → List Filing → ℕ
 last_at p [] = 0
@@ -53,18 +38,6 @@ newest_term past school = last_at (λ older. is_term_of school) past
 
 abbrev pub newest_place : List Filing → ℕ → ℕ
 newest_place past student = last_at (is_first_of student) past
-
--- the filings that pass, the newest first
-abbrev pub passing : (List Filing → Filing → Bool) → List Filing → List Filing
-passing p [] = []
-passing p (f ∷ past) = if p past f then f ∷ passing p past else passing p past
-
--- the first enrolments of a student, and how many there are: in so many terms at schools the student is enrolled
-abbrev pub first_enrolments : List Filing → ℕ → List Filing
-first_enrolments past student = passing (is_first_of student) past
-
-abbrev pub places_of : List Filing → ℕ → ℕ
-places_of past student = length (first_enrolments past student)
 
 -- where the one before a filing stands: the term before it of the same school, and of the first enrolment in a term the one
 -- before it of the same student

@@ -1,17 +1,21 @@
 //! Walks along a student's first enrolments, from the newest to the oldest, so that each term at a school in which the student
 //! is enrolled is visited once. A step is a look at the link of an enrolment, at where the one before it stands, at the row of
 //! its place, or at the filing of its school or its term.
-ghost use Rattle.std.specs.Prelude.{◌≡◌, ◌+◌, ◌-◌, ◌*◌, ◌≤◌, ◌<◌, ℕ, true, Some, length, reverse, slice_index};
+ghost use Rattle.std.specs.Prelude.{◌≡◌, ◌+◌, ◌-◌, ◌*◌, ◌≤◌, ◌<◌, ℕ, true, List, Some, IsSome, length, reverse, slice_index};
+ghost use Rattle.std.specs.List.{slice_get};
+ghost use Rattle.sorted_rows.specs.Places.{value_at};
 ghost use Rattle.aid_filings.specs.declared.filing.Filing.{Filing as Filed};
-ghost use Rattle.aid_types.specs.declared.term.Term.{Term as TermData};
 ghost use Rattle.enrolment.specs.Terms.{intensity_of, payment_of};
 ghost use Rattle.office_history.specs.Answer.{IsLegal};
 ghost use Rattle.office_history.specs.Positions.{full_of, is_paid_beside as is_paid_beside_of, least_code, lesser_code, terms_of, term_over as term_over_of};
 ghost use Rattle.office_history.specs.Past.{terms_on_file};
-ghost use Rattle.office_history.specs.Rows.{enrolments_of};
+ghost use Rattle.office_history.specs.FirstEnrolments.{places_of};
+ghost use Rattle.office_history.specs.Names.{place_cmp};
+ghost use Rattle.office_history.specs.declared.names.StudentPlace.{StudentPlace as PlaceName};
+ghost use Rattle.office_history.specs.declared.rows.PlaceRow.{PlaceRow as Row};
 ghost use Rattle.office_walks.specs.Enrolments.{IsEnrolment, earlier_over, is_beside, over_of, refusal_of, school_told, term_told};
 ghost use Rattle.office_walks.specs.Placed.{ArePlaces};
-ghost use Rattle.office_walks.specs.Links.{AreLinked, is_enrolled, newest_place, places_of};
+ghost use Rattle.office_walks.specs.Links.{AreLinked, is_enrolled, newest_place};
 
 use crate::links::EnrolmentLink;
 use aid_filings::{Filing, What};
@@ -49,9 +53,9 @@ pub fn paid_beside<L: Ledger>(
     requires newest { newest ≡ newest_place (reverse filings.now) student }
     requires rows { ArePlaces (reverse filings.now) places.now.rows }
     ensures value { result ≡ least_code (is_paid_beside_of (reverse filings.now) school student this.now) (terms_on_file (reverse filings.now)) }
-    ensures cost { steps.new ≤ steps.old + 4 * enrolments_of (reverse filings.now) student }
-    ensures few { steps.new ≤ steps.old + 4 * places_of (reverse filings.now) student }
-    ensures counted { (term : TermData) → this.now ≡ Some term → steps.old + 2 * places_of (reverse filings.now) student ≤ steps.new }
+    ensures cost { steps.new ≤ steps.old + 4 * places_of (reverse filings.now) student }
+    ensures counted { IsSome this.now → steps.old + 3 * places_of (reverse filings.now) student ≤ steps.new }
+    ensures later { steps.old ≤ steps.new }
 {
     let Some(term) = this else {
         return 0;
@@ -83,11 +87,11 @@ fn with_beside<L: Ledger>(
     ensures value { (f : Filed) (student : ℕ) → IsEnrolment (reverse filings.now) places.now.rows f link.now → is_enrolled student f ≡ true
         → result ≡ lesser_code (is_beside (reverse filings.now) school student this.now f) f.key.school least }
     ensures cost { steps.new ≤ steps.old + 2 }
-    ensures later { steps.old ≤ steps.new }
+    ensures later { steps.old + 1 ≤ steps.new }
 {
-    if is_paid_beside(filings, places, link, school, this, steps) {
-        // The row was looked at.
-        lesser(places.row(link.slot).0.school, least)
+    let place = places.look(link.slot, steps);
+    if is_paid_beside(filings, place, link, school, this, steps) {
+        lesser(place.0.school, least)
     } else {
         least
     }
@@ -100,24 +104,25 @@ fn lesser(code: u32, least: u32) -> u32
     if least == 0 { code } else { code.min(least) }
 }
 
-// Whether an enrolment's term is another school's, holds net Pell and shares a day with this one.
+// Whether an enrolment's term is another school's, holds net Pell and shares a day with this one. `place` is the row at the slot
+// that the link tells.
 fn is_paid_beside<L: Ledger>(
     filings: &[Filing],
-    places: &Slots<StudentPlace, PlaceRow>,
+    place: &(StudentPlace, PlaceRow),
     link: &EnrolmentLink,
     school: School,
     this: &Term,
     steps: &mut Steps<L>,
 ) -> bool
-    requires rows { ArePlaces (reverse filings.now) places.now.rows }
-    requires enrolment { (f : Filed) × IsEnrolment (reverse filings.now) places.now.rows f link.now }
-    ensures value { (f : Filed) (student : ℕ) → IsEnrolment (reverse filings.now) places.now.rows f link.now → is_enrolled student f ≡ true
+    requires { (f : Filed) × (rows : List (PlaceName × Row)) × IsEnrolment (reverse filings.now) rows f link.now }
+    ensures value { (f : Filed) (student : ℕ) (rows : List (PlaceName × Row)) → ArePlaces (reverse filings.now) rows
+        → IsEnrolment (reverse filings.now) rows f link.now → slice_get rows link.now.slot ≡ Some place.now
+        → value_at place_cmp place.now.0 rows ≡ Some place.now.1 → is_enrolled student f ≡ true
         → result ≡ is_beside (reverse filings.now) school student this.now f }
-    ensures cost { steps.new ≤ steps.old + 2 }
+    ensures cost { steps.new ≤ steps.old + 1 }
     ensures later { steps.old ≤ steps.new }
 {
     // Most places hold none.
-    let place = places.look(link.slot, steps);
     if net_pell(&place.1.account) == 0 {
         return false;
     }
@@ -168,9 +173,8 @@ pub fn term_over<L: Ledger>(
     requires rows { ArePlaces (reverse filings.now) places.now.rows }
     requires award { award ≤ 100000 }
     ensures value { result ≡ term_over_of (reverse filings.now) award student year }
-    ensures cost { steps.new ≤ steps.old + 4 * enrolments_of (reverse filings.now) student }
-    ensures few { steps.new ≤ steps.old + 4 * places_of (reverse filings.now) student }
-    ensures counted { steps.old + 2 * places_of (reverse filings.now) student ≤ steps.new }
+    ensures cost { steps.new ≤ steps.old + 4 * places_of (reverse filings.now) student }
+    ensures counted { steps.old + 3 * places_of (reverse filings.now) student ≤ steps.new }
 {
     let mut first = None;
     let mut at = newest;
@@ -201,7 +205,7 @@ fn over_in<L: Ledger>(
     ensures value { (f : Filed) (student : ℕ) → IsEnrolment (reverse filings.now) places.now.rows f link.now → is_enrolled student f ≡ true
         → result ≡ over_of (reverse filings.now) award student year f }
     ensures cost { steps.new ≤ steps.old + 2 }
-    ensures later { steps.old ≤ steps.new }
+    ensures later { steps.old + 1 ≤ steps.new }
 {
     let place = places.look(link.slot, steps);
     if place.0.year != year.0 {

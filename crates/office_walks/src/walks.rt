@@ -30,6 +30,7 @@ pub fn school_term<L: Ledger>(
     requires linked { befores.now ≡ befores_of (reverse filings.now) }
     requires newest { newest ≡ newest_term (reverse filings.now) school }
     ensures value { result ≡ term_row (reverse filings.now) school year number }
+    ensures later { steps.old ≤ steps.new }
     ensures cost { steps.new ≤ steps.old + 2 * terms_at (reverse filings.now) school }
     ensures counted { result.at ≡ 0 → steps.new ≡ steps.old + 2 * terms_at (reverse filings.now) school }
 {

@@ -73,11 +73,13 @@ pub fn is_legal(filings: &[Filing]) -> bool
 }
 
 impl OnFile for Plain<'_> {
-    ghost use Rattle.std.specs.Prelude.{ℕ};
+    ghost use Rattle.std.specs.Prelude.{ℕ, false};
 
     ghost history = { λ p. p };
 
     ghost looks = { λ p. 0 };
+
+    ghost counts = { λ p. false };
 
     #[tactic(auto, using(office_history::proofs::Bounds::short))]
     fn front(&self) -> u32 {

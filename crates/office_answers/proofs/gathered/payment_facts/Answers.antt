@@ -1,9 +1,12 @@
-use Rattle.std.proofs.Common.{◌≡◌, ◌∙◌, slice_index}
+use Rattle.std.proofs.Common.{◌≡◌, ◌∙◌, arith, ap, subst, sym, slice_index, Option}
+use Rattle.std.specs.Prelude.{IsSome}
 use Rattle.aid_types.specs.Programs.{rank}
+use Rattle.aid_types.specs.declared.term.Term.{Term}
 use Rattle.office_history.specs.Net.{cell_at, is_cell, paid_after}
 use Rattle.office_history.specs.Positions.{is_paid_beside, least_code}
 use Rattle.office_history.specs.Past.{terms_on_file, the_term}
 use Rattle.office_history.proofs.Sixes.{six-rank}
+use Rattle.office_history.specs.declared.rows.TermRow.{TermRow}
 use Rattle.office_answers.proofs.gathered.payment_facts.Goals as goal
 
 pub returns-clause-facts : goal.returns-clause-facts
@@ -28,3 +31,10 @@ returns-clause-facts g c =
       post = (aid.place i).account.post;
       could = (aid.place i).could;
     }
+
+-- where the term is on file, the walk along the student's places is counted
+pub returns-clause-walked : goal.returns-clause-walked
+returns-clause-walked g c = λ counts some.
+    let aid = c.aid_facts-aid.ensures in
+    let this : IsSome c.aid_facts-aid.result.term.term = subst (λ (t : Option Term). IsSome t) (sym (ap (λ (r : TermRow). r.term) aid.term)) some in
+    omega (arith, aid.later, c.beside-other_school.ensures.walked counts this)

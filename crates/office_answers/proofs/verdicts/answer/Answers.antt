@@ -1,9 +1,10 @@
-use Rattle.std.proofs.Common.{sym, ap, ◌∙◌, Some}
+use Rattle.std.proofs.Common.{sym, ap, ◌∙◌, Some, length}
 use Rattle.std.specs.Option.{option_copied}
 use Rattle.aid_filings.specs.declared.filing.Filing.{Filing}
 use Rattle.aid_filings.proofs.SameFiling.{tells_filing}
 use Rattle.aid_filings.specs.declared.reply.Verdict.TheVariants.{Again}
 use Rattle.office_answers.proofs.Judged.{answer_again, position_within}
+use Rattle.office_answers.proofs.Looked.{still_missed}
 use Rattle.office_answers.proofs.verdicts.answer.Goals as goal
 
 pub outcome-requires-clause-first : goal.outcome-requires-clause-first
@@ -24,3 +25,9 @@ returns-in-Some-clause-value g c =
     (λ i. Again position (c.outcome.ensures i))
     ∙ answer_again past position filing c.front-filings.ensures.legal
     (sym c.filing.ensures ∙ ap option_copied c.in-Some.is ∙ ap (λ (f : Filing). Some f) same)
+
+-- a key that isn't there was missed by the search for it
+pub returns-in-None-clause-missed : goal.returns-in-None-clause-missed
+returns-in-None-clause-missed g c = λ counts none.
+    still_missed (length (g.P.OnFile.history c.args.past.now)) c.args.steps.now c.key_at-position.new.steps c.judge.new.steps
+    (c.key_at-position.ensures.missed counts (c.key_at-position.ensures.value ∙ none)) c.judge.ensures.later

@@ -1,8 +1,8 @@
-use Rattle.std.proofs.Common.{◌∙◌, sym, ap, arith, reverse, Option}
+use Rattle.std.proofs.Common.{◌∙◌, sym, ap, subst, arith, reverse, Option}
+use Rattle.std.specs.Prelude.{IsSome}
 use Rattle.aid_types.specs.declared.term.Term.{Term}
 use Rattle.office_history.specs.Positions.{is_paid_beside, least_code}
 use Rattle.office_history.specs.Past.{terms_on_file}
-use Rattle.office_walks.proofs.EnrolmentsFirst.{few_places}
 use Rattle.office_walks.proofs.EnrolmentsTerms.{none_beside}
 use Rattle.office_walks.proofs.EnrolmentsWalk.{beside_end, beside_looks, beside_step, enrolled_here, enrolment_here, inside_links, step}
 use Rattle.office_walks.proofs.enrolments.paid_beside.Goals as goal
@@ -13,6 +13,9 @@ returns-in_default-clause-value g c =
     let past = reverse c.args.filings.now in
     sym (ap (λ (o : Option Term). least_code (is_paid_beside past c.args.school c.args.student o) (terms_on_file past)) c.in_default.is
     ∙ none_beside past c.args.school c.args.student (terms_on_file past))
+
+pub returns-in_default-clause-counted : goal.returns-in_default-clause-counted
+returns-in_default-clause-counted g c = λ some. let none = subst (λ (o : Option Term). IsSome o) c.in_default.is some in absurd cc
 
 pub bounds-links-index : goal.bounds-links-index
 bounds-links-index g c =
@@ -62,9 +65,12 @@ returns-clause-value g c =
     beside_end past c.args.school c.args.student c.in-Some.term c.loop-at.at c.loop-at.least c.loop-at.steps _ c.requires.legal c.loop-at.invariant (omega (arith, c.loop-at-test.false))
     ∙ ap (λ (o : Option Term). least_code (is_paid_beside past c.args.school c.args.student o) (terms_on_file past)) (sym c.in-Some.is)
 
-pub returns-clause-cost : goal.returns-clause-cost
-returns-clause-cost g c = let few = few_places (reverse c.args.filings.now) c.args.student in omega (arith, few, c.loop-at.invariant.few)
-
 pub returns-clause-counted : goal.returns-clause-counted
-returns-clause-counted g c = λ term is.
+returns-clause-counted g c = λ some.
     beside_looks (reverse c.args.filings.now) c.args.school c.args.student c.in-Some.term c.loop-at.at c.loop-at.least c.loop-at.steps _ c.loop-at.invariant (omega (arith, c.loop-at-test.false))
+
+pub returns-clause-later : goal.returns-clause-later
+returns-clause-later g c =
+    let all =
+    beside_looks (reverse c.args.filings.now) c.args.school c.args.student c.in-Some.term c.loop-at.at c.loop-at.least c.loop-at.steps _ c.loop-at.invariant (omega (arith, c.loop-at-test.false)) in
+    omega arith

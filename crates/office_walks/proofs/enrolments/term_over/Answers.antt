@@ -1,7 +1,6 @@
 use Rattle.std.proofs.Common.{◌∙◌, sym, ap, arith, reverse, Option}
 use Rattle.office_walks.specs.Enrolments.{earlier_over}
 use Rattle.office_walks.specs.declared.enrolments.Over.{Over}
-use Rattle.office_walks.proofs.EnrolmentsFirst.{few_places}
 use Rattle.office_walks.proofs.EnrolmentsWalk.{enrolled_here, enrolment_here, inside_links, over_end, over_looks, over_step, step}
 use Rattle.office_walks.proofs.enrolments.term_over.Goals as goal
 
@@ -53,9 +52,6 @@ returns-clause-value g c =
     c.refusal.ensures
     ∙ over_end (reverse c.args.filings.now) c.args.award c.args.student c.args.year c.loop-at.at c.loop-at.first c.loop-at.steps _ c.requires.legal c.loop-at.invariant
     (omega (arith, c.loop-at-test.false))
-
-pub returns-clause-cost : goal.returns-clause-cost
-returns-clause-cost g c = let few = few_places (reverse c.args.filings.now) c.args.student in omega (arith, few, c.loop-at.invariant.few)
 
 pub returns-clause-counted : goal.returns-clause-counted
 returns-clause-counted g c =

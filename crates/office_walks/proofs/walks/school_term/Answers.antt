@@ -50,6 +50,9 @@ returns-in-Some-clause-cost g c =
     c.requires.legal c.requires.linked c.loop-at.invariant (omega arith) in
     omega (arith, looks, c.tick.ensures)
 
+pub returns-in-Some-clause-later : goal.returns-in-Some-clause-later
+returns-in-Some-clause-later g c = let old = c.loop-at.invariant.rising in omega (arith, c.tick.ensures)
+
 pub returns-in-Some-clause-counted : goal.returns-in-Some-clause-counted
 returns-in-Some-clause-counted g c = λ none. absurd (omega (arith, none))
 
@@ -69,3 +72,6 @@ returns-clause-cost g c =
     term_looks (reverse c.args.filings.now) c.args.school c.args.year c.args.number c.loop-at.at (record { at = 0; term = None }) c.loop-at.steps
     c.args.steps.now c.loop-at.invariant (omega arith) in
     omega (arith, all)
+
+pub returns-clause-later : goal.returns-clause-later
+returns-clause-later g c = c.loop-at.invariant.rising

@@ -1,10 +1,14 @@
-use Rattle.std.proofs.Common.{◌≡◌, ℕ, ◌+◌, ◌*◌, ◌^◌, ◌<◌, ◌≤◌, List, Some, None, ap, subst, sym, ◌∙◌, arith, length}
+use Rattle.std.proofs.Common.{◌≡◌, ℕ, ◌+◌, ◌-◌, ◌*◌, ◌^◌, ◌<◌, ◌≤◌, true, List, Option, Some, None, refl, ap, subst, sym, ◌∙◌, arith, length}
+use Rattle.std.specs.Prelude.{IsSome, IsTrue}
 use Rattle.aid_filings.specs.declared.filing.Filing.{Filing}
 use Rattle.aid_filings.specs.declared.reply.Ask.TheVariants.{Quote}
 use Rattle.aid_filings.specs.declared.reply.StandingRow.{StandingRow}
 use Rattle.aid_filings.specs.declared.reply.Verdict.TheVariants.{Quoted, Standing}
+use Rattle.aid_types.specs.declared.term.Term.{Term}
 use Rattle.rule_lines.specs.RuleLines.{first_broken}
 use Rattle.office_history.specs.Answer.{IsLegal, answer_of, answer_to, quote_of, standing_of}
+use Rattle.office_history.specs.FirstEnrolments.{places_of}
+use Rattle.office_history.specs.Past.{key_at, the_term}
 use Rattle.office_history.specs.Rules.{payment_rules}
 use Rattle.office_core.specs.Register.{Register}
 use Rattle.office_core.specs.WalkedFor.{walked_for}
@@ -14,6 +18,10 @@ use Rattle.office_core.proofs.Quoted.{payable, unpayable}
 use Rattle.office_core.proofs.StandingLemmas.{standing}
 use Rattle.office_core.proofs.Unpaid.{unpaid}
 use Rattle.office_core.proofs.office.Office.ask.Goals as goal
+
+-- the index counts
+it_counts : IsTrue true
+it_counts = refl
 
 -- two looks a digit, six, five or three times
 six_times : (old new looks digits walked counted : ℕ) → new ≤ old + 6 * (2 * looks) + 4 * walked → looks ≤ digits → counted ≡ walked → new ≤ old + 12 * digits + 4 * counted
@@ -72,6 +80,21 @@ returns-in-File-clause-used g c =
     let told : c.answer.result ≡ answer_of past f = c.answer.ensures.value ∙ ap (λ (h : List Filing). answer_of h c.in-File.filing) view ∙ ap (answer_of past) same in
     used_there past f refusal legal (sym told ∙ said) fifteen
 
+pub returns-in-File-clause-met : goal.returns-in-File-clause-met
+returns-in-File-clause-met g c =
+    λ f asked stands.
+    let view : c.self.inside.indexed.history ≡ c.args.self.now.history = ap (λ (r : Register). r.history) c.self.view_is in
+    let same : c.in-File.filing ≡ f = cc in
+    c.answer.ensures.met it_counts (λ none. stands (sym (ap (λ (h : List Filing). key_at c.in-File.filing.key h) view ∙ ap (λ (x : Filing). key_at x.key c.args.self.now.history) same) ∙ none))
+
+pub returns-in-File-clause-missed : goal.returns-in-File-clause-missed
+returns-in-File-clause-missed g c =
+    λ f asked none.
+    let view : c.self.inside.indexed.history ≡ c.args.self.now.history = ap (λ (r : Register). r.history) c.self.view_is in
+    let same : c.in-File.filing ≡ f = cc in
+    subst (λ (h : List Filing). length h + 2 ≤ 2 ^ (c.answer.new.steps - c.args.steps.now + 1)) view
+    (c.answer.ensures.missed it_counts (ap (λ (h : List Filing). key_at c.in-File.filing.key h) view ∙ ap (λ (x : Filing). key_at x.key c.args.self.now.history) same ∙ none))
+
 pub returns-in-File-clause-counted : goal.returns-in-File-clause-counted
 returns-in-File-clause-counted g c =
     λ digits few.
@@ -121,6 +144,22 @@ returns-in-Quote-clause-greatest g c =
     unpayable past f q.school q.student q.year q.term dollars (a, what, program, amount, school, student, year, term)
     (subst (λ (n : ℕ). n < 100 * dollars)
     (c.quote.ensures.value ∙ ap (λ (h : List Filing). quote_of h q.school q.student q.year q.term) view) over)
+
+pub returns-in-Quote-clause-walked : goal.returns-in-Quote-clause-walked
+returns-in-Quote-clause-walked g c =
+    λ school student year term asked some.
+    let q = c.in-Quote in
+    let view : c.args.self.now.history ≡ c.self.inside.indexed.history = sym (ap (λ (r : Register). r.history) c.self.view_is) in
+    let same : Quote q.school q.student q.year q.term ≡ Quote school student year term = sym q.is ∙ asked in
+    let own_school : school ≡ q.school = cc in
+    let own_student : student ≡ q.student = cc in
+    let own_year : year ≡ q.year = cc in
+    let own_term : term ≡ q.term = cc in
+    let there : IsSome (the_term c.self.inside.indexed.history q.school q.year q.term) =
+    subst (λ (o : Option Term). IsSome o) (λ i. the_term (view i) (own_school i) (own_year i) (own_term i)) some in
+    let walked = c.quote.ensures.walked it_counts there in
+    let places : places_of c.args.self.now.history student ≡ places_of c.self.inside.indexed.history q.student = λ i. places_of (view i) (own_student i) in
+    omega (arith, walked, places)
 
 pub returns-in-Quote-clause-counted : goal.returns-in-Quote-clause-counted
 returns-in-Quote-clause-counted g c =
