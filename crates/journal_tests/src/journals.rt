@@ -256,12 +256,14 @@ fn of_fault(call: u64) -> Went {
     }
 }
 
-// The same where the first put writes the second payload ahead, by one call more: the second put then takes two.
+// The same where the first put writes the second payload ahead, by a call before that of its gate: the second put then takes two.
 fn of_fault_ahead(call: u64) -> Went {
+    let before = PutError::DiskFault { undecided: false };
     let either = PutError::DiskFault { undecided: true };
     match call {
-        1..=12 => of_fault(call),
-        13 => Went::First(either),
+        1..=10 => of_fault(call),
+        11 => Went::First(before),
+        12 | 13 => Went::First(either),
         14 | 15 => Went::Second(either),
         _ => Went::Well,
     }

@@ -107,15 +107,16 @@ fn assert_ended(
 }
 
 // The call that fails, the position that it leaves undecided, the text, and the numbers that stand. The first record is written
-// and synced; then its gate and the record behind it are written and synced, and so on.
+// and synced; then the record behind it and its own gate are written and synced, and so on. Where the record behind it can't be
+// written, nothing is undecided.
 const FAULTS: [(u64, Option<u32>, &[u8], &[u8]); 10] = [
     (5, None, b"", b"\x05"),
     (6, None, b"", b"\x05"),
-    (7, Some(2), b"", b"\x05"),
-    (8, Some(2), b"", b"\x05\x06"),
+    (7, None, b"", b"\x05"),
+    (8, Some(2), b"", b"\x05"),
     (9, Some(2), b"", b"\x05\x06"),
-    (10, Some(3), b"kept\n", b"\x05\x06"),
-    (11, Some(3), b"kept\n", b"\x05\x06\x07"),
+    (10, None, b"kept\n", b"\x05\x06"),
+    (11, Some(3), b"kept\n", b"\x05\x06"),
     (12, Some(3), b"kept\n", b"\x05\x06\x07"),
     (13, Some(4), b"kept\nkept\n", b"\x05\x06\x07"),
     (14, Some(4), b"kept\nkept\n", b"\x05\x06\x07\x09"),

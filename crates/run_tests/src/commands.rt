@@ -185,16 +185,32 @@ fn disk_faults_end_a_run(rt: HostRuntime) -> Result<(), Fail> {
 const TWO: &str = "prior,0,7,5007,1\nprior,0,8,5008,1\n";
 
 // An image, its rows, the call that fails, the text, that of the run after it, and the length of its file. Two calls read what stands, one asks for the
-// length, one cuts off what stands behind it, and one syncs; the first filing is put by two calls, three more open its gate, write
-// the second ahead and keep both, and two open the second's.
-const DISK_FAULTS: [(&[u8], &str, u64, &str, &str, usize); 3] = [
+// length, one cuts off what stands behind it, and one syncs; the first filing is put by two calls, three more write the second
+// ahead, open the first's gate and keep both, and two open the second's.
+const DISK_FAULTS: [(&[u8], &str, u64, &str, &str, usize); 5] = [
     (TORN, "", 4, "fault disk none\n", "", 71),
     (
         BOTH,
         TWO,
         7,
+        "fault disk none\n",
+        "1 2 accepted 3 noted\n2 3 accepted 4 noted\n",
+        131,
+    ),
+    (
+        BOTH,
+        TWO,
+        8,
         "fault disk 3\n",
         "1 2 accepted 3 noted\n2 3 accepted 4 noted\n",
+        131,
+    ),
+    (
+        BOTH,
+        TWO,
+        9,
+        "fault disk 3\n",
+        "1 3 again 3 noted\n2 3 accepted 4 noted\n",
         131,
     ),
     (

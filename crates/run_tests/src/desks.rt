@@ -106,8 +106,8 @@ fn desk_2_pays_first(rt: HostRuntime) -> Result<(), Fail> {
     )
 }
 
-// The disk fails in the turn of desk 1's first row, by the number of its call. Desk 2 files on, and where that row's filing was
-// undecided its turn settles it.
+// The disk fails in the turn of desk 1's first row, by the numbers of its calls. Desk 2 files on, and where that row's filing was
+// undecided its turn settles it. Where the file couldn't be made longer, desk 2's turn doesn't try it again: it ends with call 9.
 #[test]
 fn a_desk_ends_early(rt: HostRuntime) -> Result<(), Fail> {
     let alloc = rt.alloc();
@@ -116,23 +116,27 @@ fn a_desk_ends_early(rt: HostRuntime) -> Result<(), Fail> {
         b"prior,0,8,5008,1\n",
     ];
     // The file is made longer by a call, the record is written and synced by two more, and its gate by another two.
-    let cases: [(u64, &[u8]); 3] = [
+    let cases: [(&[u64], &[u8]); 4] = [
         (
-            5,
+            &[5],
             b"desk 1 1 fault disk none\ndesk 2 1 2 accepted 3 noted\nadmitted 3 2 1\n",
         ),
         (
-            6,
+            &[5, 10],
             b"desk 1 1 fault disk none\ndesk 2 1 2 accepted 3 noted\nadmitted 3 2 1\n",
         ),
         (
-            8,
+            &[6],
+            b"desk 1 1 fault disk none\ndesk 2 1 2 accepted 3 noted\nadmitted 3 2 1\n",
+        ),
+        (
+            &[8],
             b"desk 1 1 fault disk 3\ndesk 2 1 3 accepted 4 noted\nadmitted 3 1 1\nadmitted 4 2 1\n",
         ),
     ];
-    for (call, text) in cases {
+    for (calls, text) in cases {
         let gate = HoldGate::new(2, 1, 1_000_000);
-        let disk = disk(alloc, BOTH, &[call], None)?;
+        let disk = disk(alloc, BOTH, calls, None)?;
         assert_filed(&rt, alloc, disk, &gate, rows, (5, text))?;
     }
     Ok(())
