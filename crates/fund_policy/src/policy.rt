@@ -1,9 +1,9 @@
 //! Policies of awards, each by its name, and the two that the office has.
-ghost use Rattle.std.specs.Prelude.{◌≡◌, [], ◌∷◌, map, IfOk, codes};
+ghost use Rattle.std.specs.Prelude.{◌≡◌, [], ◌∷◌, ℕ, ℤ, map, IfOk, codes};
 ghost use Rattle.std.specs.List.{find};
 ghost use Rattle.std.specs.Option.{option_copied};
 ghost use Rattle.std.specs.Str.{bytes_eq};
-ghost use Rattle.fund_policy.specs.Answers.{IsAwardRule};
+ghost use Rattle.fund_policy.specs.Answers.{IsAwardRule, level as level_of, quarter as quarter_of};
 
 use aid_types::Name;
 use std::alloc::{AllocError, Global};
@@ -56,11 +56,13 @@ impl Policies {
     }
 }
 
-/// Two policies, named `level` and `quarter` as the office's own. What their boxes hold is the caller's to see to: a contract of
-/// this crate knows of a box only that it keeps to `IsAwardRule`.
+/// The two policies of the office, named `level` and `quarter`. What a box may answer is its caller's to show: the level rule's
+/// awards and no other, and the quarter rule's.
 pub fn standard(alloc: Global, level: Rule, quarter: Rule) -> Result<Policies, AllocError>
     requires level { IsAwardRule (Rule.pre level) (Rule.post level) }
     requires quarter { IsAwardRule (Rule.pre quarter) (Rule.post quarter) }
+    requires is_level { (need : ℕ) (sai : ℤ) (intensity award : ℕ) → Rule.post level need sai intensity award → award ≡ level_of need }
+    requires is_quarter { (need : ℕ) (sai : ℤ) (intensity award : ℕ) → Rule.post quarter need sai intensity award → award ≡ quarter_of need }
     ensures names { IfOk result (λ p. map (λ q. q.name) p.list.items ≡ codes "level" ∷ codes "quarter" ∷ []) }
     ensures rules { IfOk result (λ p. map (λ q. q.rule) p.list.items ≡ level ∷ quarter ∷ []) }
 {
