@@ -1,12 +1,13 @@
 -- The row of words of many desks.
-use Rattle.std.proofs.Common.{◌≡◌, ◌↔◌, ℕ, ◌<◌, ◌≤◌, Bool, true, not, List, [], ◌∷◌, map, length, refl, sym, ap, ◌∙◌, subst, arith, codes}
+use Rattle.std.proofs.Common.{◌≡◌, ◌↔◌, ℕ, ◌<◌, ◌≤◌, Bool, not, List, [], ◌∷◌, map, length, refl, sym, ap, ◌∙◌, subst, arith, codes}
 use Rattle.std.specs.Prelude.{IsTrue}
 use Rattle.std.specs.List.{list_all}
 use Rattle.run_words.specs.Words.{AreDesks, begins_with_hyphen}
 use Rattle.run_words.specs.declared.command.MainRow.{MainRow}
 use Rattle.run_words.specs.declared.command.MainRow.TheVariants.{Run, Desks}
 
-all_map : {S : Type 0} (text : S → List ℕ) (p : List ℕ → Bool) (words : List S) → list_all p (map text words) ≡ list_all (λ w. p (text w)) words
+-- a test of all texts
+pub all_map : {S : Type 0} (text : S → List ℕ) (p : List ℕ → Bool) (words : List S) → list_all p (map text words) ≡ list_all (λ w. p (text w)) words
 all_map text p [] = refl
 all_map text p (w ∷ words) = rw (all_map text p words) refl
 

@@ -3,3 +3,5 @@ pub mod PolicyWords
 pub mod WordsLemmas
 pub mod DeskWords
 pub mod ServeWords
+pub mod ClapLemmas
+pub mod BehindLemmas

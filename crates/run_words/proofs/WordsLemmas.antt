@@ -1,11 +1,13 @@
 -- A row of words is that of one command at most.
-use Rattle.std.proofs.Common.{◌≡◌, ◌⊎◌, inl, inr, ℕ, ◌<◌, ◌≤◌, List, [], ◌∷◌, Option, Some, None, IfSome, decimal, get_or, length, map, rules, refl, subst, sym, ap, ◌∙◌, arith}
+use Rattle.std.proofs.Common.{◌≡◌, ◌≢◌, ◌⊎◌, inl, inr, ℕ, ◌≤◌, Bool, true, false, not, List, [], ◌∷◌, Option, Some, None, Result, Ok, Err, IfSome, codes, decimal, get_or, map, rules, refl, subst, sym, ap, ◌∙◌, arith}
+use Rattle.std.specs.Prelude.{IfOk}
+use Rattle.std.specs.List.{list_all}
 use Rattle.std.specs.Coded.{le_prop}
+use Rattle.std.proofs.lemmas.Bool.{true≢false}
 use Rattle.std.proofs.lemmas.Fmt.{decimal_injective}
-use Rattle.std.proofs.lemmas.List.{length-map}
 use Rattle.aid_types.proofs.Same.{same_with_fact}
 use Rattle.aid_types.specs.Ranges.{IsBetween}
-use Rattle.run_words.specs.Words.{HasPolicy, AreWords, Reads, ReadsGenerate, ReadsOf, ReadsQuote, ReadsYear, fund_words, generate_words, quote_words, report_words, words_of}
+use Rattle.run_words.specs.Words.{ArePlain, AreWords, HasPolicy, IsRow, Reads, ReadsGenerate, ReadsOf, ReadsQuote, ReadsYear, begins_with_hyphen, fund_words, generate_words, quote_words, report_words, words_of}
 use Rattle.run_words.specs.declared.command.BookNumber.{BookNumber}
 use Rattle.run_words.specs.declared.command.Command.{Command}
 use Rattle.run_words.specs.declared.command.Command.TheVariants.{Found, File, Book, Quote, Report, Fund, Generate, CheckRows, CheckBook}
@@ -14,6 +16,8 @@ use Rattle.run_words.specs.declared.command.QuoteRequest.{QuoteRequest}
 use Rattle.run_words.specs.declared.command.ReportRequest.{ReportRequest}
 use Rattle.run_words.specs.declared.command.ReportRequest.TheVariants.{Standing, Awards, Returns, Lifetime}
 use Rattle.run_words.specs.declared.command.ReportYear.{ReportYear}
+use Rattle.run_words.proofs.ClapLemmas.{plain_tail}
+use Rattle.run_words.proofs.DeskWords.{all_map}
 use Rattle.run_words.proofs.PolicyWords.{same_fund}
 
 same_book : (x y : BookNumber) → x.number ≡ y.number → x ≡ y
@@ -116,64 +120,59 @@ reads_generate words g is r = (λ same. let at : g ≡ r = cc in is ∙ ap gener
 pub reads_year : (word : List ℕ) (of : ReportYear) → word ≡ decimal of.year → ReadsYear word (Some of)
 reads_year word of is other = (λ same. let at : of ≡ other = cc in is ∙ ap (λ (y : ReportYear). decimal y.year) at, λ told. ap Some (same_year of other (sym is ∙ told)))
 
-pub if_read : (names words other : List (List ℕ)) (read : Option Command) → other ≡ words → ReadsOf names words read → IfSome read (λ c. AreWords names other c)
-if_read names words other None same reads = search rules
-if_read names words other (Some c) same reads = let is = (reads c).0 refl in (same ∙ is.0, is.1)
+-- what was read of plain words is their row
+pub if_row : (names words : List (List ℕ)) (read : Option Command) → ArePlain words → ReadsOf names words read → IfSome read (λ c. IsRow names words c)
+if_row names words None plain reads = search rules
+if_row names words (Some c) plain reads = let is = (reads c).0 refl in (plain, is.0, is.1)
 
--- what such an end says of the command of other words
-pub only_read : (names words other : List (List ℕ)) (read : Option Command) → other ≡ words → ReadsOf names words read → (c : Command) → AreWords names other c → read ≡ Some c
-only_read names words other read same reads c is = (reads c).1 (sym same ∙ is.0, is.1)
+pub none_row : (names words : List (List ℕ)) (read : Option Command) → ReadsOf names words read → read ≡ None → (c : Command) → IsRow names words c → ⊥
+none_row names words read reads none c (plain, is, known) = let bad : ◌≡◌ {A = Option Command} None (Some c) = sym none ∙ (reads c).1 (is, known) in absurd cc
 
-pub none_read : (names words other : List (List ℕ)) (read : Option Command) → other ≡ words → ReadsOf names words read → read ≡ None → (c : Command) → AreWords names other c → ⊥
-none_read names words other read same reads none c is = let bad : ◌≡◌ {A = Option Command} None (Some c) = sym none ∙ only_read names words other read same reads c is in absurd cc
+-- an answer that is read, or want of memory
+module _ {E : Type 0} (names words : List (List ℕ)) where
+  pub answer_words : (answer : Result (Option Command) E) → ArePlain words → IfOk answer (ReadsOf names words) → IfOk answer (λ r. IfSome r (λ c. IsRow names words c))
+  answer_words (Ok read) plain reads = if_row names words read plain reads
+  answer_words (Err e) plain reads = reads
 
--- so many words a row has
-abbrev pub IsRowSize : ℕ → Type 0
-IsRowSize n = (n ≡ 1) ⊎ ((n ≡ 2) ⊎ ((n ≡ 3) ⊎ ((n ≡ 5) ⊎ (n ≡ 7))))
+  pub answer_none : (answer : Result (Option Command) E) → IfOk answer (ReadsOf names words) → IfOk answer (λ r. r ≡ None → (c : Command) → ¬ (IsRow names words c))
+  answer_none (Ok read) reads = none_row names words read reads
+  answer_none (Err e) reads = reads
 
-words_size : (names : List (List ℕ)) (c : Command) → IsRowSize (length (words_of names c))
-words_size names Found = inl refl
-words_size names File = inl refl
-words_size names (Book book) = inr (inl refl)
-words_size names (Quote quote) = inr (inr (inr (inl refl)))
-words_size names (Report (Standing of)) = inr (inr (inl refl))
-words_size names (Report (Awards of)) = inr (inr (inl refl))
-words_size names (Report (Returns of)) = inr (inr (inl refl))
-words_size names (Report Lifetime) = inr (inl refl)
-words_size names (Fund fund) = inr (inr (inr (inr refl)))
-words_size names (Generate generate) = inr (inr (inl refl))
-words_size names CheckRows = inr (inl refl)
-words_size names CheckBook = inr (inl refl)
+  pub answer_only : (answer : Result (Option Command) E) → IfOk answer (ReadsOf names words) → (c : Command) → IsRow names words c → IfOk answer (λ r. r ≡ Some c)
+  answer_only (Ok read) reads c (plain, is, known) = (reads c).1 (is, known)
+  answer_only (Err e) reads c row = reads
 
--- the same of what the words are made of
-pub row_size : {X : Type 0} (text : X → List ℕ) (names : List (List ℕ)) (words : List X) (c : Command) → AreWords names (map text words) c → IsRowSize (length words)
-row_size text names words c is = subst IsRowSize (sym (ap length is.0) ∙ length-map words text) (words_size names c)
+-- a command of none of these names is a check
+pub is_check : (name : List ℕ) (behind : List (List ℕ)) → name ≢ codes "found" → name ≢ codes "file" → name ≢ codes "book" → name ≢ codes "quote" → name ≢ codes "report" → name ≢ codes "fund" → name ≢ codes "generate"
+    → (names : List (List ℕ)) (c : Command) → name ∷ behind ≡ words_of names c → (c ≡ CheckRows) ⊎ (c ≡ CheckBook)
+is_check name behind no_found no_file no_book no_quote no_report no_fund no_generate names Found is = absurd (no_found (ap (λ (words : List (List ℕ)). get_or words 0 []) is))
+is_check name behind no_found no_file no_book no_quote no_report no_fund no_generate names File is = absurd (no_file (ap (λ (words : List (List ℕ)). get_or words 0 []) is))
+is_check name behind no_found no_file no_book no_quote no_report no_fund no_generate names (Book book) is = absurd (no_book (ap (λ (words : List (List ℕ)). get_or words 0 []) is))
+is_check name behind no_found no_file no_book no_quote no_report no_fund no_generate names (Quote quote) is = absurd (no_quote (ap (λ (words : List (List ℕ)). get_or words 0 []) is))
+is_check name behind no_found no_file no_book no_quote no_report no_fund no_generate names (Report report) is = absurd (no_report (ap (λ (words : List (List ℕ)). get_or words 0 []) is))
+is_check name behind no_found no_file no_book no_quote no_report no_fund no_generate names (Fund fund) is = absurd (no_fund (ap (λ (words : List (List ℕ)). get_or words 0 []) is))
+is_check name behind no_found no_file no_book no_quote no_report no_fund no_generate names (Generate generate) is = absurd (no_generate (ap (λ (words : List (List ℕ)). get_or words 0 []) is))
+is_check name behind no_found no_file no_book no_quote no_report no_fund no_generate names CheckRows is = inl refl
+is_check name behind no_found no_file no_book no_quote no_report no_fund no_generate names CheckBook is = inr refl
 
--- a list of length 5
-pub five : {X : Type 0} (xs : List X) (a b c d e : X) → 5 ≤ length xs → length xs < 6 → a ≡ get_or xs 0 a → b ≡ get_or xs 1 b → c ≡ get_or xs 2 c → d ≡ get_or xs 3 d → e ≡ get_or xs 4 e
-    → xs ≡ a ∷ b ∷ c ∷ d ∷ e ∷ []
-five (v ∷ w ∷ x ∷ y ∷ z ∷ []) a b c d e some few is_a is_b is_c is_d is_e = cc
-five (v ∷ w ∷ x ∷ y ∷ z ∷ u ∷ us) a b c d e some few is_a is_b is_c is_d is_e = absurd (omega arith)
-five [] a b c d e some few is_a is_b is_c is_d is_e = absurd (omega arith)
-five (v ∷ []) a b c d e some few is_a is_b is_c is_d is_e = absurd (omega arith)
-five (v ∷ w ∷ []) a b c d e some few is_a is_b is_c is_d is_e = absurd (omega arith)
-five (v ∷ w ∷ x ∷ []) a b c d e some few is_a is_b is_c is_d is_e = absurd (omega arith)
-five (v ∷ w ∷ x ∷ y ∷ []) a b c d e some few is_a is_b is_c is_d is_e = absurd (omega arith)
+-- the same words are read alike
+pub fund_as : (names words other : List (List ℕ)) (read : Option Command) → other ≡ words → ReadsOf names words read → ReadsOf names other read
+fund_as names words other read same reads = subst (λ (ws : List (List ℕ)). ReadsOf names ws read) (sym same) reads
 
--- the texts of its items
-pub five_texts : {X : Type 0} (text : X → List ℕ) (xs : List X) (a b c d e : X) (p q r s t : List ℕ) → xs ≡ a ∷ b ∷ c ∷ d ∷ e ∷ []
-    → p ≡ text a → q ≡ text b → r ≡ text c → s ≡ text d → t ≡ text e → map text xs ≡ p ∷ q ∷ r ∷ s ∷ t ∷ []
-five_texts text xs a b c d e p q r s t is at_a at_b at_c at_d at_e = rw (is, at_a, at_b, at_c, at_d, at_e) refl
+-- ---- the name of a command and the words behind it
+module _ {S : Type 0} (text : S → List ℕ) where
+  pub split_words : (words : List S) (first : S) (behind : List S) (name : List ℕ) → words ≡ first ∷ behind → name ≡ text first → map text words ≡ name ∷ map text behind
+  split_words words first behind name whole is = ap (map text) whole ∙ ap (λ w. w ∷ map text behind) (sym is)
 
--- a list of length 7
-pub seven : {X : Type 0} (xs : List X) (a b c d e f g : X) → 7 ≤ length xs → length xs < 8 → a ≡ get_or xs 0 a → b ≡ get_or xs 1 b → c ≡ get_or xs 2 c → d ≡ get_or xs 3 d → e ≡ get_or xs 4 e
-    → f ≡ get_or xs 5 f → g ≡ get_or xs 6 g → xs ≡ a ∷ b ∷ c ∷ d ∷ e ∷ f ∷ g ∷ []
-seven (u ∷ v ∷ xs) a b c d e f g some few is_a is_b is_c is_d is_e is_f is_g =
-    let rest : xs ≡ c ∷ d ∷ e ∷ f ∷ g ∷ [] = five xs c d e f g (omega (arith, some)) (omega (arith, few)) is_c is_d is_e is_f is_g in cc
-seven [] a b c d e f g some few is_a is_b is_c is_d is_e is_f is_g = absurd (omega arith)
-seven (u ∷ []) a b c d e f g some few is_a is_b is_c is_d is_e is_f is_g = absurd (omega arith)
+  pub plain_words : (words : List S) (b : Bool) → b ≡ list_all (λ w. not (begins_with_hyphen (text w))) words → b ≡ true → ArePlain (map text words)
+  plain_words words b told is = all_map text (λ w. not (begins_with_hyphen w)) words ∙ (sym told ∙ is)
 
--- the texts of its items
-pub seven_texts : {X : Type 0} (text : X → List ℕ) (xs : List X) (a b c d e f g : X) (p q r s t u v : List ℕ) → xs ≡ a ∷ b ∷ c ∷ d ∷ e ∷ f ∷ g ∷ []
-    → p ≡ text a → q ≡ text b → r ≡ text c → s ≡ text d → t ≡ text e → u ≡ text f → v ≡ text g → map text xs ≡ p ∷ q ∷ r ∷ s ∷ t ∷ u ∷ v ∷ []
-seven_texts text xs a b c d e f g p q r s t u v is at_a at_b at_c at_d at_e at_f at_g = rw (is, at_a, at_b, at_c, at_d, at_e, at_f, at_g) refl
+  pub hyphened : (words : List S) (b : Bool) → b ≡ list_all (λ w. not (begins_with_hyphen (text w))) words → b ≡ false → ArePlain (map text words) → ⊥
+  hyphened words b told is plain = true≢false (sym plain ∙ (all_map text (λ w. not (begins_with_hyphen w)) words ∙ (sym told ∙ is)))
+
+  pub plain_behind : (words : List S) (first : S) (behind : List S) (name : List ℕ) → words ≡ first ∷ behind → name ≡ text first → ArePlain (map text words) → ArePlain (map text behind)
+  plain_behind words first behind name whole is plain = plain_tail name (map text behind) (subst ArePlain (split_words words first behind name whole is) plain)
+
+  pub named_reads : {E : Type 0} (names : List (List ℕ)) (words : List S) (first : S) (behind : List S) (name : List ℕ) → words ≡ first ∷ behind → name ≡ text first → (answer : Result (Option Command) E)
+      → IfOk answer (ReadsOf names (name ∷ map text behind)) → IfOk answer (ReadsOf names (map text words))
+  named_reads names words first behind name whole is answer reads = subst (λ (ws : List (List ℕ)). IfOk answer (ReadsOf names ws)) (sym (split_words words first behind name whole is)) reads

@@ -55,9 +55,22 @@ abbrev pub HasPolicy : List (List ℕ) → Command → Type 0
 HasPolicy names (Fund fund) = IsFirstNamed names fund.policy
 HasPolicy names command = Unit {0}
 
--- the words are the one row of the command
+-- the words are those of the command
 abbrev pub AreWords : List (List ℕ) → List (List ℕ) → Command → Type 0
 AreWords names words command = (words ≡ words_of names command) × HasPolicy names command
+
+-- a word begins with a hyphen
+abbrev pub begins_with_hyphen : List ℕ → Bool
+begins_with_hyphen [] = false
+begins_with_hyphen (letter ∷ word) = letter == 45
+
+-- none of the words does
+abbrev pub ArePlain : List (List ℕ) → Type 0
+ArePlain words = IsTrue (list_all (λ word. not (begins_with_hyphen word)) words)
+
+-- the words are the one row of the command: no word that begins with a hyphen is in it, whatever a policy is named
+abbrev pub IsRow : List (List ℕ) → List (List ℕ) → Command → Type 0
+IsRow names words command = ArePlain words × (words ≡ words_of names command) × HasPolicy names command
 
 -- the words are the row of the command that was read, and of none where none was
 abbrev pub ReadsOf : List (List ℕ) → List (List ℕ) → Option Command → Type 0
@@ -87,15 +100,10 @@ ReadsYear word read = (of : ReportYear) → (read ≡ Some of) ↔ (word ≡ dec
 abbrev pub ReadsGenerate : List (List ℕ) → Option GenerateRequest → Type 0
 ReadsGenerate words read = (generate : GenerateRequest) → (read ≡ Some generate) ↔ (words ≡ generate_words generate)
 
--- a word that begins with a hyphen is no file of a desk
-abbrev pub begins_with_hyphen : List ℕ → Bool
-begins_with_hyphen [] = false
-begins_with_hyphen (letter ∷ word) = letter == 45
-
 -- the words are `desks` and so many files behind it, from 1 to 16
 abbrev pub AreDesks : List (List ℕ) → ℕ → Type 0
 AreDesks [] files = ⊥
-AreDesks (first ∷ paths) files = (first ≡ codes "desks") × (files ≡ length paths) × IsBetween 1 16 files × IsTrue (list_all (λ path. not (begins_with_hyphen path)) paths)
+AreDesks (first ∷ paths) files = (first ≡ codes "desks") × (files ≡ length paths) × IsBetween 1 16 files × ArePlain paths
 
 -- the words of a server: PORT WORKERS SESSIONS
 abbrev pub serve_words : ℕ → ℕ → ℕ → List (List ℕ)

@@ -1,37 +1,22 @@
 //! Which call of the program a row of words needs.
-ghost use Rattle.std.specs.Prelude.{◌≡◌, ◌≢◌, ◌↔◌, ◌∷◌, [], ℕ, codes, map, not, string_bytes};
-ghost use Rattle.std.specs.List.{list_all};
-ghost use Rattle.run_words.specs.Words.{AreDesks, AreServe, ReadsServe, begins_with_hyphen};
+ghost use Rattle.std.specs.Prelude.{◌≡◌, ◌≢◌, ◌↔◌, ◌⊎◌, ◌∷◌, [], ℕ, List, codes, false, map, string_bytes};
+ghost use Rattle.run_words.specs.Words.{AreDesks, AreServe, IsRow, ReadsServe, words_of};
+ghost use Rattle.run_words.specs.declared.command.Command.{Command as CommandData};
+ghost use Rattle.run_words.specs.declared.command.Command.TheVariants.{CheckBook, CheckRows};
 
 use crate::command::MainRow;
+use crate::hyphen::are_plain;
 use crate::number::number_in;
 
 /// At most so many desks file at once.
 pub const MOST_DESKS: usize = 16;
-
-// Whether the word begins with a hyphen.
-fn is_hyphened(word: &str) -> bool
-    ensures { result ≡ begins_with_hyphen word.now }
-{
-    match word.as_bytes().first() {
-        Some(letter) => *letter == b'-',
-        None => false,
-    }
-}
-
-// Whether no word begins with a hyphen.
-fn are_files(words: &[String]) -> bool
-    ensures { result ≡ list_all (λ word. not (begins_with_hyphen (string_bytes word))) words.now }
-{
-    words.iter().all(|word| !is_hyphened(word.as_str()))
-}
 
 // The row of a first word and the words behind it, where they are no server's.
 fn row_behind(first: &str, files: &[String]) -> MainRow
     ensures desks { (count : ℕ) → (result ≡ MainRow.Desks count) ↔ AreDesks (first.now ∷ map string_bytes files.now) count }
     ensures other { (port workers sessions : ℕ) → result ≢ MainRow.Serve port workers sessions }
 {
-    if first == "desks" && !files.is_empty() && files.len() <= MOST_DESKS && are_files(files) {
+    if first == "desks" && !files.is_empty() && files.len() <= MOST_DESKS && are_plain(files) {
         MainRow::Desks {
             files: files.len() as u32,
         }
@@ -90,4 +75,30 @@ pub fn row_of(words: &[String]) -> MainRow
         Some((first, files)) => row_behind(first.as_str(), files),
         None => MainRow::Run,
     }
+}
+
+/// Whether the words may be those of a command that works on the journal, by the first of them: of the commands, only the two
+/// checks don't.
+pub fn needs_journal(words: &[String]) -> bool
+    ensures none { result ≡ false → (names : List (List ℕ)) (command : CommandData) → IsRow names (map string_bytes words.now) command
+        → (command ≡ CheckRows) ⊎ (command ≡ CheckBook) }
+{
+    match words.split_first() {
+        Some((name, _)) => works_on_journal(name.as_str()),
+        None => false,
+    }
+}
+
+// Whether a command of this name works on the journal.
+fn works_on_journal(name: &str) -> bool
+    ensures { result ≡ false → (names behind : List (List ℕ)) (command : CommandData) → name.now ∷ behind ≡ words_of names command
+        → (command ≡ CheckRows) ⊎ (command ≡ CheckBook) }
+{
+    name == "found"
+        || name == "file"
+        || name == "book"
+        || name == "quote"
+        || name == "report"
+        || name == "fund"
+        || name == "generate"
 }

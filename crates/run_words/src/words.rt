@@ -1,48 +1,86 @@
 //! The command of a row of words.
-ghost use Rattle.std.specs.Prelude.{◌≡◌, ◌↔◌, ◌∷◌, [], IfSome, IsTrue, codes, map, string_bytes};
+ghost use Rattle.std.specs.Prelude.{◌≡◌, ◌≢◌, ◌↔◌, ◌∷◌, [], IfOk, IfSome, IsTrue, None, Some, codes, map, string_bytes};
 ghost use Rattle.std.specs.List.{position};
 ghost use Rattle.std.specs.Str.{bytes_eq};
-ghost use Rattle.run_words.specs.Words.{AreWords, Reads, ReadsFund, ReadsGenerate, ReadsOf, ReadsQuote, ReadsReport, ReadsYear};
+ghost use Rattle.run_words.specs.Words.{ArePlain, IsRow, Reads, ReadsFund, ReadsGenerate, ReadsOf, ReadsQuote, ReadsReport, ReadsYear};
 ghost use Rattle.run_words.specs.declared.command.Command.{Command as CommandData};
 
+use crate::behind::{fund_words, generate_words, is_alone, number_behind, quote_words};
 use crate::command::{
     BookNumber, Command, FundRequest, GenerateRequest, QuoteRequest, ReportRequest, ReportYear,
 };
+use crate::hyphen::are_plain;
 use crate::number::number_in;
 use aid_types::{School, Student, Year};
 use fund_policy::Policies;
+use std::alloc::{AllocError, Global};
 
-/// The command that the words are the row of, where these policies are known; `None` where they are no row of the program's.
-/// It takes no memory.
-pub fn command_of(words: &[String], policies: &Policies) -> Option<Command>
-    ensures words { IfSome result (λ c. AreWords (map (λ p. p.name) policies.now.list.items) (map string_bytes words.now) c) }
-    ensures none { result ≡ None → (c : CommandData) → ¬ (AreWords (map (λ p. p.name) policies.now.list.items) (map string_bytes words.now) c) }
-    ensures only { (c : CommandData) → AreWords (map (λ p. p.name) policies.now.list.items) (map string_bytes words.now) c → result ≡ Some c }
+/// The command that the words are the row of, where these policies are known; `None` where they are no row of the program's. An
+/// `Err` is want of memory.
+pub fn command_of(
+    alloc: Global,
+    words: &[String],
+    policies: &Policies,
+) -> Result<Option<Command>, AllocError>
+    ensures words { IfOk result (λ r. IfSome r (λ c. IsRow (map (λ p. p.name) policies.now.list.items) (map string_bytes words.now) c)) }
+    ensures none { IfOk result (λ r. r ≡ None → (c : CommandData) → ¬ (IsRow (map (λ p. p.name) policies.now.list.items) (map string_bytes words.now) c)) }
+    ensures only { (c : CommandData) → IsRow (map (λ p. p.name) policies.now.list.items) (map string_bytes words.now) c → IfOk result (λ r. r ≡ Some c) }
 {
-    match words {
-        [only] => command_alone(only.as_str()),
-        [first, second] => command_of_two(first.as_str(), second.as_str()),
-        [first, second, third] => {
-            command_of_three(first.as_str(), second.as_str(), third.as_str())
-        }
-        [first, school, student, year, term] => command_of_five(
-            first.as_str(),
-            school.as_str(),
-            student.as_str(),
-            year.as_str(),
-            term.as_str(),
-        ),
-        [first, school, year, term, amount, policy, number] => command_of_seven(
-            policies,
-            first.as_str(),
-            school.as_str(),
-            year.as_str(),
-            term.as_str(),
-            amount.as_str(),
-            policy.as_str(),
-            number.as_str(),
-        ),
-        _ => None,
+    if !are_plain(words) {
+        return Ok(None);
+    }
+    match words.split_first() {
+        Some((name, behind)) => command_named(alloc, policies, name.as_str(), behind),
+        None => Ok(None),
+    }
+}
+
+// The command of a name and the words behind it.
+fn command_named(
+    alloc: Global,
+    policies: &Policies,
+    name: &str,
+    behind: &[String],
+) -> Result<Option<Command>, AllocError>
+    requires { ArePlain (map string_bytes behind.now) }
+    ensures { IfOk result (ReadsOf (map (λ p. p.name) policies.now.list.items) (name.now ∷ map string_bytes behind.now)) }
+{
+    if is_same_word(name, "quote") {
+        read_quote(alloc, behind)
+    } else if is_same_word(name, "fund") {
+        read_fund(alloc, policies, behind)
+    } else if is_same_word(name, "generate") {
+        read_generate(alloc, behind)
+    } else if is_same_word(name, "book") {
+        read_book(alloc, behind)
+    } else {
+        command_without_numbers(alloc, name, behind)
+    }
+}
+
+// The same of the names that are left.
+fn command_without_numbers(
+    alloc: Global,
+    name: &str,
+    behind: &[String],
+) -> Result<Option<Command>, AllocError>
+    requires plain { ArePlain (map string_bytes behind.now) }
+    requires not_quote { name.now ≢ codes "quote" }
+    requires not_fund { name.now ≢ codes "fund" }
+    requires not_generate { name.now ≢ codes "generate" }
+    requires not_book { name.now ≢ codes "book" }
+    ensures { IfOk result (Reads (name.now ∷ map string_bytes behind.now)) }
+{
+    if is_same_word(name, "found") {
+        read_found(alloc, behind)
+    } else if is_same_word(name, "file") {
+        read_file(alloc, behind)
+    } else if is_same_word(name, "check") {
+        read_check(alloc, behind)
+    } else if is_same_word(name, "report") {
+        read_report(alloc, behind)
+    } else {
+        Ok(None)
     }
 }
 
@@ -53,31 +91,38 @@ fn is_same_word(one: &str, other: &str) -> bool
     one == other
 }
 
-// The command of one word.
-fn command_alone(word: &str) -> Option<Command>
-    ensures { Reads (word.now ∷ []) result }
+// The command to found an office, of the words behind its name.
+fn read_found(alloc: Global, behind: &[String]) -> Result<Option<Command>, AllocError>
+    requires { ArePlain (map string_bytes behind.now) }
+    ensures { IfOk result (Reads (codes "found" ∷ map string_bytes behind.now)) }
 {
-    if is_same_word(word, "found") {
-        Some(Command::Found)
-    } else if is_same_word(word, "file") {
-        Some(Command::File)
+    if is_alone(alloc, "found", behind)? {
+        Ok(Some(Command::Found))
     } else {
-        None
+        Ok(None)
     }
 }
 
-// The command of two words.
-fn command_of_two(first: &str, second: &str) -> Option<Command>
-    ensures { Reads (first.now ∷ second.now ∷ []) result }
+// The command to file rows.
+fn read_file(alloc: Global, behind: &[String]) -> Result<Option<Command>, AllocError>
+    requires { ArePlain (map string_bytes behind.now) }
+    ensures { IfOk result (Reads (codes "file" ∷ map string_bytes behind.now)) }
 {
-    if is_same_word(first, "book") {
-        book_command(second)
-    } else if is_same_word(first, "check") {
-        check_command(second)
-    } else if is_same_word(first, "report") {
-        report_command(second)
+    if is_alone(alloc, "file", behind)? {
+        Ok(Some(Command::File))
     } else {
-        None
+        Ok(None)
+    }
+}
+
+// The command to file a book, of the words behind its name.
+fn read_book(alloc: Global, behind: &[String]) -> Result<Option<Command>, AllocError>
+    requires { ArePlain (map string_bytes behind.now) }
+    ensures { IfOk result (Reads (codes "book" ∷ map string_bytes behind.now)) }
+{
+    match number_behind(alloc, "book", behind)? {
+        Some(number) => Ok(book_command(number)),
+        None => Ok(None),
     }
 }
 
@@ -89,51 +134,121 @@ fn book_command(number: &str) -> Option<Command>
     Some(Command::Book(BookNumber { number }))
 }
 
-// The command to check an input.
-fn check_command(what: &str) -> Option<Command>
-    ensures { Reads (codes "check" ∷ what.now ∷ []) result }
+// The command to check an input, of the words behind its name.
+fn read_check(alloc: Global, behind: &[String]) -> Result<Option<Command>, AllocError>
+    requires { ArePlain (map string_bytes behind.now) }
+    ensures { IfOk result (Reads (codes "check" ∷ map string_bytes behind.now)) }
+{
+    match behind.split_first() {
+        Some((what, more)) => read_check_of(alloc, what.as_str(), more),
+        None => Ok(None),
+    }
+}
+
+// The command to check rows or a book.
+fn read_check_of(
+    alloc: Global,
+    what: &str,
+    behind: &[String],
+) -> Result<Option<Command>, AllocError>
+    requires { ArePlain (map string_bytes behind.now) }
+    ensures { IfOk result (Reads (codes "check" ∷ what.now ∷ map string_bytes behind.now)) }
 {
     if is_same_word(what, "rows") {
-        Some(Command::CheckRows)
+        read_check_rows(alloc, behind)
     } else if is_same_word(what, "book") {
-        Some(Command::CheckBook)
+        read_check_book(alloc, behind)
     } else {
-        None
+        Ok(None)
     }
 }
 
-// The command to write a report of no year.
-fn report_command(report: &str) -> Option<Command>
-    ensures { Reads (codes "report" ∷ report.now ∷ []) result }
+fn read_check_rows(alloc: Global, behind: &[String]) -> Result<Option<Command>, AllocError>
+    requires { ArePlain (map string_bytes behind.now) }
+    ensures { IfOk result (Reads (codes "check" ∷ codes "rows" ∷ map string_bytes behind.now)) }
+{
+    if is_alone(alloc, "rows", behind)? {
+        Ok(Some(Command::CheckRows))
+    } else {
+        Ok(None)
+    }
+}
+
+fn read_check_book(alloc: Global, behind: &[String]) -> Result<Option<Command>, AllocError>
+    requires { ArePlain (map string_bytes behind.now) }
+    ensures { IfOk result (Reads (codes "check" ∷ codes "book" ∷ map string_bytes behind.now)) }
+{
+    if is_alone(alloc, "book", behind)? {
+        Ok(Some(Command::CheckBook))
+    } else {
+        Ok(None)
+    }
+}
+
+// The command to write a report, of the words behind its name.
+fn read_report(alloc: Global, behind: &[String]) -> Result<Option<Command>, AllocError>
+    requires { ArePlain (map string_bytes behind.now) }
+    ensures { IfOk result (Reads (codes "report" ∷ map string_bytes behind.now)) }
+{
+    match read_report_words(alloc, behind)? {
+        Some(report) => Ok(Some(Command::Report(report))),
+        None => Ok(None),
+    }
+}
+
+// The report that is asked for, of all words behind `report`.
+fn read_report_words(alloc: Global, behind: &[String]) -> Result<Option<ReportRequest>, AllocError>
+    requires { ArePlain (map string_bytes behind.now) }
+    ensures { IfOk result (ReadsReport (map string_bytes behind.now)) }
+{
+    match behind.split_first() {
+        Some((report, more)) => read_report_of(alloc, report.as_str(), more),
+        None => Ok(None),
+    }
+}
+
+// The report of a name and the words behind it.
+fn read_report_of(
+    alloc: Global,
+    report: &str,
+    behind: &[String],
+) -> Result<Option<ReportRequest>, AllocError>
+    requires { ArePlain (map string_bytes behind.now) }
+    ensures { IfOk result (ReadsReport (report.now ∷ map string_bytes behind.now)) }
 {
     if is_same_word(report, "lifetime") {
-        Some(Command::Report(ReportRequest::Lifetime))
+        read_lifetime(alloc, behind)
     } else {
-        None
+        read_yearly(alloc, report, behind)
     }
 }
 
-// The command of three words.
-fn command_of_three(first: &str, second: &str, third: &str) -> Option<Command>
-    ensures { Reads (first.now ∷ second.now ∷ third.now ∷ []) result }
+// The report of no year.
+fn read_lifetime(alloc: Global, behind: &[String]) -> Result<Option<ReportRequest>, AllocError>
+    requires { ArePlain (map string_bytes behind.now) }
+    ensures { IfOk result (ReadsReport (codes "lifetime" ∷ map string_bytes behind.now)) }
 {
-    if is_same_word(first, "report") {
-        Some(Command::Report(report_request(second, third)?))
-    } else if is_same_word(first, "generate") {
-        Some(Command::Generate(generate_request(second, third)?))
+    if is_alone(alloc, "lifetime", behind)? {
+        Ok(Some(ReportRequest::Lifetime))
     } else {
-        None
+        Ok(None)
     }
 }
 
-// The generated year that is asked for.
-fn generate_request(seed: &str, students: &str) -> Option<GenerateRequest>
-    ensures { ReadsGenerate (seed.now ∷ students.now ∷ []) result }
+// A report of a year.
+fn read_yearly(
+    alloc: Global,
+    report: &str,
+    behind: &[String],
+) -> Result<Option<ReportRequest>, AllocError>
+    requires plain { ArePlain (map string_bytes behind.now) }
+    requires not_lifetime { report.now ≢ codes "lifetime" }
+    ensures { IfOk result (ReadsReport (report.now ∷ map string_bytes behind.now)) }
 {
-    Some(GenerateRequest {
-        seed: number_in(seed, 0, 999_999_999_999)?,
-        students: number_in(students, 1, 20_000)? as u16,
-    })
+    match number_behind(alloc, report, behind)? {
+        Some(year) => Ok(report_request(report, year)),
+        None => Ok(None),
+    }
 }
 
 // The report of a year that is asked for.
@@ -161,21 +276,48 @@ fn report_year(year: &str) -> Option<ReportYear>
     })
 }
 
-// The command of five words.
-fn command_of_five(
-    first: &str,
-    school: &str,
-    student: &str,
-    year: &str,
-    term: &str,
-) -> Option<Command>
-    ensures { Reads (first.now ∷ school.now ∷ student.now ∷ year.now ∷ term.now ∷ []) result }
+// The command to file a generated year, of the words behind its name.
+fn read_generate(alloc: Global, behind: &[String]) -> Result<Option<Command>, AllocError>
+    requires { ArePlain (map string_bytes behind.now) }
+    ensures { IfOk result (Reads (codes "generate" ∷ map string_bytes behind.now)) }
 {
-    if is_same_word(first, "quote") {
-        Some(Command::Quote(quote_request(school, student, year, term)?))
-    } else {
-        None
+    match generate_words(alloc, behind)? {
+        Some(words) => Ok(generate_command(words.seed, words.students)),
+        None => Ok(None),
     }
+}
+
+fn generate_command(seed: &str, students: &str) -> Option<Command>
+    ensures { Reads (codes "generate" ∷ seed.now ∷ students.now ∷ []) result }
+{
+    Some(Command::Generate(generate_request(seed, students)?))
+}
+
+// The generated year that is asked for.
+fn generate_request(seed: &str, students: &str) -> Option<GenerateRequest>
+    ensures { ReadsGenerate (seed.now ∷ students.now ∷ []) result }
+{
+    Some(GenerateRequest {
+        seed: number_in(seed, 0, 999_999_999_999)?,
+        students: number_in(students, 1, 20_000)? as u16,
+    })
+}
+
+// The command to ask for a quote, of the words behind its name.
+fn read_quote(alloc: Global, behind: &[String]) -> Result<Option<Command>, AllocError>
+    requires { ArePlain (map string_bytes behind.now) }
+    ensures { IfOk result (Reads (codes "quote" ∷ map string_bytes behind.now)) }
+{
+    match quote_words(alloc, behind)? {
+        Some(words) => Ok(quote_command(words.school, words.student, words.year, words.term)),
+        None => Ok(None),
+    }
+}
+
+fn quote_command(school: &str, student: &str, year: &str, term: &str) -> Option<Command>
+    ensures { Reads (codes "quote" ∷ school.now ∷ student.now ∷ year.now ∷ term.now ∷ []) result }
+{
+    Some(Command::Quote(quote_request(school, student, year, term)?))
 }
 
 // The payment that is asked about.
@@ -190,6 +332,44 @@ fn quote_request(school: &str, student: &str, year: &str, term: &str) -> Option<
     })
 }
 
+// The command to file a round of awards, of the words behind its name.
+fn read_fund(
+    alloc: Global,
+    policies: &Policies,
+    behind: &[String],
+) -> Result<Option<Command>, AllocError>
+    requires { ArePlain (map string_bytes behind.now) }
+    ensures { IfOk result (ReadsOf (map (λ p. p.name) policies.now.list.items) (codes "fund" ∷ map string_bytes behind.now)) }
+{
+    match fund_words(alloc, behind)? {
+        Some(words) => Ok(fund_command(
+            policies,
+            words.school,
+            words.year,
+            words.term,
+            words.amount,
+            words.policy,
+            words.number,
+        )),
+        None => Ok(None),
+    }
+}
+
+fn fund_command(
+    policies: &Policies,
+    school: &str,
+    year: &str,
+    term: &str,
+    amount: &str,
+    policy: &str,
+    number: &str,
+) -> Option<Command>
+    ensures { ReadsOf (map (λ p. p.name) policies.now.list.items)
+        (codes "fund" ∷ school.now ∷ year.now ∷ term.now ∷ amount.now ∷ policy.now ∷ number.now ∷ []) result }
+{
+    Some(Command::Fund(fund_request(policies, school, year, term, amount, policy, number)?))
+}
+
 // The place of the first policy of a name.
 fn place_of(policies: &Policies, name: &str) -> Option<usize>
     ensures { result ≡ position (λ known. bytes_eq known name.now) (map (λ p. p.name) policies.now.list.items) }
@@ -199,27 +379,6 @@ fn place_of(policies: &Policies, name: &str) -> Option<usize>
             ensures { result ≡ bytes_eq policy.now.name name.entry.now }
         { policy.name.as_bytes() == name.as_bytes() },
     )
-}
-
-// The command of seven words.
-fn command_of_seven(
-    policies: &Policies,
-    first: &str,
-    school: &str,
-    year: &str,
-    term: &str,
-    amount: &str,
-    policy: &str,
-    number: &str,
-) -> Option<Command>
-    ensures { ReadsOf (map (λ p. p.name) policies.now.list.items)
-        (first.now ∷ school.now ∷ year.now ∷ term.now ∷ amount.now ∷ policy.now ∷ number.now ∷ []) result }
-{
-    if is_same_word(first, "fund") {
-        Some(Command::Fund(fund_request(policies, school, year, term, amount, policy, number)?))
-    } else {
-        None
-    }
 }
 
 // The award round that is asked for.
