@@ -1,5 +1,5 @@
 -- What each image of the disk recovers at each moment of a command, and behind it.
-use Rattle.std.proofs.Common.{◌≡◌, ⊎_elim, ℕ, Bool, true, false, List, [], ◌∷◌, ◌++◌, map, Result, Ok, Err, None, ap, subst, refl, sym, ◌∙◌, arith, append-nil, map-id}
+use Rattle.std.proofs.Common.{◌≡◌, inl, ⊎_elim, ℕ, Bool, true, false, List, [], ◌∷◌, ◌++◌, map, Result, Ok, Err, None, ap, subst, refl, sym, ◌∙◌, arith, append-nil, map-id}
 use Rattle.std.specs.Prelude.{if◌then◌else◌}
 use Rattle.aid_filings.specs.declared.filing.Filing.{Filing}
 use Rattle.aid_filings.specs.declared.reply.Ask.{Ask}
@@ -34,6 +34,7 @@ use Rattle.kept_session.specs.declared.stop.SessionStop.{SessionStop}
 use Rattle.kept_session.proofs.Fronts.{images_of_session, moments_of_session}
 use Rattle.office_history.specs.Answer.{answer_to, is_admit}
 use Rattle.run_words.specs.declared.command.Command.{Command}
+use Rattle.run_words.specs.declared.command.Command.TheVariants.{Found, File, Book, Quote, Report, Fund, Generate, CheckRows, CheckBook}
 use Rattle.run_words.specs.declared.command.FundRequest.{FundRequest}
 use Rattle.run_words.specs.declared.command.QuoteRequest.{QuoteRequest}
 use Rattle.run_rows.specs.Asks.{book_rows, book_texts, desk_rows, desk_texts, quote_ask, quote_rows, quote_texts}
@@ -62,6 +63,19 @@ quotes_add quote past (row ∷ []) rest is =
     let one : row ≡ Ok (quote_ask quote) = cc in
     ap (λ (r : Result Ask RowError). after_row office_judging past r) one ∙ quote_adds quote past
 quotes_add quote past (row ∷ other ∷ rows) rest is = absurd (let bad : ⊥ = cc in bad)
+
+-- a file that recovers the list before a command is one of those that may be at a moment of it
+before_rows : (gives : PolicyAnswers) (command : Command) (input : Input) (past : List Filing) (file : List ℕ) → Recovers file past → MayRecover gives command input past file
+before_rows gives Found input past file r = r
+before_rows gives File input past file r = (desk_rows input.before, λ honest. refl, ([], desk_rows input.before, refl, r))
+before_rows gives (Book book) input past file r = (book_rows book.number input.before, λ honest. refl, ([], book_rows book.number input.before, refl, r))
+before_rows gives (Quote quote) input past file r = r
+before_rows gives (Report report) input past file r = r
+before_rows gives (Fund fund) input past file r = inl r
+before_rows gives (Generate generate) input past file r =
+    (rows_of_text generate.students generate.seed input.before, λ honest. refl, ([], rows_of_text generate.students generate.seed input.before, refl, r))
+before_rows gives CheckRows input past file r = r
+before_rows gives CheckBook input past file r = r
 
 -- an input of one answer, whatever it is
 module _ {D : Type 0} (gives : PolicyAnswers) (disk : Ghosts D) (only : (d : D) (c : List ℕ) → IsHonest (disk.tells d) → (disk.tells d).image_since (disk.tells d).moment c → (disk.tells d).image c)
@@ -132,6 +146,11 @@ module _ {D : Type 0} (gives : PolicyAnswers) (disk : Ghosts D) (only : (d : D) 
       (rows_of_text generate.students generate.seed) 16777216 input output inner past old new honest each session
   moments old new input output command ended past (checking_rows _ same checks) honest each = stays old new past honest each same
   moments old new input output command ended past (checking_book _ same checks) honest each = stays old new past honest each same
+
+  -- where no command was begun
+  pub moments_unread : (old : D) (input : Input) (command : Command) (past : List Filing) → IsHonest (disk.tells old) → Each old past → EachMoment (disk.tells old) (disk.tells old) (MayRecover gives command input past)
+  moments_unread old input command past honest each =
+      started (disk.tells old) (MayRecover gives command input past) (λ file since. before_rows gives command input past file (each file (only old file honest since)))
 
   -- the same of the command that the words are the row of
   pub moments_by : (old new : D) (input : Input) (output : Output) (command same : Command) (ended : Result Unit RunStop) (past : List Filing) → command ≡ same

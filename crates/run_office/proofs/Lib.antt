@@ -16,3 +16,4 @@ pub mod Headline
 pub mod Images
 pub mod Keeps
 pub mod Shown
+pub mod RowWords

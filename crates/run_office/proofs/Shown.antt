@@ -1,16 +1,19 @@
 -- What the status of a run shows.
-use Rattle.std.proofs.Common.{◌≡◌, ℕ, Bool, List, Result, Ok, Err, refl, subst}
+use Rattle.std.proofs.Common.{◌≡◌, ℕ, Bool, List, Result, Ok, Err, ap, arith, length, refl, subst}
 use Rattle.std.proofs.lemmas.Bool.{true≢false}
 use Rattle.aid_edges.specs.declared.sink.Sink.{Ghosts as SinkGhosts}
 use Rattle.disk_model.specs.declared.disk.Disk.{Ghosts}
 use Rattle.kept_session.specs.Edges.{Input}
 use Rattle.run_office.specs.Rounds.{PolicyAnswers}
-use Rattle.run_office.specs.Ran.{Counts, Does, FileRan, HasCause, Ran, Shows, booking, checking_book, checking_rows, did, filing, founding, funding, generating, no_row, quoting, reporting, written}
+use Rattle.run_office.specs.Ran.{Counts, Does, FileRan, HasCause, Ran, Shows, booking, checking_book, checking_rows, did, filing, founding, funding, generating, no_memory, no_row, quoting, reporting, unread_words, written}
 use Rattle.run_words.specs.declared.command.Command.{Command}
 use Rattle.run_words.specs.declared.command.Command.TheVariants as commands
 use Rattle.kept_runs.specs.Ends.{Ends, EndsWith, Moved, stopped, told, untold, well}
-use Rattle.kept_runs.specs.Statuses.{ended_file, fault_line, status_of}
+use Rattle.kept_runs.specs.Statuses.{ended_file, fault_line, session_line, session_status, status_of}
+use Rattle.kept_session.specs.Sessions as sessions
+use Rattle.kept_session.specs.declared.stop.ReadStop.TheVariants as reading
 use Rattle.kept_session.specs.declared.stop.SessionStop.{SessionStop}
+use Rattle.kept_session.specs.declared.stop.SessionStop.TheVariants.{Reading}
 use Rattle.kept_runs.specs.declared.stop.RunStop.{RunStop}
 use Rattle.kept_runs.specs.declared.stop.RunStop.TheVariants.{File, Usage}
 use Rattle.kept_runs.proofs.EndLaws.{shown}
@@ -28,12 +31,13 @@ ends_show sink old new counts ended status cause (stopped stop _ (untold cut)) =
 pub run_shows : {D K : Type 0} (names : List (List ℕ)) (gives : PolicyAnswers) (disk : Ghosts D) (sink : SinkGhosts K) (counts : Counts) (words : List (List ℕ)) (old new : D) (input : Input) (out out' : K) (status : ℕ)
     → Ran names gives disk sink counts words old new input out out' status → Shows counts status
 run_shows names gives disk sink counts words old new input out out' status (no_row _ none same unread cause ends) = ends_show sink out out' counts (Err Usage) status cause ends
+run_shows names gives disk sink counts words old new input out out' status (unread_words _ same unread cause ends) = ends_show sink out out' counts (Err no_memory) status cause ends
 run_shows names gives disk sink counts words old new input out out' status (did command at ended _ is does same cause ends) = ends_show sink at out' counts ended status cause ends
 
 ends_well : {K : Type 0} (sink : SinkGhosts K) (old new : K) (status : ℕ) → Ends sink old new (Ok tt) status → (new ≡ old) × (status ≡ 0)
 ends_well sink old new _ (well same) = (same, refl)
 
-ends_stopped : {K : Type 0} (sink : SinkGhosts K) (old new : K) (stop : RunStop) (status : ℕ) → Ends sink old new (Err stop) status → EndsWith sink (fault_line stop) (status_of stop) old new status
+pub ends_stopped : {K : Type 0} (sink : SinkGhosts K) (old new : K) (stop : RunStop) (status : ℕ) → Ends sink old new (Err stop) status → EndsWith sink (fault_line stop) (status_of stop) old new status
 ends_stopped sink old new stop status (stopped _ _ is) = is
 
 -- what `file` did is a run of it
@@ -55,3 +59,16 @@ file_ran disk sink old new input out at out' command ended status is (funding fu
 file_ran disk sink old new input out at out' command ended status is (generating generate inner session) honest ends = absurd (let bad : ⊥ = cc in bad)
 file_ran disk sink old new input out at out' command ended status is (checking_rows _ same checks) honest ends = absurd (let bad : ⊥ = cc in bad)
 file_ran disk sink old new input out at out' command ended status is (checking_book _ same checks) honest ends = absurd (let bad : ⊥ = cc in bad)
+
+-- a run of it that has no memory for its words is a session whose input wasn't read
+pub unread_ran : {D K : Type 0} (disk : Ghosts D) (sink : SinkGhosts K) (here : D) (input : Input) (out out' : K) (status : ℕ) → input.after ≡ input.before
+    → Ends sink out out' (Err no_memory) status → FileRan disk sink here here input out out' status
+unread_ran disk sink here input out out' status same ends = record {
+  at = out;
+  ended = Err (Reading reading.NoMemory);
+  session = sessions.unread reading.NoMemory (λ honest. let size = ap length same in omega (arith, size)) refl refl;
+  honest = refl;
+  done = λ ok. absurd (let bad : ⊥ = cc in bad);
+  early = λ stop err. let is : Reading reading.NoMemory ≡ stop = cc in
+      subst (λ (s : SessionStop). EndsWith sink (session_line s) (session_status s) out out' status) is (ends_stopped sink out out' no_memory status ends);
+}

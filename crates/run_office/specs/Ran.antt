@@ -20,9 +20,11 @@ use Rattle.kept_session.specs.declared.checking.CheckStop.{CheckStop}
 use Rattle.kept_session.specs.declared.checking.CheckStop.TheVariants as checking
 use Rattle.kept_session.specs.declared.checking.CheckTally.{CheckTally}
 use Rattle.kept_session.specs.declared.stop.FoundStop.{FoundStop}
+use Rattle.kept_session.specs.declared.stop.ReadStop.TheVariants as reading
 use Rattle.kept_session.specs.declared.stop.SessionStop.{SessionStop}
+use Rattle.kept_session.specs.declared.stop.SessionStop.TheVariants.{Reading}
 use Rattle.desk_forms.specs.Lines.{fine_line, tally_line}
-use Rattle.run_words.specs.Words.{AreWords}
+use Rattle.run_words.specs.Words.{IsRow}
 use Rattle.run_words.specs.declared.command.BookNumber.{BookNumber}
 use Rattle.run_words.specs.declared.command.Command.{Command}
 use Rattle.run_words.specs.declared.command.Command.TheVariants.{Found, File, Book, Quote, Report, Fund, Generate, CheckRows, CheckBook}
@@ -118,14 +120,22 @@ pub record Shows (counts : Counts) (status : ℕ) : Type 0 where
   pub source : (status == 4) ≡ false → Moved (status == 3) counts.source
   pub disk : (status == 4) ≡ false → Moved (status == 5) counts.disk
 
+-- why a run stops that has no memory for its words
+abbrev pub no_memory : RunStop
+no_memory = stops.File (Reading reading.NoMemory)
+
 -- A run with these words over a disk and a sink. `names` are those of the policies, in their order.
 pub data Ran {D K : Type 0} (names : List (List ℕ)) (gives : PolicyAnswers) (disk : Ghosts D) (sink : SinkGhosts K) (counts : Counts) (words : List (List ℕ)) (old new : D) (input : Input) (out out' : K) : ℕ → Type 0 where
   -- the words are no row: nothing is read, and no call is made on the disk
-  no_row : (status : ℕ) → ((command : Command) → AreWords names words command → ⊥) → new ≡ old → input.after ≡ input.before
+  no_row : (status : ℕ) → ((command : Command) → IsRow names words command → ⊥) → new ≡ old → input.after ≡ input.before
       → HasCause counts (Err stops.Usage) status → Ends sink out out' (Err stops.Usage) status
       → Ran names gives disk sink counts words old new input out out' status
+  -- there was no memory to read the words: nothing is read, and no call is made on the disk
+  unread_words : (status : ℕ) → new ≡ old → input.after ≡ input.before
+      → HasCause counts (Err no_memory) status → Ends sink out out' (Err no_memory) status
+      → Ran names gives disk sink counts words old new input out out' status
   -- they are the row of a command, which has written its text when the run ends
-  did : (command : Command) (at : K) (ended : Result Unit RunStop) (status : ℕ) → AreWords names words command
+  did : (command : Command) (at : K) (ended : Result Unit RunStop) (status : ℕ) → IsRow names words command
       → Does gives disk old new input (written sink out at) command ended → sink.honest at ≡ sink.honest out
       → HasCause counts ended status → Ends sink at out' ended status
       → Ran names gives disk sink counts words old new input out out' status

@@ -7,7 +7,7 @@ ghost use Rattle.headline.specs.Filed.{HasFiled, rows_in};
 ghost use Rattle.headline.specs.Office.{Recovers};
 ghost use Rattle.kept_office.specs.Recovers.{Recovers as KeptRecovers};
 ghost use Rattle.office_history.specs.Within.{IsWithinEveryLimit};
-ghost use Rattle.run_words.specs.Words.{AreWords};
+ghost use Rattle.run_words.specs.Words.{IsRow};
 ghost use Rattle.run_words.specs.declared.command.Command.{Command as CommandData};
 ghost use Rattle.run_office.specs.Moments.{MayRecover, Stands, StoodBefore};
 ghost use Rattle.run_office.specs.Ran.{CanBeDone, Does, FileRan, Ran, Shows, reads_input};
@@ -24,7 +24,9 @@ use fund_policy::{Policies, Rule};
 use generated_year::{GeneratedOffice, YearForms, YearTally};
 use kept_office::FiledOffice;
 use kept_runs::{RunStop, end, ended_filing, ended_founding};
-use kept_session::{answer, file, file_counted, found, write_report};
+use kept_session::{
+    ReadStop, SessionStop, answer, file, file_counted, found, write_report,
+};
 use run_rows::{BookForms, DeskForms, QuoteRow};
 use run_words::{Command, command_of};
 use std::alloc::Global;
@@ -116,7 +118,7 @@ fn do_command<D: Disk, S: Source, K: Sink>(
 /// call on the disk. The whole input is read before the
 /// journal is, and the line of a row is written before the next row is filed.
 ///
-/// The status is 0 where all was done, 2 where the words are no row, 3 where a read failed, 4 where a write failed, 5
+/// The status is 0 where all was done, 2 where the words are no row, unless memory ran out before that was known, 3 where a read failed, 4 where a write failed, 5
 /// where the disk failed, 6 where the file is none for the command, 7 where it is damaged, 8 where the input has more
 /// than `INPUT_LIMIT` bytes, and 9 where there is no memory. At each but 0 and 4 the last line of the text names the fault.
 pub fn run<D: Disk, S: Source, K: Sink>(
@@ -145,15 +147,15 @@ pub fn run<D: Disk, S: Source, K: Sink>(
         (map string_bytes words.now.items) disk result.1
         (record { honest = S.honest input.old; before = S.left input.old; after = S.left input.new }) out.old out.new result.0 }
     // The input is read by a command that has one alone.
-    ensures unread { ((command : CommandData) → AreWords (map (λ p. p.name) policies.now.list.items) (map string_bytes words.now.items) command → reads_input command ≡ false) → input.new ≡ input.old }
+    ensures unread { ((command : CommandData) → IsRow (map (λ p. p.name) policies.now.list.items) (map string_bytes words.now.items) command → reads_input command ≡ false) → input.new ≡ input.old }
 
     // Whatever a run comes to, each image at each moment of it recovers the list before it, with what some rows in front of
     // the input's add; where it was done, with what all of them add.
-    ensures moments { (command : CommandData) (past : List Filing) → AreWords (map (λ p. p.name) policies.now.list.items) (map string_bytes words.now.items) command
+    ensures moments { (command : CommandData) (past : List Filing) → IsRow (map (λ p. p.name) policies.now.list.items) (map string_bytes words.now.items) command
         → IsHonest (D.tells disk) → EachImage (D.tells disk) (λ file. KeptRecovers file past)
         → EachMoment (D.tells disk) (D.tells result.1)
         (MayRecover (gives_at policies.now.list.items (λ p. ⟦<Rule as Fn(u32, i32, u8) -> u32>⟧.post p.rule)) command (record { honest = S.honest input.old; before = S.left input.old; after = S.left input.new }) past) }
-    ensures stands { (command : CommandData) (past : List Filing) → AreWords (map (λ p. p.name) policies.now.list.items) (map string_bytes words.now.items) command → result.0 ≡ 0
+    ensures stands { (command : CommandData) (past : List Filing) → IsRow (map (λ p. p.name) policies.now.list.items) (map string_bytes words.now.items) command → result.0 ≡ 0
         → IsHonest (D.tells disk) → StoodBefore command (D.tells disk).reads past
         → Stands (gives_at policies.now.list.items (λ p. ⟦<Rule as Fn(u32, i32, u8) -> u32>⟧.post p.rule)) command (record { honest = S.honest input.old; before = S.left input.old; after = S.left input.new }) past (D.tells result.1) }
     // What `file` acknowledges, at every end: the rows that were filed, a line for each, and how it ended.
@@ -165,7 +167,7 @@ pub fn run<D: Disk, S: Source, K: Sink>(
         (record { source = (S.faults input.old, S.faults input.new); sink = (K.faults out.old, K.faults out.new); disk = (D.faults disk, D.faults result.1) }) result.0 }
 
     // Where no count rose, a command that can be done is done, if there is memory.
-    ensures complete { (command : CommandData) → AreWords (map (λ p. p.name) policies.now.list.items) (map string_bytes words.now.items) command
+    ensures complete { (command : CommandData) → IsRow (map (λ p. p.name) policies.now.list.items) (map string_bytes words.now.items) command
         → CanBeDone command (S.honest input.old) (length (S.left input.old)) (D.tells disk) → ¬ (Rose (S.faults input.old) (S.faults input.new))
         → ¬ (Rose (K.faults out.old) (K.faults out.new)) → ¬ (Rose (D.faults disk) (D.faults result.1))
         → (result.0 ≡ 0) ⊎ (result.0 ≡ 9) }
@@ -177,11 +179,15 @@ pub fn run<D: Disk, S: Source, K: Sink>(
     ensures sink_honest { K.honest out.new ≡ K.honest out.old }
     ensures disk_honest { (D.tells result.1).honest ≡ (D.tells disk).honest }
 {
-    match command_of(words, policies) {
-        Some(command) => {
+    match command_of(alloc, words, policies) {
+        Ok(Some(command)) => {
             let (ended, disk) = do_command(alloc, command, policies, disk, input, out);
             (end(ended, out), disk)
         }
-        None => (end(Err(RunStop::Usage), out), disk),
+        Ok(None) => (end(Err(RunStop::Usage), out), disk),
+        Err(_) => {
+            let no_memory = RunStop::File(SessionStop::Reading(ReadStop::NoMemory));
+            (end(Err(no_memory), out), disk)
+        }
     }
 }
