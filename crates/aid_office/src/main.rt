@@ -10,15 +10,17 @@ use kept_session::ReadStop;
 use kept_web::WebDesk;
 use run_office::{DeskInput, run, run_desks};
 use run_web::run_web;
-use run_words::{MainRow, row_of};
+use run_words::{MainRow, needs_journal, row_of};
 use std::alloc::{AllocError, Global};
 use std::fs::{File, OpenOptions, TryLockError};
 use std::io::ErrorKind;
 use std::net::{Ipv4Addr, Net, TcpListener, TcpStream};
+use std::os::unix::fs::FileExt;
+use std::path::Path;
 use std::process::ExitCode;
 use std::sync::Wait;
 use std::thread::Threads;
-use std::{env, io};
+use std::{env, fs, io};
 use web_edges::PortEdge;
 
 // The words after the program's name.
@@ -77,13 +79,28 @@ fn hold(rt: &HostRuntime, file: &File) -> bool {
     }
 }
 
-// Makes sure that the folder has the new file, where the system can say so.
+// Whether the words have to come to the journal: of all rows, only those of a check don't.
+fn come_to_journal(row: MainRow, words: &[String]) -> bool {
+    match row {
+        MainRow::Run => needs_journal(words),
+        MainRow::Desks { .. } | MainRow::Serve { .. } => true,
+    }
+}
+
+// Whether an office may stand in the file: it has a head and a gate, and its first byte is 1.
+fn is_born(file: &File) -> io::Result<bool> {
+    let mut head = [0u8; 17];
+    match file.read_exact_at(&mut head, 0) {
+        Ok(()) => Ok(head[0] == 1),
+        Err(error) if error.kind() == ErrorKind::UnexpectedEof => Ok(false),
+        Err(error) => Err(error),
+    }
+}
+
+// Makes sure that the folder in which the file itself stands has it, where the system can say so. Links are followed.
 fn keep_in_folder(rt: &HostRuntime, path: &str) -> io::Result<()> {
-    let folder = match path.rsplit_once('/') {
-        Some(("", _)) => "/",
-        Some((folder, _)) => folder,
-        None => ".",
-    };
+    let file = fs::canonicalize(rt, path)?;
+    let folder = file.parent().unwrap_or(Path::new("/"));
     match File::open(rt, folder)?.sync_all() {
         Err(error) if error.kind() == ErrorKind::InvalidInput => Ok(()),
         synced => synced,
@@ -176,6 +193,7 @@ fn serve<H: Net<Listener = TcpListener, Stream = TcpStream> + Threads + Wait + S
 
 fn main(rt: HostRuntime) -> ExitCode {
     let Ok(_streams) = fill_streams(&rt) else {
+        say(&rt, "the program may open too few files at once");
         return ExitCode::from(RunStop::File(OpenError::DiskFault.into()).status());
     };
     let mut out = WriteEdge::new(rt.stdout());
@@ -204,15 +222,18 @@ fn main(rt: HostRuntime) -> ExitCode {
             return disk_fault;
         }
     };
-    if !hold(&rt, &file) {
+    let row = row_of(&words);
+    if come_to_journal(row, &words) && !hold(&rt, &file) {
         return disk_fault;
     }
-    if is_found(&words) && keep_in_folder(&rt, path.as_str()).is_err() {
+    // Of a file that can't be read its folder is synced, and the run tells of the fault.
+    let is_to_be_founded = is_found(&words) && !is_born(&file).unwrap_or(false);
+    if is_to_be_founded && keep_in_folder(&rt, path.as_str()).is_err() {
         say(&rt, "the journal's folder can't be written for good");
         return disk_fault;
     }
     let disk = HostDisk::new(file);
-    let status = match row_of(&words) {
+    let status = match row {
         MainRow::Run => match run_alone(&rt, &words, disk, &mut out) {
             Ok(status) => status,
             Err(_) => end(Err(RunStop::File(ReadStop::NoMemory.into())), &mut out),
