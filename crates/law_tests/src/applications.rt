@@ -259,18 +259,42 @@ fn assert_under_ceiling(
     parents.foreign = foreign;
     let a = applicant(2006, 3, nothing(), parents);
     let found = decide(&book, &a, index);
-    assert_eq!(rt; (found.way, found.scheduled), wanted, "at {agi}, {foreign} and {index}");
+    assert_eq!(rt;
+        (found.way, found.scheduled),
+        wanted,
+        "at {agi}, {foreign} and {index}"
+    );
     let ceiling = ceiling_for(&book, &a, index);
-    assert_eq!(rt; (ceiling.index, ceiling.bound), told, "at {agi}, {foreign} and {index}");
+    assert_eq!(rt;
+        (ceiling.index, ceiling.bound),
+        told,
+        "at {agi}, {foreign} and {index}"
+    );
 }
 
 // Twice 7,395 dollars are 14,790.
 #[test]
 fn index_at_the_ceiling(rt: HostRuntime) {
     assert_under_ceiling(&rt, 200, 68_365, 0, 14_789, (Way::Minimum, 740), (0, 0));
-    assert_under_ceiling(&rt, 200, 68_365, 0, 14_790, (Way::Nothing, 0), (14_790, 14_790));
+    assert_under_ceiling(
+        &rt,
+        200,
+        68_365,
+        0,
+        14_790,
+        (Way::Nothing, 0),
+        (14_790, 14_790),
+    );
     assert_under_ceiling(&rt, 0, 68_365, 0, 14_790, (Way::Minimum, 740), (0, 0));
-    assert_under_ceiling(&rt, 200, 43_505, 0, 14_790, (Way::Nothing, 0), (14_790, 14_790));
+    assert_under_ceiling(
+        &rt,
+        200,
+        43_505,
+        0,
+        14_790,
+        (Way::Nothing, 0),
+        (14_790, 14_790),
+    );
     // One percent is 73.95 dollars.
     assert_under_ceiling(&rt, 1, 60_000, 0, 73, (Way::Calculated, 7320), (0, 0));
     assert_under_ceiling(&rt, 1, 60_000, 0, 74, (Way::Nothing, 0), (74, 74));

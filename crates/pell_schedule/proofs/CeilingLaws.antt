@@ -48,9 +48,9 @@ reaches book index h =
     let m = book.pell.maximum_in_range in
     let same = product book.ceiling book.pell.maximum m.0 in
     record {
-        some = some;
-        above = above_zero book.ceiling (unsigned_abs book.pell.maximum) some (omega (arith, ints));
-        least = least_to (book.ceiling * unsigned_abs book.pell.maximum) index (subst (λ z. int_le z (pos 100 *ℤ index) ≡ true) same parts.1);
+      some = some;
+      above = above_zero book.ceiling (unsigned_abs book.pell.maximum) some (omega (arith, ints));
+      least = least_to (book.ceiling * unsigned_abs book.pell.maximum) index (subst (λ z. int_le z (pos 100 *ℤ index) ≡ true) same parts.1);
     }
 
 pub is_reached : (book : Book) (index : ℤ) → 1 ≤ book.ceiling → pos (ceiling_bound book) ≤ℤ index → is_at_ceiling book index ≡ true
@@ -59,7 +59,7 @@ is_reached book index some least =
     let m = book.pell.maximum_in_range in
     let same = product book.ceiling book.pell.maximum m.0 in
     let test : int_le (pos book.ceiling *ℤ book.pell.maximum) (pos 100 *ℤ index) ≡ true =
-        subst (λ z. int_le z (pos 100 *ℤ index) ≡ true) (sym same) (least_from (book.ceiling * unsigned_abs book.pell.maximum) index least) in
+    subst (λ z. int_le z (pos 100 *ℤ index) ≡ true) (sym same) (least_from (book.ceiling * unsigned_abs book.pell.maximum) index least) in
     rw (lt-ltb 0 book.ceiling some, test) refl
 
 pub index_above : (book : Book) (index : ℤ) → is_at_ceiling book index ≡ true → pos 1 ≤ℤ index
@@ -98,11 +98,11 @@ told book a index h at =
     let above = r.above in
     let least = r.least in
     record {
-        none = λ no. absurd (omega (arith, no));
-        kept = λ one. omega (arith, ints);
-        above = omega (arith, ints);
-        least = λ one other. (is_reached book other some, λ k. (reaches book other k).least);
-        unawarded = λ one. unawarded book a index h at;
+      none = λ no. absurd (omega (arith, no));
+      kept = λ one. omega (arith, ints);
+      above = omega (arith, ints);
+      least = λ one other. (is_reached book other some, λ k. (reaches book other k).least);
+      unawarded = λ one. unawarded book a index h at;
     }
 
 -- where it doesn't

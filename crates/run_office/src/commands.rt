@@ -24,9 +24,7 @@ use fund_policy::{Policies, Rule};
 use generated_year::{GeneratedOffice, YearForms, YearTally};
 use kept_office::FiledOffice;
 use kept_runs::{RunStop, end, ended_filing, ended_founding};
-use kept_session::{
-    ReadStop, SessionStop, answer, file, file_counted, found, write_report,
-};
+use kept_session::{ReadStop, SessionStop, answer, file, file_counted, found, write_report};
 use run_rows::{BookForms, DeskForms, QuoteRow};
 use run_words::{Command, command_of};
 use std::alloc::Global;

@@ -104,7 +104,11 @@ fn assert_near<R: Abort>(
         }
     }
     let more = format!(in alloc; "{row} 1")?;
-    assert_eq!(rt; command(alloc, policies, more.as_str(), None)?, None, "{more}");
+    assert_eq!(rt;
+        command(alloc, policies, more.as_str(), None)?,
+        None,
+        "{more}"
+    );
     if let Some((less, _)) = row.rsplit_once(' ') {
         assert_eq!(rt; command(alloc, policies, less, None)?, None, "{less}");
     }

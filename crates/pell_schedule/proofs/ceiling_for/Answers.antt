@@ -20,10 +20,10 @@ returns-then-is_at_ceiling-clause-told c =
 
 pub returns-else-not-is_barred-clause-value : goal.returns-else-not-is_barred-clause-value
 returns-else-not-is_barred-clause-value c = sym (elim c.else-not-is_barred.branch [
-    else-not-is_barred-via-then-not-is_barred+else-is_at_ceiling w ↦
-        let at = subst (λ i. is_at_ceiling c.args.book.now i ≡ false) (to_z-of_z w32 c.args.index c.ranges.index) (sym w.is_at_ceiling.ensures ∙ w.if-is_at_ceiling.false) in
-        none_below c.args.book.now c.args.a.now c.args.index (sym c.is_barred.ensures ∙ w.if-not-is_barred.true) at
-    | else-not-is_barred-via-else-not-is_barred w ↦ none_barred c.args.book.now c.args.a.now c.args.index (sym c.is_barred.ensures ∙ w.if-not-is_barred.false)
+  | else-not-is_barred-via-then-not-is_barred+else-is_at_ceiling w ↦
+      let at = subst (λ i. is_at_ceiling c.args.book.now i ≡ false) (to_z-of_z w32 c.args.index c.ranges.index) (sym w.is_at_ceiling.ensures ∙ w.if-is_at_ceiling.false) in
+      none_below c.args.book.now c.args.a.now c.args.index (sym c.is_barred.ensures ∙ w.if-not-is_barred.true) at
+  | else-not-is_barred-via-else-not-is_barred w ↦ none_barred c.args.book.now c.args.a.now c.args.index (sym c.is_barred.ensures ∙ w.if-not-is_barred.false)
 ])
 
 pub returns-else-not-is_barred-clause-told : goal.returns-else-not-is_barred-clause-told

@@ -21,13 +21,13 @@ returns g c =
     let filed = c.args.filed.now in
     let b = the_book past filed.year in
     let ceiling : c.if-award-eq0.ceiling ≡ ceiling_under b (Some filed) = elim c.if-award-eq0.branch [
-        then-award-eq0 w ↦ w.ceiling-is ∙ w.ceiling_on-ceiling.ensures
-        | else-award-eq0 w ↦ w.ceiling-is ∙ sym (none_under b filed (λ none. w.if-award-eq0.false (c.requires ∙ none)))
+      | then-award-eq0 w ↦ w.ceiling-is ∙ w.ceiling_on-ceiling.ensures
+      | else-award-eq0 w ↦ w.ceiling-is ∙ sym (none_under b filed (λ none. w.if-award-eq0.false (c.requires ∙ none)))
     ] in
     let position : c.front-position.result + 1 ≡ length past + 1 = ap (λ (n : ℕ). n + 1) c.front-position.ensures.value in
     λ i. record c.args.before.now {
-        transaction = c.from.ensures i;
-        application_at = position i;
-        scheduled = c.args.award;
-        ceiling = ceiling i;
+      transaction = c.from.ensures i;
+      application_at = position i;
+      scheduled = c.args.award;
+      ceiling = ceiling i;
     }
