@@ -280,8 +280,8 @@ module _ {D S K : Type 0} (disk : Ghosts D) (source : SourceGhosts S) (sink : Si
 
   of_run : RanDesks disk source sink old new inputs inputs' out out' status → AtOnce
   of_run (unasked _ wrong same unmoved ends) = idle_by (codes "fault usage\n") 2 usage_fault (stays same) ends
-  of_run (unread stop _ at same ends) = idle_by (read_line stop) (read_status stop) (read_fault stop) (stays same) ends
-  of_run (read before _ has_read files) = of_files before has_read files
+  of_run (unread stop _ few at same ends) = idle_by (read_line stop) (read_status stop) (read_fault stop) (stays same) ends
+  of_run (read before _ few has_read files) = of_files before has_read files
 
 pub ran_at_once : {D S K : Type 0} (disk : Ghosts D) (source : SourceGhosts S) (sink : SinkGhosts K)
     → ((d : D) (c : List ℕ) → IsHonest (disk.tells d) → (disk.tells d).image_since (disk.tells d).moment c → (disk.tells d).image c)

@@ -84,13 +84,9 @@ module _ {D S K : Type 0} (disk : Ghosts D) (source : SourceGhosts S) (sink : Si
   all_filed before status (worked after past history pending log waiting at _ opened filed sound ends) = filed_by _ _ before after _ status filed refl refl ends
 
   pub desks_done : (status : ℕ) → RanDesks disk source sink old new inputs inputs' out out' status → (status ≡ 0) ⊎ (status ≡ 9)
-  desks_done status (unasked _ wrong same unmoved ends) = absurd (go wrong)
-    where
-      go : (length inputs ≡ 0) ⊎ (16 < length inputs) → ⊥
-      go (inl nobody) = let some = can.some in omega (arith, nobody, some)
-      go (inr many) = let few = can.few in omega (arith, many, few)
-  desks_done status (unread stop _ at same ends) = ended_early (read_line stop) (read_status stop) status (unread_by stop at) ends
-  desks_done status (read before _ are files) = all_filed before status files
+  desks_done status (unasked _ wrong same unmoved ends) = absurd (wrong can.count)
+  desks_done status (unread stop _ few at same ends) = ended_early (read_line stop) (read_status stop) status (unread_by stop at) ends
+  desks_done status (read before _ few are files) = all_filed before status files
 
 -- ---- the disk
 files_honest : {D K : Type 0} (disk : Ghosts D) (sink : SinkGhosts K) (old new : D) (before : List View) (out out' : K) (status : ℕ) → FilesAll disk sink old new before out out' status
@@ -103,5 +99,5 @@ files_honest disk sink old new before out out' status (worked after past history
 pub desks_honest : {D S K : Type 0} (disk : Ghosts D) (source : SourceGhosts S) (sink : SinkGhosts K) (old new : D) (inputs inputs' : List (DeskInput S)) (out out' : K) (status : ℕ)
     → RanDesks disk source sink old new inputs inputs' out out' status → (disk.tells new).honest ≡ (disk.tells old).honest
 desks_honest disk source sink old new inputs inputs' out out' status (unasked _ wrong same unmoved ends) = ap (λ d. (disk.tells d).honest) same
-desks_honest disk source sink old new inputs inputs' out out' status (unread stop _ at same ends) = ap (λ d. (disk.tells d).honest) same
-desks_honest disk source sink old new inputs inputs' out out' status (read before _ are files) = files_honest disk sink old new before out out' status files
+desks_honest disk source sink old new inputs inputs' out out' status (unread stop _ few at same ends) = ap (λ d. (disk.tells d).honest) same
+desks_honest disk source sink old new inputs inputs' out out' status (read before _ few are files) = files_honest disk sink old new before out out' status files

@@ -2,6 +2,7 @@ pub mod Admitting
 pub mod AtOnce
 pub mod Closing
 pub mod Crew
+pub mod DeskCauses
 pub mod DesksDone
 pub mod Filers
 pub mod Following

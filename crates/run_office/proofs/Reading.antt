@@ -1,5 +1,5 @@
 -- The inputs of desks are read one after the other.
-use Rattle.std.proofs.Common.{◌≡◌, ℕ, zero, suc, ◌+◌, ◌<◌, ◌≤◌, List, [], ◌∷◌, ◌++◌, length, set, get_or, refl, sym, ap, ◌∙◌, subst, arith, IsTrue, length-append, get_or-set_same, get_or-set_other}
+use Rattle.std.proofs.Common.{◌≡◌, ◌≢◌, ℕ, zero, suc, ◌+◌, ◌<◌, ◌≤◌, List, [], ◌∷◌, ◌++◌, length, set, get_or, refl, sym, ap, ◌∙◌, subst, arith, IsTrue, length-append, get_or-set_same, get_or-set_other}
 use Rattle.std.proofs.lemmas.List.{get_or_append_left, get_or_at, get_or_default}
 use mathlib.Core.Logic.{dite}
 use native.Mathlib.Decide.{ℕ_discrete}
@@ -13,7 +13,7 @@ use Rattle.std.specs.Prelude.{None}
 use Rattle.kept_desks.specs.declared.stop.DeskEnd.TheVariants.{Open}
 use Rattle.run_rows.specs.Asks.{desk_rows}
 use Rattle.run_office.specs.DeskTexts.{desk_prefix}
-use Rattle.run_office.specs.RanDesks.{AreRead, IsDeskOf, IsUnreadAt, Joins, View, input_at, left_of}
+use Rattle.run_office.specs.RanDesks.{AreRead, HasStood, IsDeskOf, IsUnreadAt, Joins, View, input_at, left_of}
 use Rattle.run_rows.specs.declared.desk.DeskRows.{DeskRows}
 use Rattle.run_office.specs.declared.desks.DeskInput.{DeskInput}
 
@@ -29,7 +29,7 @@ module _ {S : Type 0} (source : Ghosts S) where
   of was now = record { honest = source.honest was.input; before = source.left was.input; after = source.left now.input }
 
   pub read_none : (old : List (DeskInput S)) → AreRead source 0 old old []
-  read_none old = record { count = refl; each = λ k i d lt. absurd (omega (arith, lt)) }
+  read_none old = record { count = refl; unmoved = λ k i lt. absurd (omega (arith, lt)); each = λ k i d lt. absurd (omega (arith, lt)) }
 
   module _ (old mid : List (DeskInput S)) (n : ℕ) (was now : DeskInput S) (lt : n < length old) (size : length mid ≡ length old)
       (same : (k : ℕ) (i : DeskInput S) → n ≤ k → k < length old → get_or mid k i ≡ get_or old k i) (is : was ≡ get_or mid n was) where
@@ -47,14 +47,31 @@ module _ {S : Type 0} (source : Ghosts S) where
     other : (k : ℕ) (i : DeskInput S) → (k ≡ n → ⊥) → input_at source old mid k i ≡ input_at source old (set mid n now) k i
     other k i ne = ap (λ w. of (get_or old k i) w) (sym (get_or-set_other mid n k now i ne))
 
+    -- the count at the place, and those before it
+    count_here : (X : ℕ → ℕ → Type 0) → X (source.faults was.input) (source.faults now.input) → (i : DeskInput S) → X (source.faults (get_or old n i).input) (source.faults (get_or (set mid n now) n i).input)
+    count_here X has i =
+        let old_is : was ≡ get_or old n i = is ∙ (same n was (omega arith) lt ∙ get_or_default old n was i lt) in
+        let new_is : now ≡ get_or (set mid n now) n i = sym (get_or-set_same mid n now i inside) in
+        subst (λ w. X (source.faults (get_or old n i).input) (source.faults w.input)) new_is (subst (λ w. X (source.faults w.input) (source.faults now.input)) old_is has)
+
+    stood_other : (k : ℕ) (i : DeskInput S) → (k ≡ n → ⊥) → HasStood source old mid k i → HasStood source old (set mid n now) k i
+    stood_other k i ne = subst (λ (w : DeskInput S). source.faults w.input ≡ source.faults (get_or old k i).input) (sym (get_or-set_other mid n k now i ne))
+
     pub read_behind : (k : ℕ) (i : DeskInput S) → n + 1 ≤ k → k < length old → get_or (set mid n now) k i ≡ get_or old k i
     read_behind k i le less = get_or-set_other mid n k now i (λ (e : k ≡ n). omega (arith, e, le)) ∙ same k i (omega (arith, le)) less
 
-    pub read_more : (desks desks' : List View) → AreRead source n old mid desks → Joins (n + 1) (of was now) desks desks' → AreRead source (n + 1) old (set mid n now) desks'
-    read_more desks desks' read joined = record { count = count; each = each }
+    pub read_more : (desks desks' : List View) → AreRead source n old mid desks → Joins (n + 1) (of was now) desks desks' → source.faults now.input ≡ source.faults was.input
+        → AreRead source (n + 1) old (set mid n now) desks'
+    read_more desks desks' read joined still = record { count = count; unmoved = unmoved; each = each }
       where
         count : length desks' ≡ n + 1
         count = ap length joined.behind ∙ (let sizes : length (desks ++ joined.desk ∷ []) ≡ length desks + 1 = length-append desks (joined.desk ∷ []) in omega (arith, sizes, read.count))
+
+        unmoved : (k : ℕ) (i : DeskInput S) → k < n + 1 → HasStood source old (set mid n now) k i
+        unmoved k i less =
+            dite (ℕ_discrete k n)
+            (λ (e : k ≡ n). subst (λ m. HasStood source old (set mid n now) m i) (sym e) (count_here (λ a b. b ≡ a) still i))
+            (λ (ne : ¬ (k ≡ n)). stood_other k i ne (read.unmoved k i (omega (arith, less, ne))))
 
         each : (k : ℕ) (i : DeskInput S) (d : View) → k < n + 1 → IsDeskOf (k + 1) (input_at source old (set mid n now) k i) (get_or desks' k d)
         each k i d less =
@@ -69,17 +86,17 @@ module _ {S : Type 0} (source : Ghosts S) where
             subst (λ input. IsDeskOf (k + 1) input (get_or desks' k d)) (other k i ne) (subst (λ desk. IsDeskOf (k + 1) (input_at source old mid k i) desk) desk_is (read.each k i d less_n)))
 
     pub unread_here : (desks : List View) (stop : ReadStop) → AreRead source n old mid desks → IsUnread stop 16777216 (of was now)
-        → (stop ≡ reading.Read → Rose (source.faults was.input) (source.faults now.input)) → IsUnreadAt source stop old (set mid n now)
-    unread_here desks stop read unread fault = record {
+        → (stop ≡ reading.Read → Rose (source.faults was.input) (source.faults now.input)) → (stop ≢ reading.Read → source.faults now.input ≡ source.faults was.input)
+        → IsUnreadAt source stop old (set mid n now)
+    unread_here desks stop read unread fault still = record {
       place = n;
       inside = lt;
       before = λ k i less. subst (IsReadWhole 16777216) (other k i (λ (e : k ≡ n). omega (arith, e, less))) (read.each k i (some_of desks k (omega (arith, less, read.count))) less).whole;
       here = λ i. subst (IsUnread stop 16777216) (here i) unread;
       behind = λ k i less inside. read_behind k i (omega (arith, less)) inside;
-      fault = λ i is_read.
-          let old_is : was ≡ get_or old n i = is ∙ (same n was (omega arith) lt ∙ get_or_default old n was i lt) in
-          let new_is : now ≡ get_or (set mid n now) n i = sym (get_or-set_same mid n now i inside) in
-          subst (λ w. Rose (source.faults (get_or old n i).input) (source.faults w.input)) new_is (subst (λ w. Rose (source.faults w.input) (source.faults now.input)) old_is (fault is_read));
+      fault = λ i is_read. count_here Rose (fault is_read) i;
+      unmoved = λ k i less. stood_other k i (λ (e : k ≡ n). omega (arith, e, less)) (read.unmoved k i less);
+      still = λ i other. count_here (λ a b. b ≡ a) (still other) i;
     }
 
 -- of an input that was read whole at most so many bytes were read

@@ -16,19 +16,25 @@ use Rattle.kept_office.specs.Turns.{asked as filing_asked, office_judging}
 use Rattle.office_lock.specs.declared.turned.Stand.{Stand}
 use Rattle.kept_office.specs.Openable.{IsOffice}
 use Rattle.kept_runs.specs.Ends.{IsShort}
-use Rattle.run_office.specs.RanDesks.{FilesOwn, View}
+use Rattle.run_office.specs.RanDesks.{AreFew, FilesOwn, HasStood, View}
 use Rattle.run_office.specs.declared.desks.DeskInput.{DeskInput}
 
 -- the desks can file: there are 1 to 16, each source is honest and has not too many bytes, and the disk has an office that isn't damaged
 pub record CanFile {S : Type 0} (source : SourceGhosts S) (inputs : List (DeskInput S)) (disk : Telling) : Type 0 where
-  pub some : 1 ≤ length inputs
-  pub few : length inputs ≤ 16
+  pub count : AreFew (length inputs)
   pub short : All (λ (i : DeskInput S). IsShort (source.honest i.input) (length (source.left i.input))) inputs
   pub office : IsOffice disk
 
 -- no source's count of faults rose
 abbrev pub NoneRose : {S : Type 0} → SourceGhosts S → List (DeskInput S) → List (DeskInput S) → Type 0
 NoneRose {S} source old new = (k : ℕ) (i : DeskInput S) → k < length old → Rose (source.faults (get_or old k i).input) (source.faults (get_or new k i).input) → ⊥
+
+-- the count of faults of a source rose, and those of the sources before it stood still
+pub record FailsFirst {S : Type 0} (source : SourceGhosts S) (old new : List (DeskInput S)) : Type 0 where
+  pub place : ℕ
+  pub inside : place < length old
+  pub rose : (i : DeskInput S) → Rose (source.faults (get_or old place i).input) (source.faults (get_or new place i).input)
+  pub before : (k : ℕ) (i : DeskInput S) → k < place → HasStood source old new k i
 
 -- a desk that ended in a fault of the disk was told of one, and any other of none
 abbrev pub disk_faults : DeskEnd → ℕ

@@ -1,5 +1,5 @@
 -- What a run of many desks does: their inputs, the journal, what they filed, the text and the status.
-use Rattle.std.specs.Prelude.{◌≡◌, ◌≢◌, ◌⊎◌, ◌+◌, ◌<◌, ◌≤◌, ◌++◌, ℕ, ℤ, IsTrue, List, [], ◌∷◌, length, map, reverse, Option, Some, None, get_or, codes, Result}
+use Rattle.std.specs.Prelude.{◌≡◌, ◌≢◌, ◌+◌, ◌<◌, ◌≤◌, ◌++◌, ℕ, ℤ, IsTrue, List, [], ◌∷◌, length, map, reverse, Option, Some, None, get_or, codes, Result}
 use Rattle.std.specs.List.{All}
 use Rattle.aid_edges.specs.Faults.{Rose}
 use Rattle.aid_edges.specs.declared.source.Source.{Ghosts as SourceGhosts}
@@ -48,6 +48,15 @@ left_of r = map asked r.rows
 abbrev pub input_at : {S : Type 0} → SourceGhosts S → List (DeskInput S) → List (DeskInput S) → ℕ → DeskInput S → Input
 input_at source old new k i = record { honest = source.honest (get_or old k i).input; before = source.left (get_or old k i).input; after = source.left (get_or new k i).input }
 
+-- the count of faults of the source at a place, counted from 0, stood still
+abbrev pub HasStood : {S : Type 0} → SourceGhosts S → List (DeskInput S) → List (DeskInput S) → ℕ → DeskInput S → Type 0
+HasStood source old new k i = source.faults (get_or new k i).input ≡ source.faults (get_or old k i).input
+
+-- so many desks can file at once
+pub record AreFew (desks : ℕ) : Type 0 where
+  pub some : 1 ≤ desks
+  pub most : desks ≤ 16
+
 -- a desk that hasn't begun, with the rows of an input that was read whole
 pub record IsDeskOf (number : ℕ) (input : Input) (desk : View) : Type 0 where
   pub numbered : desk.number ≡ number
@@ -62,12 +71,14 @@ pub record Joins (number : ℕ) (input : Input) (before after : List View) : Typ
   pub of : IsDeskOf number input desk
   pub behind : after ≡ before ++ desk ∷ []
 
--- the first n inputs were read, and each has its desk, numbered from 1
+-- the first n inputs were read, their counts of faults stood still, and each has its desk, numbered from 1
 pub record AreRead {S : Type 0} (source : SourceGhosts S) (n : ℕ) (old new : List (DeskInput S)) (desks : List View) : Type 0 where
   pub count : length desks ≡ n
+  pub unmoved : (k : ℕ) (i : DeskInput S) → k < n → HasStood source old new k i
   pub each : (k : ℕ) (i : DeskInput S) (d : View) → k < n → IsDeskOf (k + 1) (input_at source old new k i) (get_or desks k d)
 
--- One input couldn't be read. Those before it were read whole, and nothing of those behind it was.
+-- One input couldn't be read. Those before it were read whole, and nothing of those behind it was. No count of faults rose but
+-- that of its source, and that one where a read failed.
 pub record IsUnreadAt {S : Type 0} (source : SourceGhosts S) (stop : ReadStop) (old new : List (DeskInput S)) : Type 0 where
   pub place : ℕ
   pub inside : place < length old
@@ -75,6 +86,8 @@ pub record IsUnreadAt {S : Type 0} (source : SourceGhosts S) (stop : ReadStop) (
   pub here : (i : DeskInput S) → IsUnread stop 16777216 (input_at source old new place i)
   pub behind : (k : ℕ) (i : DeskInput S) → place < k → k < length old → get_or new k i ≡ get_or old k i
   pub fault : (i : DeskInput S) → stop ≡ reading.Read → Rose (source.faults (get_or old place i).input) (source.faults (get_or new place i).input)
+  pub unmoved : (k : ℕ) (i : DeskInput S) → k < place → HasStood source old new k i
+  pub still : (i : DeskInput S) → stop ≢ reading.Read → HasStood source old new place i
 
 -- a desk that has a pass files its rows by it
 abbrev pub WorksHere : TableId → View → View → Type 0
@@ -124,11 +137,11 @@ pub data FilesAll {D K : Type 0} (disk : Ghosts D) (sink : SinkGhosts K) (old ne
 -- A run of many desks, by how it ended.
 pub data RanDesks {D S K : Type 0} (disk : Ghosts D) (source : SourceGhosts S) (sink : SinkGhosts K) (old new : D) (inputs inputs' : List (DeskInput S)) (out out' : K) : ℕ → Type 0 where
   -- there is no desk, or more than 16: nothing is read
-  unasked : (status : ℕ) → (length inputs ≡ 0) ⊎ (16 < length inputs) → new ≡ old → inputs' ≡ inputs → EndsWith sink (codes "fault usage\n") 2 out out' status
+  unasked : (status : ℕ) → (AreFew (length inputs) → ⊥) → new ≡ old → inputs' ≡ inputs → EndsWith sink (codes "fault usage\n") 2 out out' status
       → RanDesks disk source sink old new inputs inputs' out out' status
   -- an input wasn't read: no call is made on the disk
-  unread : (stop : ReadStop) (status : ℕ) → IsUnreadAt source stop inputs inputs' → new ≡ old → EndsWith sink (read_line stop) (read_status stop) out out' status
+  unread : (stop : ReadStop) (status : ℕ) → AreFew (length inputs) → IsUnreadAt source stop inputs inputs' → new ≡ old → EndsWith sink (read_line stop) (read_status stop) out out' status
       → RanDesks disk source sink old new inputs inputs' out out' status
   -- all inputs were read, each into a desk, and the desks filed
-  read : (before : List View) (status : ℕ) → AreRead source (length inputs) inputs inputs' before → FilesAll disk sink old new before out out' status
+  read : (before : List View) (status : ℕ) → AreFew (length inputs) → AreRead source (length inputs) inputs inputs' before → FilesAll disk sink old new before out out' status
       → RanDesks disk source sink old new inputs inputs' out out' status

@@ -1,5 +1,5 @@
 // A run of many desks: each has an input of its own, and files its rows while the others file theirs.
-ghost use Rattle.std.specs.Prelude.{◌≡◌, ◌⊎◌, ◌≤◌, ◌<◌, ◌+◌, ◌-◌, ◌++◌, [], ℕ, false, true, None, Err, IfOk, IfErr, OnOk, IsTrue, List, slice_index_or, length, map, reverse, take};
+ghost use Rattle.std.specs.Prelude.{◌≡◌, ◌≢◌, ◌⊎◌, ◌≤◌, ◌<◌, ◌+◌, ◌-◌, ◌++◌, [], ℕ, false, true, None, Err, IfOk, IfErr, OnOk, IsTrue, List, slice_index_or, length, map, reverse, take};
 ghost use Rattle.disk_model.specs.Telling.{EachImage, IsHonest};
 ghost use Rattle.headline.specs.AtOnce.{RanAtOnce};
 ghost use Rattle.headline.specs.Filed.{rows_in};
@@ -17,7 +17,7 @@ ghost use Rattle.kept_session.specs.Sessions.{IsUnread};
 ghost use Rattle.office_lock.specs.Turning.{RoseBy};
 ghost use Rattle.run_office.specs.DeskTexts.{admitted_text, desks_status as desks_status_of, desks_text};
 ghost use Rattle.run_office.specs.DesksDone.{CanFile, NoneRose};
-ghost use Rattle.run_office.specs.RanDesks.{AreNew, AreRead, FilesAll, HasFiled, IsUnreadAt, Joins, RanDesks, WorksHere};
+ghost use Rattle.run_office.specs.RanDesks.{AreFew, AreNew, AreRead, FilesAll, HasFiled, IsUnreadAt, Joins, RanDesks, WorksHere};
 ghost use Rattle.kept_runs.specs.Ends.{EndsWith};
 
 use crate::desk_lines::{OfficeDesk, desk_prefix, desks_status, put_all};
@@ -51,6 +51,8 @@ fn read_desk<S: Source>(
     ensures desk { OnOk result (Joins number (record { honest = S.honest input.old; before = S.left input.old; after = S.left input.new }) desks.old.items desks.new.items) }
     ensures unread { IfErr result (λ stop. IsUnread stop 16777216 (record { honest = S.honest input.old; before = S.left input.old; after = S.left input.new })) }
     ensures cause { result ≡ Err ReadStop.Read → Rose (S.faults input.old) (S.faults input.new) }
+    ensures unmoved { OnOk result (S.faults input.new ≡ S.faults input.old) }
+    ensures unmoved_err { IfErr result (λ stop. stop ≢ ReadStop.Read → S.faults input.new ≡ S.faults input.old) }
 {
     let rows = match read_rows::<S, FiledOffice, DeskForms>(alloc, &DeskForms, input) {
         Ok(rows) => rows,
@@ -183,8 +185,8 @@ fn file_read<D: Disk + Send, G: Gate + Sync, K: Sink, H: Threads + Wait + Sync>(
 
 // Whether so many desks file at once.
 fn can_file(count: usize) -> bool
-    ensures no { result ≡ false → (count ≡ 0) ⊎ (16 < count) }
-    ensures yes { result ≡ true → count ≤ 16 }
+    ensures no { result ≡ false → AreFew count → ⊥ }
+    ensures yes { result ≡ true → AreFew count }
 {
     0 < count && count <= MOST_DESKS
 }

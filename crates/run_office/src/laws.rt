@@ -1,5 +1,5 @@
-// What follows of what desks filed, said of no call. Each of these functions does nothing.
-ghost use Rattle.std.specs.Prelude.{◌≡◌, ◌+◌, ◌<◌, ◌≤◌, ℕ, List, Some, Contains, get_or, length};
+// What follows of a run of desks and of what they filed, said of no call. Each of these functions does nothing.
+ghost use Rattle.std.specs.Prelude.{◌≡◌, ◌≢◌, ◌⊎◌, ◌+◌, ◌<◌, ◌≤◌, ℕ, List, Some, Contains, get_or, length};
 ghost use Rattle.aid_filings.specs.declared.filing.Filing.{Filing};
 ghost use Rattle.aid_filings.specs.declared.reply.Ask.{Ask};
 ghost use Rattle.field_rows.specs.declared.error.RowError.{RowError};
@@ -11,8 +11,27 @@ ghost use Rattle.kept_desks.specs.declared.stop.DeskStop.TheVariants.{DiskFault}
 ghost use Rattle.office_lock.specs.Passes.{IsOlder, numbered};
 ghost use Rattle.office_lock.specs.Turning.{RoseBy};
 ghost use Rattle.office_lock.specs.declared.turned.Stand.{Stand};
-ghost use Rattle.run_office.specs.DesksDone.{HasNamed, faulted_in};
-ghost use Rattle.run_office.specs.RanDesks.{FilesOwn, HasFiled, View};
+ghost use Rattle.run_office.specs.DesksDone.{FailsFirst, HasNamed, faulted_in};
+ghost use Rattle.run_office.specs.RanDesks.{AreFew, FilesOwn, HasFiled, HasStood, RanDesks, View};
+ghost use Rattle.run_office.specs.declared.desks.DeskInput.{DeskInput};
+ghost use Rattle.aid_edges.specs.Faults.{Rose};
+
+use aid_edges::{Sink, Source};
+use disk_model::Disk;
+
+/// What a status shows of the number of desks and of their sources. 2 comes only for no desk or more than 16, and there always,
+/// or 4 where the line can't be written. 3 comes only where the count of faults of a source rose and none before it did. At every
+/// status but 3 and 4 the count of each source stood still.
+pub fn desk_causes<D: Disk, S: Source, K: Sink>()
+    ensures usage { (old new : D) (inputs inputs' : List (DeskInput S)) (out out' : K) (status : ℕ) → RanDesks D.Disk S.Source K.Sink old new inputs inputs' out out' status
+        → status ≡ 2 → AreFew (length inputs) → ⊥ }
+    ensures many { (old new : D) (inputs inputs' : List (DeskInput S)) (out out' : K) (status : ℕ) → RanDesks D.Disk S.Source K.Sink old new inputs inputs' out out' status
+        → (AreFew (length inputs) → ⊥) → (status ≡ 2) ⊎ ((status ≡ 4) × Rose (K.faults out) (K.faults out')) }
+    ensures source { (old new : D) (inputs inputs' : List (DeskInput S)) (out out' : K) (status : ℕ) → RanDesks D.Disk S.Source K.Sink old new inputs inputs' out out' status
+        → status ≡ 3 → FailsFirst S.Source inputs inputs' }
+    ensures still { (old new : D) (inputs inputs' : List (DeskInput S)) (out out' : K) (status : ℕ) → RanDesks D.Disk S.Source K.Sink old new inputs inputs' out out' status
+        → status ≢ 3 → status ≢ 4 → (k : ℕ) (i : DeskInput S) → k < length inputs → HasStood S.Source inputs inputs' k i }
+{}
 
 /// The disk's count of faults rose by at least the number of desks that ended in a fault of the disk, or stands at its
 /// last value.

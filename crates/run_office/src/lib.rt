@@ -14,5 +14,6 @@ pub use commands::run;
 pub use desk_lines::OfficeDesk;
 pub use desks::{DeskInput, run_desks};
 pub use laws::{
-    added_are_named, answered_on_closed, faults_are_counted, fronts_rise, undecided_is_next,
+    added_are_named, answered_on_closed, desk_causes, faults_are_counted, fronts_rise,
+    undecided_is_next,
 };
