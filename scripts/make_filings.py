@@ -42,10 +42,11 @@ Below its purpose each kind has example rows, and below them the bodies of the s
 ([HTTP.md](HTTP.md)).
 """
 BOOK_FRONT = """\
-It is a TOML text, as examples/2025.toml: `pell.maximum` is the key `maximum` of the section `[pell]`, and a
-table is an array of tables, as `[[age]]`. Every number is a whole number. Rates are in ten-thousandths: 50 is
-0.50 percent, 10000 is the whole. Errors name a field by its number here. A row of a table that doesn't begin
-or go on as said below is error 5, and any other number out of its range is error 4.
+It is a TOML text, as examples/2025.toml, or in form 2 examples/2026.toml: `pell.maximum` is the key `maximum`
+of the section `[pell]`, and a table is an array of tables, as `[[age]]`. Every number is a whole number.
+Rates are in ten-thousandths: 50 is 0.50 percent, 10000 is the whole. Errors name a field by its number here.
+A row of a table that doesn't begin or go on as said below is error 5, and any other number out of its range
+is error 4.
 """
 COLUMNS = "| column | name | what it is | form and range |\n|---|---|---|---|"
 EXAMPLES = "| rows, and the bodies of the same filings |\n|---|"
