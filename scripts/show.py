@@ -99,5 +99,6 @@ if __name__ == "__main__":
     path = sys.argv[2] if sys.argv[2:] else SPECIMEN
     before = read(path)
     now = read(sys.argv[1])
-    print(f"Year book of the award year {now['year']}-{(now['year'] + 1) % 100:02}; figures are marked that are far from those of {os.path.basename(path)} ({before['year']}).\n")
+    law = "" if now["form"] == before["form"] else f" That one is of form {before['form']}, and this one of form {now['form']}."
+    print(f"Year book of the award year {now['year']}-{(now['year'] + 1) % 100:02}; figures are marked that are far from those of {os.path.basename(path)} ({before['year']}).{law}\n")
     show(now, before, words())

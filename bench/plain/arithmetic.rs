@@ -1,4 +1,5 @@
-// The same arithmetic as crates aid_num, sai_parent, sai_index and pell_schedule in plain Rust, and the specimen book.
+// The same arithmetic as crates aid_num, sai_parent, sai_index and pell_schedule in plain Rust, for books of form 1,
+// and the specimen book.
 
 #[derive(Clone, Copy, PartialEq, Default)]
 pub struct Side {

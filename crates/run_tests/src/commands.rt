@@ -155,7 +155,7 @@ fn books_that_are_none(rt: HostRuntime) -> Result<(), Fail> {
 }
 
 // What changes in the text of the book, and the line of its first error.
-const NO_BOOKS: [(&str, &str, &str); 4] = [
+const NO_BOOKS: [(&str, &str, &str); 5] = [
     (
         "minimum = 740\n",
         "minimum = 740\nbonus = 1\n",
@@ -164,6 +164,7 @@ const NO_BOOKS: [(&str, &str, &str); 4] = [
     ("minimum = 740\n", "minimum = 7396\n", "1 book 4 4\n"),
     ("base = 11240\n", "base = 11241\n", "1 book 5 3 5\n"),
     ("minimum = 740\n", "bonus = 1\n", "1 book 2 4\n"),
+    ("form = 1\n", "form = 2\n", "1 book 2 56\n"),
 ];
 
 // A run that ended in a fault of the disk is made again, and then all stands.

@@ -1,7 +1,7 @@
 // The worked year of two schools: its rows, reports and rounds, what is answered over a connection, and generated years.
 use crate::connections::assert_session;
 use crate::plain_file::PlainFile;
-use crate::runs::{EMPTY, Run, assert_runs, ran_over, with_book};
+use crate::runs::{EMPTY, Run, assert_runs, disk, ran, ran_over, with_book};
 use aid_edges::SteadySource;
 use specimen::{BOOK_TEXT, YEAR_LINES, YEAR_ROWS};
 use std::test::Fail;
@@ -40,6 +40,49 @@ fn a_worked_year(rt: HostRuntime) -> Result<(), Fail> {
     }
     Ok(())
 }
+
+// The same in a year of form 2, whose ceiling is twice the greatest award, of parents with the greatest income that a row may say.
+#[test]
+fn a_year_with_a_ceiling(rt: HostRuntime) -> Result<(), Fail> {
+    let alloc = rt.alloc();
+    let text = BOOK_TEXT.replace(alloc, "form = 1\n", "form = 2\nceiling.percent = 200\n")?;
+    let before = disk(alloc, EMPTY, &[], None)?;
+    let (status, sink, book) = ran(alloc, "book 1", text.as_bytes(), before, &[])?;
+    assert_eq!(rt; sink.text(), b"1 0 accepted 1 noted\n");
+    assert_eq!(rt; status, 0);
+    assert_runs(&rt, alloc, book.image(), &AT_THE_CEILING)?;
+    Ok(())
+}
+
+const AT_THE_CEILING: [Run; 2] = [
+    (
+        "file",
+        "\
+school,0,2,110,2,12\n\
+school,0,3,120,3,12\n\
+calendar,110,1,2025,1,0,2025-08-25,2025-12-12,1,2025-11-22,2025-11-30\n\
+calendar,110,2,2025,2,0,2026-01-12,2026-05-01,0\n\
+calendar,120,1,2025,1,0,2025-09-22,2025-12-05,0\n\
+calendar,120,2,2025,2,0,2026-01-05,2026-03-20,0\n\
+apply,110,3,5001,2025,1,2006,0,4,0,0,0,0,0,0,0,0,0,0,1,6000,0,0,0,0,0,0,0,0,0,6000,0,0,900,0,0,1,1,48,99999999,0,0,0,0,0,0,0,0,5200,50000,35000,0,12000,20000,0\n\
+enrol,110,4,5001,2025,1,12\n\
+originate,110,5,5001,2025,24000\n\
+pay,110,6,5001,2025,1,pell,1145.00\n",
+        0,
+        "\
+1 1 accepted 2 noted\n\
+2 2 accepted 3 noted\n\
+3 3 accepted 4 noted\n\
+4 4 accepted 5 noted\n\
+5 5 accepted 6 noted\n\
+6 6 accepted 7 noted\n\
+7 7 accepted 8 index A 999999 nothing 0\n\
+8 8 accepted 9 noted\n\
+9 9 accepted 10 noted\n\
+10 10 refused 43 999999 14790\n",
+    ),
+    ("quote 110 5001 2025 1", "", 0, "quote 0\n"),
+];
 
 // The first nine rows, up to the student's origination at the first school.
 const FIRST_NINE: [Run; 2] = [
