@@ -1,4 +1,4 @@
-use Rattle.std.proofs.Common.{◌≡◌, ℕ, ◌+◌, ◌-◌, ◌*◌, ◌^◌, ◌<◌, ◌≤◌, true, List, Option, Some, None, refl, ap, subst, sym, ◌∙◌, arith, length}
+use Rattle.std.proofs.Common.{◌≡◌, ℕ, ◌+◌, ◌*◌, ◌^◌, ◌<◌, ◌≤◌, true, List, Option, Some, None, refl, ap, subst, sym, ◌∙◌, arith, length}
 use Rattle.std.specs.Prelude.{IsSome, IsTrue}
 use Rattle.aid_filings.specs.declared.filing.Filing.{Filing}
 use Rattle.aid_filings.specs.declared.reply.Ask.TheVariants.{Quote}
@@ -8,7 +8,7 @@ use Rattle.aid_types.specs.declared.term.Term.{Term}
 use Rattle.rule_lines.specs.RuleLines.{first_broken}
 use Rattle.office_history.specs.Answer.{IsLegal, answer_of, answer_to, quote_of, standing_of}
 use Rattle.office_history.specs.FirstEnrolments.{places_of}
-use Rattle.office_history.specs.Past.{key_at, the_term}
+use Rattle.office_history.specs.Past.{the_term}
 use Rattle.office_history.specs.Rules.{payment_rules}
 use Rattle.office_core.specs.Register.{Register}
 use Rattle.office_core.specs.WalkedFor.{walked_for}
@@ -79,21 +79,6 @@ returns-in-File-clause-used g c =
     let same : c.in-File.filing ≡ f = cc in
     let told : c.answer.result ≡ answer_of past f = c.answer.ensures.value ∙ ap (λ (h : List Filing). answer_of h c.in-File.filing) view ∙ ap (answer_of past) same in
     used_there past f refusal legal (sym told ∙ said) fifteen
-
-pub returns-in-File-clause-met : goal.returns-in-File-clause-met
-returns-in-File-clause-met g c =
-    λ f asked stands.
-    let view : c.self.inside.indexed.history ≡ c.args.self.now.history = ap (λ (r : Register). r.history) c.self.view_is in
-    let same : c.in-File.filing ≡ f = cc in
-    c.answer.ensures.met it_counts (λ none. stands (sym (ap (λ (h : List Filing). key_at c.in-File.filing.key h) view ∙ ap (λ (x : Filing). key_at x.key c.args.self.now.history) same) ∙ none))
-
-pub returns-in-File-clause-missed : goal.returns-in-File-clause-missed
-returns-in-File-clause-missed g c =
-    λ f asked none.
-    let view : c.self.inside.indexed.history ≡ c.args.self.now.history = ap (λ (r : Register). r.history) c.self.view_is in
-    let same : c.in-File.filing ≡ f = cc in
-    subst (λ (h : List Filing). length h + 2 ≤ 2 ^ (c.answer.new.steps - c.args.steps.now + 1)) view
-    (c.answer.ensures.missed it_counts (ap (λ (h : List Filing). key_at c.in-File.filing.key h) view ∙ ap (λ (x : Filing). key_at x.key c.args.self.now.history) same ∙ none))
 
 pub returns-in-File-clause-counted : goal.returns-in-File-clause-counted
 returns-in-File-clause-counted g c =
