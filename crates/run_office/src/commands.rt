@@ -110,15 +110,15 @@ fn do_command<D: Disk, S: Source, K: Sink>(
 
 /// Does what the words say, and answers the status and the disk as it is then: `found` founds an office in the disk's
 /// file; `file` files the rows of the input, and `book` its text as a book; `quote` asks for one; `report` writes a
-/// report on the office, and files nothing; `fund` files the payments of a round of awards by the first of the policies that has
-/// its name; `generate` files a generated year, whose book is the input's text, and writes
-/// what it comes to; `check rows` and `check book` say what is wrong with the input, and make no
-/// call on the disk. The whole input is read before the
-/// journal is, and the line of a row is written before the next row is filed.
+/// report on the office, and files nothing; `fund` files the payments of a round of awards by the first of the policies
+/// that has its name; `generate` files a generated year, whose book is the input's text, and writes what it comes to;
+/// `check rows` and `check book` say what is wrong with the input, and make no call on the disk. The whole input is read
+/// before the journal is, and the line of a row is written before the next row is filed.
 ///
-/// The status is 0 where all was done, 2 where the words are no row, unless memory ran out before that was known, 3 where a read failed, 4 where a write failed, 5
+/// The status is 0 where all was done, 2 where the words are no row, 3 where a read failed, 4 where a write failed, 5
 /// where the disk failed, 6 where the file is none for the command, 7 where it is damaged, 8 where the input has more
-/// than `INPUT_LIMIT` bytes, and 9 where there is no memory. At each but 0 and 4 the last line of the text names the fault.
+/// than `INPUT_LIMIT` bytes, and 9 where there is no memory. 9 also hides a 2, where memory ran out before the words were
+/// known to be no row. At each but 0 and 4 the last line of the text names the fault.
 pub fn run<D: Disk, S: Source, K: Sink>(
     alloc: Global,
     words: &Vec<String>,

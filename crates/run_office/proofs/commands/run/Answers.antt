@@ -22,8 +22,9 @@ use Rattle.run_office.proofs.commands.run.Goals as goal
 pub returns-in-Ok-Some-clause-ran : goal.returns-in-Ok-Some-clause-ran
 returns-in-Ok-Some-clause-ran g c =
     let done = c.do_command-ended in
+    let row = rw c.in-Ok-Some.field-0-is at c.in-Ok-Some.ensures.words in
     did c.in-Ok-Some.command done.new.out done.result.0 c.end.result
-    (same_row _ _ _ c.in-Ok-Some.command (sym (ap (map (string_bytes {Z = Global})) c.deref.ensures.value)) c.in-Ok-Some.ensures.words)
+    (same_row _ _ _ c.in-Ok-Some.command (sym (ap (map (string_bytes {Z = Global})) c.deref.ensures.value)) row)
     done.ensures.does done.ensures.sink_honest
     (record {
       source = done.ensures.source;
@@ -56,7 +57,7 @@ returns-in-Ok-Some-clause-stands g c command past words well honest stood =
 pub returns-in-Ok-Some-clause-file_ran : goal.returns-in-Ok-Some-clause-file_ran
 returns-in-Ok-Some-clause-file_ran g c words =
     let done = c.do_command-ended in
-    let is = c.in-Ok-Some.ensures.only File (same_row _ _ _ File (ap (map (string_bytes {Z = Global})) c.deref.ensures.value) (file_row _ _ words)) in
+    let is = c.in-Ok-Some.ensures.only File (file_row _ (ap (map (string_bytes {Z = Global})) c.deref.ensures.value ∙ words)) in
     let same : c.in-Ok-Some.command ≡ File = cc in
     file_ran g.D.Disk g.K.Sink c.args.disk done.result.1
     (record { honest = g.S.Source.honest c.args.input.now; before = g.S.Source.left c.args.input.now; after = g.S.Source.left done.new.input })
@@ -64,7 +65,7 @@ returns-in-Ok-Some-clause-file_ran g c words =
 
 pub returns-in-Ok-Some-clause-founded : goal.returns-in-Ok-Some-clause-founded
 returns-in-Ok-Some-clause-founded g c words well honest =
-    λ file image. from_kept file [] (returns-in-Ok-Some-clause-stands g c Found [] (found_row _ _ words) well honest tt file image)
+    λ file image. from_kept file [] (returns-in-Ok-Some-clause-stands g c Found [] (found_row _ words) well honest tt file image)
 
 pub returns-in-Ok-Some-clause-headline : goal.returns-in-Ok-Some-clause-headline
 returns-in-Ok-Some-clause-headline g c past words honest sincere sound each =
@@ -76,10 +77,11 @@ returns-in-Ok-Some-clause-headline g c past words honest sincere sound each =
 pub returns-in-Ok-Some-clause-keeps : goal.returns-in-Ok-Some-clause-keeps
 returns-in-Ok-Some-clause-keeps g c past honest each =
     let done = c.do_command-ended in
+    let row = rw c.in-Ok-Some.field-0-is at c.in-Ok-Some.ensures.words in
     weaken (g.D.Disk.tells c.args.disk) (g.D.Disk.tells done.result.1) _ (λ file. (added : List Filing) × Recovers file (added ++ past))
     (λ file may. keeps _ c.in-Ok-Some.command (record { honest = g.S.Source.honest c.args.input.now; before = g.S.Source.left c.args.input.now; after = g.S.Source.left done.new.input }) past file may)
     (returns-in-Ok-Some-clause-moments g c c.in-Ok-Some.command past
-    (same_row _ _ _ c.in-Ok-Some.command (sym (ap (map (string_bytes {Z = Global})) c.deref.ensures.value)) c.in-Ok-Some.ensures.words) honest (λ file image. to_kept file past (each file image)))
+    (same_row _ _ _ c.in-Ok-Some.command (sym (ap (map (string_bytes {Z = Global})) c.deref.ensures.value)) row) honest (λ file image. to_kept file past (each file image)))
 
 pub returns-in-Ok-Some-clause-within : goal.returns-in-Ok-Some-clause-within
 returns-in-Ok-Some-clause-within g c file history is = legal_within history (to_kept file history is).legal
@@ -113,7 +115,7 @@ returns-in-Ok-Some-clause-complete g c command words can no_source no_sink no_di
 
 pub returns-in-Ok-None-clause-ran : goal.returns-in-Ok-None-clause-ran
 returns-in-Ok-None-clause-ran g c =
-    no_row c.end-in-Ok-None.result (λ command is. c.in-Ok-None.ensures.none refl command (same_row _ _ _ command (ap (map (string_bytes {Z = Global})) c.deref.ensures.value) is)) refl refl
+    no_row c.end-in-Ok-None.result (λ command is. c.in-Ok-None.ensures.none c.in-Ok-None.field-0-is command (same_row _ _ _ command (ap (map (string_bytes {Z = Global})) c.deref.ensures.value) is)) refl refl
     (record {
       source = stood _ _ refl;
       disk = stood _ _ refl;
@@ -123,23 +125,23 @@ returns-in-Ok-None-clause-ran g c =
 
 pub returns-in-Ok-None-clause-moments : goal.returns-in-Ok-None-clause-moments
 returns-in-Ok-None-clause-moments g c command past words honest each =
-    absurd (c.in-Ok-None.ensures.none refl command (same_row _ _ _ command (ap (map (string_bytes {Z = Global})) c.deref.ensures.value) words))
+    absurd (c.in-Ok-None.ensures.none c.in-Ok-None.field-0-is command (same_row _ _ _ command (ap (map (string_bytes {Z = Global})) c.deref.ensures.value) words))
 
 pub returns-in-Ok-None-clause-file_ran : goal.returns-in-Ok-None-clause-file_ran
 returns-in-Ok-None-clause-file_ran g c words =
-    absurd (c.in-Ok-None.ensures.none refl File (same_row _ _ _ File (ap (map (string_bytes {Z = Global})) c.deref.ensures.value) (file_row _ _ words)))
+    absurd (c.in-Ok-None.ensures.none c.in-Ok-None.field-0-is File (file_row _ (ap (map (string_bytes {Z = Global})) c.deref.ensures.value ∙ words)))
 
 pub returns-in-Ok-None-clause-complete : goal.returns-in-Ok-None-clause-complete
 returns-in-Ok-None-clause-complete g c command words can no_source no_sink no_disk =
-    absurd (c.in-Ok-None.ensures.none refl command (same_row _ _ _ command (ap (map (string_bytes {Z = Global})) c.deref.ensures.value) words))
+    absurd (c.in-Ok-None.ensures.none c.in-Ok-None.field-0-is command (same_row _ _ _ command (ap (map (string_bytes {Z = Global})) c.deref.ensures.value) words))
 
 pub returns-in-Ok-None-clause-founded : goal.returns-in-Ok-None-clause-founded
 returns-in-Ok-None-clause-founded g c words well honest =
-    absurd (c.in-Ok-None.ensures.none refl Found (same_row _ _ _ Found (ap (map (string_bytes {Z = Global})) c.deref.ensures.value) (found_row _ _ words)))
+    absurd (c.in-Ok-None.ensures.none c.in-Ok-None.field-0-is Found (found_row _ (ap (map (string_bytes {Z = Global})) c.deref.ensures.value ∙ words)))
 
 pub returns-in-Ok-None-clause-headline : goal.returns-in-Ok-None-clause-headline
 returns-in-Ok-None-clause-headline g c past words honest sincere sound each =
-    absurd (c.in-Ok-None.ensures.none refl File (same_row _ _ _ File (ap (map (string_bytes {Z = Global})) c.deref.ensures.value) (file_row _ _ words)))
+    absurd (c.in-Ok-None.ensures.none c.in-Ok-None.field-0-is File (file_row _ (ap (map (string_bytes {Z = Global})) c.deref.ensures.value ∙ words)))
 
 pub returns-in-Ok-None-clause-keeps : goal.returns-in-Ok-None-clause-keeps
 returns-in-Ok-None-clause-keeps g c past honest each =
