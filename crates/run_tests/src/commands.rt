@@ -128,7 +128,7 @@ const NO_OFFICES: [(&[u8], Run); 10] = [
 ];
 
 // The first 60 bytes of the file of two filings.
-const CUT: &[u8] =
+pub(crate) const CUT: &[u8] =
     b"\x01AIDPELL1\x01\0\0\0\0\0\0\x01\x13\0\0\0\x02\0\0\0\0\x01\0\0\0\0\0\0\0\x6e\0\0\0\x02\x0c\x01\x19\0\0\0\x04\0\0\0\0\x02\0\0\0\0\0\0\0\x89\x13";
 
 // The first filing once more in the place of the second, and a second filing of a kind that is none.
@@ -265,7 +265,7 @@ fn read_faults_end_a_run(rt: HostRuntime) -> Result<(), Fail> {
 }
 
 // An input of one field.
-fn long_input(alloc: Global, length: usize) -> Result<Vec<u8>, AllocError> {
+pub(crate) fn long_input(alloc: Global, length: usize) -> Result<Vec<u8>, AllocError> {
     vec![in alloc; b'x'; length]
 }
 

@@ -1,8 +1,10 @@
-// What many desks do at once: two that pay one student, in either order, one that ends early, and those that don't begin.
-use crate::commands::BOTH;
+// What many desks do at once: two that pay one student, in either order, one that ends early, those that don't begin, and
+// those whose lines can't be written.
+use crate::commands::{BOTH, CUT, long_input};
 use crate::runs::{assert_runs, disk, with_book};
-use aid_edges::{FreeGate, HoldGate, MemorySink, MemorySource, SteadySource};
+use aid_edges::{FreeGate, HoldGate, MemorySink, MemorySource, SteadySource, read_to_limit};
 use disk_model::MemoryDisk;
+use kept_session::INPUT_LIMIT;
 use run_office::{DeskInput, run_desks};
 use std::alloc::Global;
 use std::process::Abort;
@@ -56,16 +58,30 @@ fn assert_filed<H: Threads + Wait + Abort + Sync>(
     rows: [&[u8]; 2],
     ends: (u8, &[u8]),
 ) -> Result<(), Fail> {
+    assert_written(rt, alloc, disk, gate, rows, &[], ends)?;
+    Ok(())
+}
+
+// The same where these calls of the sink fail. Gives the disk.
+fn assert_written<H: Threads + Wait + Abort + Sync>(
+    rt: &H,
+    alloc: Global,
+    disk: MemoryDisk,
+    gate: &HoldGate,
+    rows: [&[u8]; 2],
+    failing: &[u64],
+    ends: (u8, &[u8]),
+) -> Result<MemoryDisk, Fail> {
     let mut desks = Vec::new(alloc);
     for row in rows {
         let input = SteadySource::new(row.to_vec(alloc)?);
         desks.push(DeskInput { input })?;
     }
-    let mut sink = MemorySink::new(alloc, Vec::new(alloc));
-    let (status, _) = run_desks(rt, alloc, &mut desks, disk, gate, &mut sink);
+    let mut sink = MemorySink::new(alloc, failing.to_vec(alloc)?);
+    let (status, after) = run_desks(rt, alloc, &mut desks, disk, gate, &mut sink);
     assert_eq!(rt; status, ends.0);
     assert_eq!(rt; sink.text(), ends.1);
-    Ok(())
+    Ok(after)
 }
 
 // The payments of 3,000 dollars that two schools file for the student, whose lifetime limit has room for one of them.
@@ -142,6 +158,79 @@ fn a_desk_ends_early(rt: HostRuntime) -> Result<(), Fail> {
     Ok(())
 }
 
+// The text ends where a write fails, in the lines of the desks or in those behind them. What they filed stands as one
+// session leaves it, and the file may be longer.
+#[test]
+fn all_have_filed_when_a_write_fails(rt: HostRuntime) -> Result<(), Fail> {
+    let alloc = rt.alloc();
+    let rows: [&[u8]; 2] = [b"prior,0,7,5007,1\n", b"prior,0,8,5008,1\n"];
+    let session = (
+        "file",
+        "prior,0,7,5007,1\nprior,0,8,5008,1\n",
+        0,
+        "1 2 accepted 3 noted\n2 3 accepted 4 noted\n",
+    );
+    let filed = assert_runs(&rt, alloc, BOTH, &[session])?;
+    let cases: [(u64, u8, &[u8]); 4] = [
+        (2, 4, b"desk 1 1 2 accepted 3 noted\n"),
+        (
+            3,
+            4,
+            b"desk 1 1 2 accepted 3 noted\ndesk 2 1 3 accepted 4 noted\n",
+        ),
+        (
+            4,
+            4,
+            b"desk 1 1 2 accepted 3 noted\ndesk 2 1 3 accepted 4 noted\nadmitted 3 1 1\n",
+        ),
+        (
+            5,
+            0,
+            b"desk 1 1 2 accepted 3 noted\ndesk 2 1 3 accepted 4 noted\nadmitted 3 1 1\nadmitted 4 2 1\n",
+        ),
+    ];
+    for (call, status, text) in cases {
+        let gate = HoldGate::new(2, 1, 1_000_000);
+        let disk = disk(alloc, BOTH, &[], None)?;
+        let after = assert_written(&rt, alloc, disk, &gate, rows, &[call], (status, text))?;
+        assert!(rt; after.image().starts_with(filed.image()), "call {call}");
+    }
+    Ok(())
+}
+
+// No input is read behind one that fails, or that is too long.
+#[test]
+fn an_input_stops_those_behind_it(rt: HostRuntime) -> Result<(), Fail> {
+    let alloc = rt.alloc();
+    for (length, failing, want, text) in [
+        (20, 1, 3, "fault read\n"),
+        (INPUT_LIMIT + 1, 0, 8, "fault too long\n"),
+    ] {
+        let bad = MemorySource::new(long_input(alloc, length)?, vec![in alloc; failing; 1]?);
+        let mut desks = Vec::new(alloc);
+        desks.push(DeskInput { input: good_input(alloc)? })?;
+        desks.push(DeskInput { input: bad })?;
+        desks.push(DeskInput { input: good_input(alloc)? })?;
+        let mut sink = MemorySink::new(alloc, Vec::new(alloc));
+        let disk = disk(alloc, BOTH, &[], None)?;
+        let (status, after) = run_desks(&rt, alloc, &mut desks, disk, &FreeGate, &mut sink);
+        assert_eq!(rt; status, want, "{text}");
+        assert_eq!(rt; sink.text(), text.as_bytes());
+        assert_eq!(rt; after.image(), BOTH, "{text}");
+        for (place, rest) in [(0, b"".as_slice()), (2, GOOD)] {
+            let left = read_to_limit(alloc, &mut desks[place].input, INPUT_LIMIT)?;
+            assert_eq!(rt; left.as_slice(), rest, "{text}: {place}");
+        }
+    }
+    Ok(())
+}
+
+const GOOD: &[u8] = b"prior,0,2,5001,550000\n";
+
+fn good_input(alloc: Global) -> Result<MemorySource, Fail> {
+    Ok(MemorySource::new(GOOD.to_vec(alloc)?, Vec::new(alloc)))
+}
+
 #[test]
 fn desks_that_do_not_begin(rt: HostRuntime) -> Result<(), Fail> {
     for row in UNFILED {
@@ -153,12 +242,13 @@ fn desks_that_do_not_begin(rt: HostRuntime) -> Result<(), Fail> {
 // How many desks there are, which of them can't be read, a file, the calls of the sink that fail, and the status and the text.
 type Unfiled = (u32, u32, &'static [u8], &'static [u64], u8, &'static str);
 
-const UNFILED: [Unfiled; 7] = [
+const UNFILED: [Unfiled; 8] = [
     (0, 0, BOTH, &[], 2, "fault usage\n"),
     (17, 0, BOTH, &[], 2, "fault usage\n"),
     (3, 2, BOTH, &[], 3, "fault read\n"),
     (1, 0, b"ten bytes.", &[], 6, "fault no office\n"),
     (1, 0, b"eighteen letters..", &[], 6, "fault not a journal\n"),
+    (2, 0, CUT, &[], 7, "fault damaged 40\n"),
     (16, 0, BOTH, &[1], 4, ""),
     (3, 2, BOTH, &[1], 4, ""),
 ];
