@@ -48,7 +48,7 @@ fn a_year_with_a_ceiling(rt: HostRuntime) -> Result<(), Fail> {
     let text = BOOK_TEXT.replace(alloc, "form = 1\n", "form = 2\nceiling.percent = 200\n")?;
     let before = disk(alloc, EMPTY, &[], None)?;
     let (status, sink, book) = ran(alloc, "book 1", text.as_bytes(), before, &[])?;
-    assert_eq!(rt; sink.text(), b"1 0 accepted 1 noted\n");
+    assert_eq!(rt; sink.text(), b"1 0 accepted 1 noted\n".as_slice());
     assert_eq!(rt; status, 0);
     assert_runs(&rt, alloc, book.image(), &AT_THE_CEILING)?;
     Ok(())
