@@ -11,7 +11,7 @@ use Rattle.aid_types.specs.declared.award.Formula.{Formula}
 use Rattle.aid_books.specs.declared.book.Book.{Book}
 use Rattle.aid_filings.specs.declared.filing.Filing.{Filing}
 use Rattle.enrolment.specs.Terms.{intensity_of}
-use Rattle.pell_schedule.specs.Award.{calculated, decision_under, is_barred, is_maximum, is_minimum, must_file}
+use Rattle.pell_schedule.specs.Award.{calculated, decision_under, is_at_ceiling, is_barred, is_maximum, is_minimum, must_file}
 use Rattle.pell_schedule.specs.declared.Decision.{Decision}
 use Rattle.sai_index.specs.Formulas.{formula}
 use Rattle.sai_index.specs.Index.{bounded}
@@ -38,11 +38,12 @@ lower_fits index h = let low = h.0 in let high = h.1 in (omega (arith, ints, cla
 decided_fits : (f : Formula) (book : Book) (a : Application) (index : ℤ) → IsIndex index → IsIndex (decision_under f book a index).sai
 decided_fits f book a index h =
     either (is_barred a) _ _ h
+    (either (is_at_ceiling book index) _ _ h
     (either (must_file f a) _ _
     (either (is_maximum book f a) _ _ (lower_fits index h)
     (either (int_le book.pell.minimum (calculated book index)) _ _ h
     (either (is_minimum book f a) _ _ h h)))
-    least_fits)
+    least_fits))
 
 none_fits : IsIndex (pos 0)
 none_fits = (omega (arith, ints), omega (arith, ints))
