@@ -1,5 +1,5 @@
-//! Tests of whole runs, by texts in and out over a file in memory: of commands, of many desks, and of the web desk; and of rows of
-//! words. This library has tests alone.
+//! Tests of whole runs, by texts in and out over a file in memory: of commands, of many desks, and of the web desk. This
+//! library has tests alone.
 #![tactic(auto)]
 
 #[cfg(test)]
@@ -16,7 +16,5 @@ mod plain_file;
 mod ports;
 #[cfg(test)]
 mod runs;
-#[cfg(test)]
-mod words;
 #[cfg(test)]
 mod year;
