@@ -43,8 +43,6 @@ SECTIONS = [
     ("bracket", 16, {"over": (*AMOUNT, "dollars"), "base": (*AMOUNT, "dollars"), "rate": (*RATE, "rate")}),
     ("ceiling", {"percent": (*PERCENT, "percent")}),
 ]
-# Behind the others in form 2 alone.
-CEILING = "ceiling", {"percent": (*PERCENT, "percent")}
 TABLES = ["business", "age", "bracket"]
 
 
@@ -69,11 +67,6 @@ def share(amount, rate):
 
 def is_number(value):
     return isinstance(value, int) and not isinstance(value, bool)
-
-
-def sections_of(book):
-    """The sections of a book: one more where the integer 2 stands under `form`."""
-    return [*SECTIONS, CEILING] if is_number(book.get("form")) and book["form"] == 2 else SECTIONS
 
 
 def are_numbers_of_toml(value):

@@ -266,14 +266,14 @@ pay_is past key a coded =
         ++ (only (rank a.program == 4) (past_fseog past key.school a.student a.year a.term 55 a.cents ∷ [])
         ++ (past_cost past key.school a.student a.year a.term 57 a.cents ∷ []))
 
+    not_zero : (n : ℕ) → not (n == 0) ≡ true → n ≡ 0 → ⊥
+    not_zero n awarded none = let same : (n == 0) ≡ true = rw none refl in cc
+
     -- a student who is awarded Pell is below the ceiling
     below_ceiling : (b : Option Book) (o : Option Application) → not (award_under b o == 0) ≡ true → nat_lt 0 (ceiling_under b o).index ≡ false
     below_ceiling None o awarded = refl
     below_ceiling (Some b) None awarded = refl
     below_ceiling (Some b) (Some a) awarded = rw (none_under (Some b) a (not_zero (award_under (Some b) (Some a)) awarded)) refl
-
-    not_zero : (n : ℕ) → not (n == 0) ≡ true → n ≡ 0 → ⊥
-    not_zero n awarded none = let same : (n == 0) ≡ true = rw none refl in cc
 
     inner : (none pell dollars award over y n r v : Bool) → (award ≡ true → over ≡ false) → y ≡ n → (none ≡ false → r ≡ v) →
         (not none && ((not pell || dollars && award && y) && r))

@@ -7,7 +7,6 @@ use Rattle.std.proofs.lemmas.Nat.{mul-le}
 use Rattle.aid_types.specs.declared.application.Application.{Application}
 use Rattle.aid_types.specs.declared.application.Side.{Side}
 use Rattle.aid_books.specs.declared.book.Book.{Book}
-use Rattle.pell_schedule.specs.declared.Ceiling.{Ceiling}
 use Rattle.pell_schedule.specs.Award.{IsTold, ceiling_at, ceiling_bound, counted_income, decision, is_at_ceiling, is_barred, no_ceiling}
 
 -- a percent of an amount above 0

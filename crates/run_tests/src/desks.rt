@@ -208,9 +208,13 @@ fn an_input_stops_those_behind_it(rt: HostRuntime) -> Result<(), Fail> {
     ] {
         let bad = MemorySource::new(long_input(alloc, length)?, vec![in alloc; failing; 1]?);
         let mut desks = Vec::new(alloc);
-        desks.push(DeskInput { input: good_input(alloc)? })?;
+        desks.push(DeskInput {
+            input: good_input(alloc)?,
+        })?;
         desks.push(DeskInput { input: bad })?;
-        desks.push(DeskInput { input: good_input(alloc)? })?;
+        desks.push(DeskInput {
+            input: good_input(alloc)?,
+        })?;
         let mut sink = MemorySink::new(alloc, Vec::new(alloc));
         let disk = disk(alloc, BOTH, &[], None)?;
         let (status, after) = run_desks(&rt, alloc, &mut desks, disk, &FreeGate, &mut sink);
