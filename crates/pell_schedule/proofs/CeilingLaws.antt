@@ -98,17 +98,21 @@ told book a index h at =
     let least = r.least in
     record {
       none = λ no. absurd (omega (arith, no));
+      decides = λ free there. let high = index_above book index at in omega (arith, ints);
       kept = λ one. omega (arith, ints);
+      bounded = λ one. omega (arith, ints);
       above = omega (arith, ints);
       least = λ one other. (is_reached book other some, λ k. (reaches book other k).least);
       unawarded = λ one. unawarded book a index h at;
     }
 
 -- where it doesn't
-pub untold : (book : Book) (a : Application) (index : ℤ) → IsTold book a index (no_ceiling)
-untold book a index = record {
+pub untold : (book : Book) (a : Application) (index : ℤ) → (is_barred a ≡ false → is_at_ceiling book index ≡ true → ⊥) → IsTold book a index (no_ceiling)
+untold book a index other = record {
   none = λ no. refl;
+  decides = λ free at. absurd (other free at);
   kept = λ one. absurd (omega (arith, one));
+  bounded = λ one. absurd (omega (arith, one));
   above = omega arith;
   least = λ one. absurd (omega (arith, one));
   unawarded = λ one. absurd (omega (arith, one));

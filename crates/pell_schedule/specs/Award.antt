@@ -151,7 +151,9 @@ pub record IsDecidedByCase (f : Formula) (book : Book) (a : Application) (index 
 -- a ceiling is told by an index and the least that it takes, above 0 and no greater; or it isn't, by 0 and 0
 pub record IsTold (book : Book) (a : Application) (index : ℤ) (told : Ceiling) : Type 0 where
   pub none : book.ceiling ≡ 0 → told ≡ no_ceiling
+  pub decides : IsFalse (is_barred a) → IsTrue (is_at_ceiling book index) → 1 ≤ told.index
   pub kept : 1 ≤ told.index → index ≡ pos told.index
+  pub bounded : 1 ≤ told.index → 1 ≤ told.bound
   pub above : told.bound ≤ told.index
   pub least : 1 ≤ told.bound → (other : ℤ) → pos told.bound ≤ℤ other ↔ IsTrue (is_at_ceiling book other)
   pub unawarded : 1 ≤ told.index → (decision book a index).scheduled ≡ 0

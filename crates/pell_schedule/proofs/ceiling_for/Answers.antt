@@ -1,4 +1,5 @@
 use Rattle.std.proofs.Common.{◌≡◌, ◌∙◌, sym, subst, true, false, w32, arith}
+use Rattle.std.proofs.lemmas.Bool.{false≢true}
 use Rattle.std.proofs.lemmas.Int.{ints, to_z-of_z}
 use Rattle.pell_schedule.specs.Award.{is_at_ceiling}
 use Rattle.pell_schedule.proofs.CeilingLaws.{index_above, none_barred, none_below, told, untold}
@@ -27,4 +28,9 @@ returns-else-not-is_barred-clause-value c = sym (elim c.else-not-is_barred.branc
 ])
 
 pub returns-else-not-is_barred-clause-told : goal.returns-else-not-is_barred-clause-told
-returns-else-not-is_barred-clause-told c = untold c.args.book.now c.args.a.now c.args.index
+returns-else-not-is_barred-clause-told c = untold c.args.book.now c.args.a.now c.args.index (elim c.else-not-is_barred.branch [
+  | else-not-is_barred-via-then-not-is_barred+else-is_at_ceiling w ↦
+      let at = subst (λ i. is_at_ceiling c.args.book.now i ≡ false) (to_z-of_z w32 c.args.index c.ranges.index) (sym w.is_at_ceiling.ensures ∙ w.if-is_at_ceiling.false) in
+      λ free there. false≢true (sym at ∙ there)
+  | else-not-is_barred-via-else-not-is_barred w ↦ λ free there. false≢true (sym free ∙ (sym c.is_barred.ensures ∙ w.if-not-is_barred.false))
+])
