@@ -15,4 +15,4 @@ pub use form::{FilingForm, FilingSaid};
 pub use laws::once;
 pub use line::put_book_error;
 pub use lines::{put_error, put_fine, put_tally};
-pub use reply::{outcome_line, put_answer, put_quote};
+pub use reply::{outcome_line, put_answer, put_line, put_quote};

@@ -20,14 +20,14 @@ pub fn put_book_error(error: &BookError, out: &mut Vec<u8>) -> Result<(), AllocE
     match error.number() {
         Some(number) => {
             let start = start_of(number, error);
-            put_line(start.as_str().as_bytes(), key_of(error), out)
+            put_key_line(start.as_str().as_bytes(), key_of(error), out)
         }
         None => Ok(()),
     }
 }
 
 // Appends a line that ends with a key, or nothing.
-fn put_line(start: &[u8], key: &[u8], out: &mut Vec<u8>) -> Result<(), AllocError>
+fn put_key_line(start: &[u8], key: &[u8], out: &mut Vec<u8>) -> Result<(), AllocError>
     requires { length start.now ≤ 40 }
     ensures ok { OnOk result (out.new.items ≡ out.old.items ++ (start.now ++ shown_key key.now ++ codes "\n")) }
     ensures err { OnErr result (out.new.items ≡ out.old.items) }

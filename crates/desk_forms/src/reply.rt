@@ -4,9 +4,9 @@ ghost use Rattle.arrayvec.specs.ArrayString.{array_string_len};
 ghost use Rattle.aid_num.specs.Cents.{cents_text};
 ghost use Rattle.aid_num.specs.Percents.{percent_text};
 ghost use Rattle.aid_num.specs.Whole.{whole_text};
-ghost use Rattle.desk_forms.specs.Replies.{line_of, outcome_text, quote_line, refused_text, standing_text};
+ghost use Rattle.desk_forms.specs.Replies.{line_of, outcome_text, quote_line, refused_text, reply_line, standing_text};
 
-use aid_filings::{Outcome, Verdict};
+use aid_filings::{Outcome, Reply, Verdict};
 use aid_types::{Formula, Refusal, Way, formula_name, way_name};
 use arrayvec::ArrayString;
 use itoa::Buffer;
@@ -25,6 +25,18 @@ pub fn put_answer(
     ensures room { vec_len out.old + 160 ≤ vec_capacity out.old → IsOk result }
 {
     let line = answer_text(row, front, verdict);
+    out.extend_from_slice(line.as_str().as_bytes())
+}
+
+/// Appends the line that answers a row, counted from 1, by the office's reply to its filing: one that was accepted, stood
+/// already or was refused. The other replies have no line, and append nothing. Where the vector has room for 160 more bytes
+/// no memory is taken.
+pub fn put_line(row: u32, reply: &Reply, out: &mut Vec<u8>) -> Result<(), AllocError>
+    ensures ok { OnOk result (out.new.items ≡ out.old.items ++ reply_line row reply.now) }
+    ensures err { OnErr result (out.new.items ≡ out.old.items) }
+    ensures room { vec_len out.old + 160 ≤ vec_capacity out.old → IsOk result }
+{
+    let line = reply_text(row, reply);
     out.extend_from_slice(line.as_str().as_bytes())
 }
 
@@ -64,6 +76,27 @@ fn answer_text(row: u32, front: u32, verdict: &Verdict) -> ArrayString<160>
         }
         Verdict::Refused(refusal) => refused_line(row, front, refusal),
         Verdict::Quoted(_) | Verdict::Standing(_) => ArrayString::new(),
+    }
+}
+
+// The line of a reply.
+fn reply_text(row: u32, reply: &Reply) -> ArrayString<160>
+    ensures { result.bytes ≡ reply_line row reply.now }
+{
+    match reply {
+        Reply::Accepted {
+            position,
+            front,
+            outcome,
+        } => standing_line(row, *front, " accepted ", u64::from(*position), outcome),
+        Reply::Again {
+            position,
+            front,
+            outcome,
+        } => standing_line(row, *front, " again ", u64::from(*position), outcome),
+        Reply::Refused { refusal, front } => refused_line(row, *front, refusal),
+        Reply::Quoted { .. } | Reply::Standing { .. } | Reply::DiskFault { .. } | Reply::NoMemory =>
+            ArrayString::new(),
     }
 }
 

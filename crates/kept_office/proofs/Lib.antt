@@ -1,3 +1,4 @@
 pub mod Legality
 pub mod Replies
+mod Going
 mod Rulings

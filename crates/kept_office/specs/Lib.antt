@@ -8,6 +8,7 @@ pub mod Recovers
 pub mod Faulty
 pub mod Openable
 pub mod Turns
+pub mod Turned
 pub mod Kept
 pub mod Lives
 pub mod OfficeLaws

@@ -1,0 +1,81 @@
+-- How a turn of an office goes, as a lock sees it.
+use Rattle.std.proofs.Common.{◌≡◌, ◌⊎◌, inl, inr, ℕ, suc, ◌+◌, ◌≤◌, ◌-◌, ◌^◌, Bool, true, false, IsTrue, List, ◌∷◌, Option, Some, None, length, refl, sym, ap, ◌∙◌, arith}
+use Rattle.std.specs.Prelude.{IsSome}
+use Rattle.aid_edges.specs.Faults.{Rose}
+use Rattle.aid_filings.specs.declared.filing.Filing.{Filing}
+use Rattle.aid_filings.specs.declared.reply.Ask.{Ask}
+use Rattle.aid_filings.specs.declared.reply.Ask.TheVariants.{File, Quote, Standing as StandingAsked}
+use Rattle.aid_filings.specs.declared.reply.Outcome.{Outcome}
+use Rattle.aid_filings.specs.declared.reply.Reply.{Reply}
+use Rattle.aid_filings.specs.declared.reply.Reply.TheVariants.{Accepted, Again, Refused, Quoted, Standing, DiskFault, NoMemory}
+use Rattle.aid_filings.specs.declared.reply.Verdict.TheVariants as verdict
+use Rattle.kept_list.specs.Turns.{IsUnsettled}
+use Rattle.kept_office.specs.Turned.{says_of, stand_of}
+use Rattle.kept_office.specs.Turns.{IsAccepted, IsLeftUndecided, Turns, asked, is_fault, settled}
+use Rattle.office_history.specs.Answer.{answer_to, is_admit}
+use Rattle.office_lock.specs.Turning.{Goes, Says, Admitted, Failed, Nothing, RoseBy, Undecided, admits, fails, faults_in, leaves, settled_list, settles, stays, stays_pending}
+use Rattle.office_lock.specs.declared.turned.Stand.{Stand}
+
+one : (old new : ℕ) → Rose old new → RoseBy 1 old new
+one old new (inl lt) = inl (omega (arith, lt))
+one old new (inr last) = inr (omega (arith, last))
+
+module _ (history : List Filing) (was : Option Filing) (faults : ℕ) (honest : Bool) (history' : List Filing) (pending' : Option Filing) (faults' : ℕ) (honest' : Bool) (ask : Ask) where
+  abbrev old : Stand Filing
+  old = stand_of history was faults honest
+
+  abbrev new : Stand Filing
+  new = stand_of history' pending' faults' honest'
+
+  -- the lock's words for a settled list say the same
+  same_settled : settled was history ≡ settled_list old
+  same_settled = go was
+    where
+      go : (o : Option Filing) → settled o history ≡ settled_list (stand_of history o faults honest)
+      go None = refl
+      go (Some f) = refl
+
+  accepted : (position front : ℕ) (outcome : Outcome) → IsAccepted (settled was history) ask position front outcome history' pending' → Goes (asked ask) old (Admitted position) new
+  accepted position front outcome told = go ask told.answer told.list
+    where
+      go : (a : Ask) → answer_to (settled was history) a ≡ verdict.Admit outcome → history' ≡ settled (asked a) (settled was history) → Goes (asked a) old (Admitted position) new
+      go (File f) is list = admits f refl (list ∙ ap (λ l. f ∷ l) same_settled) told.decided (ap Admitted (omega (arith, told.next, told.seen, ap length list)))
+      go (Quote school student year term) is list = absurd (let no : ⊥ = cc in no)
+      go (StandingAsked student year) is list = absurd (let no : ⊥ = cc in no)
+
+  still : (position : ℕ) → IsUnsettled history was position history' pending' → Goes (asked ask) old (Undecided position) new
+  still position told = go was refl told.some told.undecided
+    where
+      go : (o : Option Filing) → was ≡ o → IsSome o → pending' ≡ was → Goes (asked ask) old (Undecided position) new
+      go None is some same = absurd (let no : ⊥ = cc in no)
+      go (Some f) is some same = stays_pending f is told.list (same ∙ is) (ap Undecided (told.next ∙ ap (λ l. length l + 1) (sym told.list)))
+
+  left : (position : ℕ) → IsLeftUndecided (settled was history) ask position history' pending' → Goes (asked ask) old (Undecided position) new
+  left position told = go ask told.admitted told.undecided
+    where
+      go : (a : Ask) → IsTrue (is_admit (answer_to (settled was history) a)) → pending' ≡ asked a → Goes (asked a) old (Undecided position) new
+      go (File f) is same = leaves f refl (told.list ∙ same_settled) same (ap Undecided (told.next ∙ ap (λ l. length l + 1) (sym told.list)))
+      go (Quote school student year term) is same = absurd (let no : ⊥ = cc in no)
+      go (StandingAsked student year) is same = absurd (let no : ⊥ = cc in no)
+
+  pub goes : (reply : Reply) → Turns history was ask reply history' pending' → Goes (asked ask) old (says_of reply) new
+  goes (Accepted position front outcome) told = accepted position front outcome told
+  goes (Again position front outcome) told = settles (told.list ∙ same_settled) told.decided refl
+  goes (Refused refusal front) told = settles (told.list ∙ same_settled) told.decided refl
+  goes (Quoted cents front) told = settles (told.list ∙ same_settled) told.decided refl
+  goes (Standing row front) told = settles (told.list ∙ same_settled) told.decided refl
+  goes (DiskFault None) told = fails (told.list ∙ same_settled) told.decided refl
+  goes (DiskFault (Some position)) (inl told) = still position told
+  goes (DiskFault (Some position)) (inr told) = left position told
+  goes NoMemory told = stays told.list told.undecided refl
+
+-- a fault raised the disk's count
+pub rose : (reply : Reply) (before after : ℕ) → before ≤ after → (IsTrue (is_fault reply) → Rose before after) → RoseBy (faults_in (says_of reply)) before after
+rose (Accepted position front outcome) before after later cause = inl (omega (arith, later))
+rose (Again position front outcome) before after later cause = inl (omega (arith, later))
+rose (Refused refusal front) before after later cause = inl (omega (arith, later))
+rose (Quoted cents front) before after later cause = inl (omega (arith, later))
+rose (Standing row front) before after later cause = inl (omega (arith, later))
+rose (DiskFault None) before after later cause = one before after (cause refl)
+rose (DiskFault (Some position)) before after later cause = one before after (cause refl)
+rose NoMemory before after later cause = inl (omega (arith, later))

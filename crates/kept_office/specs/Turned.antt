@@ -1,0 +1,28 @@
+-- What a kept office is to a lock.
+use Rattle.std.specs.Prelude.{◌≡◌, ℕ, Bool, List, Option, Some, None}
+use Rattle.aid_filings.specs.declared.filing.Filing.{Filing}
+use Rattle.aid_filings.specs.declared.reply.Ask.{Ask}
+use Rattle.aid_filings.specs.declared.reply.Reply.{Reply}
+use Rattle.aid_filings.specs.declared.reply.Reply.TheVariants as reply
+use Rattle.kept_office.specs.Turns.{Turns}
+use Rattle.office_lock.specs.Turning.{Says, Admitted, Undecided, Failed, Nothing}
+use Rattle.office_lock.specs.declared.turned.Stand.{Stand}
+
+-- how it stands: its history, the filing that is undecided, the faults of its disk, and whether the disk is honest
+abbrev pub stand_of : List Filing → Option Filing → ℕ → Bool → Stand Filing
+stand_of history pending faults honest = record { list = history; pending = pending; faults = faults; fixed = honest }
+
+-- what a reply says to the lock
+abbrev pub says_of : Reply → Says
+says_of (reply.Accepted position front outcome) = Admitted position
+says_of (reply.Again position front outcome) = Nothing
+says_of (reply.Refused refusal front) = Nothing
+says_of (reply.Quoted cents front) = Nothing
+says_of (reply.Standing row front) = Nothing
+says_of (reply.DiskFault (Some position)) = Undecided position
+says_of (reply.DiskFault None) = Failed
+says_of reply.NoMemory = Nothing
+
+-- the reply is that of one turn of the office
+abbrev pub IsTurn : Stand Filing → Ask → Reply → Stand Filing → Type 0
+IsTurn old ask reply new = Turns old.list old.pending ask reply new.list new.pending

@@ -1,0 +1,29 @@
+// A kept office as a state that takes turns under a lock.
+use crate::KeptOffice;
+use aid_filings::{Ask, Filing, Reply};
+use disk_model::Disk;
+use office_lock::Turned;
+
+impl<D: Disk> Turned for KeptOffice<D> {
+    ghost use Rattle.kept_office.specs.Kept.{kept_disk, kept_history, kept_pending};
+    ghost use Rattle.kept_office.specs.Turned.{stand_of, says_of, IsTurn};
+    ghost use Rattle.kept_office.specs.Turns.{asked};
+
+    type Ask = Ask;
+
+    type Reply = Reply;
+
+    type Entry = Filing;
+
+    ghost stand = { λ k. stand_of (kept_history k) (kept_pending k) (D.faults (kept_disk k)) (D.tells (kept_disk k)).honest };
+
+    ghost own = { asked };
+
+    ghost says = { says_of };
+
+    ghost meets = { λ old ask reply new. IsTurn old ask reply new };
+
+    fn turn(&mut self, ask: Ask) -> Reply {
+        KeptOffice::turn(self, ask)
+    }
+}
