@@ -1,5 +1,5 @@
 -- What the rows of many desks come to that file at once.
-use Rattle.std.specs.Prelude.{◌≡◌, ◌≢◌, ◌⊎◌, ℕ, ◌+◌, List, [], ◌∷◌, ◌++◌, codes, decimal, get_or, length, reverse}
+use Rattle.std.specs.Prelude.{◌≡◌, ◌≢◌, ◌⊎◌, ℕ, ◌+◌, ◌<◌, List, [], ◌∷◌, ◌++◌, codes, decimal, get_or, length, reverse}
 use Rattle.aid_filings.specs.declared.filing.Filing.{Filing}
 use Rattle.disk_model.specs.Telling.{EachImage, EachMoment, Telling}
 use Rattle.headline.specs.Filed.{IsFault, Row}
@@ -9,28 +9,30 @@ use Rattle.office_lock.specs.Passes.{IsOlder}
 use Rattle.headline.specs.Written.{Files}
 
 -- Rows of a desk, the first of them with this number: each was answered on a history that goes on from the one that the desk had
--- seen, and that history with what the row adds is the older part of the closed one.
-pub data Replies (desk : ℕ) (closed : List Filing) : ℕ → List Row → List Filing → List ℕ → Type 0 where
-  none : (number : ℕ) (seen : List Filing) → Replies desk closed number [] seen []
-  more : (number : ℕ) (row : Row) (rows : List Row) (seen past after : List Filing) (line text : List ℕ) → IsOlder seen past → Answered past number row line after → IsOlder after closed
-      → Replies desk closed (number + 1) rows after text → Replies desk closed number (row ∷ rows) seen ((codes "desk " ++ decimal desk ++ codes " " ++ line) ++ text)
+-- seen, and that history with what the row adds is the older part of the closed one. `by` names one row for each filing, by how
+-- many stood before it: a row that adds one is that row.
+pub data Replies (by : ℕ → RowName) (desk : ℕ) (closed : List Filing) : ℕ → List Row → List Filing → List ℕ → Type 0 where
+  none : (number : ℕ) (seen : List Filing) → Replies by desk closed number [] seen []
+  more : (number : ℕ) (row : Row) (rows : List Row) (seen past after : List Filing) (line text : List ℕ) → IsOlder seen past → Answered past number row line after
+      → (length past < length after → by (length past) ≡ record { desk = desk; row = number }) → IsOlder after closed
+      → Replies by desk closed (number + 1) rows after text → Replies by desk closed number (row ∷ rows) seen ((codes "desk " ++ decimal desk ++ codes " " ++ line) ++ text)
 
 -- the lines of a desk: for each row, or for those in front of one at which it stopped by a fault; then the status isn't 0
-pub record DeskText (desk : ℕ) (rows : List Row) (past closed : List Filing) (status : ℕ) (text : List ℕ) : Type 0 where
+pub record DeskText (by : ℕ → RowName) (desk : ℕ) (rows : List Row) (past closed : List Filing) (status : ℕ) (text : List ℕ) : Type 0 where
   pub answered : List Row
   pub left : List Row
   pub whole : rows ≡ answered ++ left
   pub lines : List ℕ
   pub stop : List ℕ
   pub written : text ≡ lines ++ stop
-  pub replies : Replies desk closed 1 answered past lines
+  pub replies : Replies by desk closed 1 answered past lines
   pub stops : ((left ≡ []) × (stop ≡ [])) ⊎ ((status ≢ 0) × (line : List ℕ) × IsFault line [] × (stop ≡ codes "desk " ++ decimal desk ++ codes " " ++ decimal (length answered + 1) ++ codes " " ++ line))
 
 -- the lines of all desks, in desk order, the first of them with this number
-pub data DeskTexts (past closed : List Filing) (status : ℕ) : ℕ → List (List Row) → List ℕ → Type 0 where
-  none : (desk : ℕ) → DeskTexts past closed status desk [] []
-  more : (desk : ℕ) (rows : List Row) (inputs : List (List Row)) (text texts : List ℕ) → DeskText desk rows past closed status text → DeskTexts past closed status (desk + 1) inputs texts
-      → DeskTexts past closed status desk (rows ∷ inputs) (text ++ texts)
+pub data DeskTexts (by : ℕ → RowName) (past closed : List Filing) (status : ℕ) : ℕ → List (List Row) → List ℕ → Type 0 where
+  none : (desk : ℕ) → DeskTexts by past closed status desk [] []
+  more : (desk : ℕ) (rows : List Row) (inputs : List (List Row)) (text texts : List ℕ) → DeskText by desk rows past closed status text → DeskTexts by past closed status (desk + 1) inputs texts
+      → DeskTexts by past closed status desk (rows ∷ inputs) (text ++ texts)
 
 -- the row that a name is of: desks and rows are numbered from 1
 abbrev pub row_at : List (List Row) → RowName → Row
@@ -49,7 +51,7 @@ pub data Admitted (inputs : List (List Row)) (lines : List ℕ) : ℕ → List F
 -- image recovers it, or, where the status isn't 0, it and the filing of one row more. The text is cut short only where the status is 4.
 pub data RanAtOnce (inputs : List (List Row)) (past : List Filing) (old new : Telling) : List ℕ → ℕ → Type 0 where
   idle : (text cut : List ℕ) (status : ℕ) → IsFault text cut → (status ≢ 0) × (status ≢ 6) × (status ≢ 7) → EachMoment old new (λ file. Recovers file past) → RanAtOnce inputs past old new text status
-  filed : (added : List Filing) (lines admitted text cut : List ℕ) (status : ℕ) → DeskTexts past (added ++ past) status 1 inputs lines → Admitted inputs lines (length past) (reverse added) admitted
+  filed : (by : ℕ → RowName) (added : List Filing) (lines admitted text cut : List ℕ) (status : ℕ) → DeskTexts by past (added ++ past) status 1 inputs lines → Admitted inputs lines (length past) (reverse added) admitted
       → text ++ cut ≡ lines ++ admitted → (status ≢ 4 → cut ≡ []) → (status ≢ 6) × (status ≢ 7)
       → EachImage new (λ file. Recovers file (added ++ past) ⊎ ((status ≢ 0) × (f : Filing) × (by : RowName) × Files (row_at inputs by) f × Recovers file (f ∷ added ++ past)))
       → RanAtOnce inputs past old new text status

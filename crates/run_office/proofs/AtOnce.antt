@@ -46,6 +46,7 @@ use Rattle.run_office.specs.DesksDone.{HasNamed}
 use Rattle.run_office.specs.RanDesks.{AreRead, FilesAll, unopened, starved, worked, HasFiled, IsDeskOf, RanDesks, unasked, unread, read, View, input_at}
 use Rattle.run_office.specs.declared.desks.DeskInput.{DeskInput}
 use Rattle.run_office.proofs.Admitting.{IsOwn, admitted_lines, numbered_at, row_files, row_shown}
+use Rattle.run_office.proofs.ByPlace.{row_behind, rows_named}
 use Rattle.run_office.proofs.Filers.{in_one}
 use Rattle.run_office.proofs.Following.{entries_append, entries_older, length-entries}
 use Rattle.run_office.proofs.Named.{added_named, of_desk, seen_in_closed, undecided_at}
@@ -188,12 +189,17 @@ module _ {D S K : Type 0} (disk : Ghosts D) (source : SourceGhosts S) (sink : Si
     abbrev ShowStops : Type 0
     ShowStops = (k : ℕ) (d : View) (stop : DeskStop) → k < length before → (get_or ran.desks k d).ended ≡ Stopped stop → status ≢ 0
 
-    texts : ShowStops → DeskTexts list (added ++ list) status 1 rows (desks_text after)
+    -- the row that filed what was added behind so many
+    abbrev by : ℕ → RowName
+    by = row_behind (length start.list) ran.ran.added
+
+    texts : ShowStops → DeskTexts by list (added ++ list) status 1 rows (desks_text after)
     texts stopped =
-        subst (λ l. DeskTexts list l status 1 rows (desks_text after)) closed (subst (DeskTexts list history status 1 rows) (sym (text_shown after ran.desks ran.shown))
-        (all_desks start list history status (entries_filed list []) legal 1 rows before ran.desks (has_read.count ∙ sym (length-map inputs (λ (x : DeskInput S). rows_in (source.left x.input)))) ran.count
+        subst (λ l. DeskTexts by list l status 1 rows (desks_text after)) closed (subst (DeskTexts by list history status 1 rows) (sym (text_shown after ran.desks ran.shown))
+        (all_desks by start list history status (entries_filed list []) legal 1 rows before ran.desks (has_read.count ∙ sym (length-map inputs (λ (x : DeskInput S). rows_in (source.left x.input)))) ran.count
         ran.each (λ k d lt. subst (λ (n : ℕ). IsOf n (get_or rows k []) (get_or before k d)) (omega arith) (of k d lt))
         (λ k d lt. subst (IsOlder (entries_of (ran.each k d lt).known.seen)) (entries_filed history log) (entries_older (ran.each k d lt).known.seen end.list (seen_in_closed start end before after ran k d lt)))
+        (λ k d lt. rows_named start end before after ran k d lt (1 + k) ((of k d lt).numbered ∙ omega arith))
         stopped))
 
     -- the row that a desk's entry is named by files it
@@ -250,7 +256,7 @@ module _ {D S K : Type 0} (disk : Ghosts D) (source : SourceGhosts S) (sink : Si
       put.front,
       put.written,
       subst (λ (p : List Filing). RanAtOnce rows p (disk.tells old) (disk.tells new) put.front status) same
-          (filed added (desks_text after) (admitted_text (length list + 1) (reverse (rows_of ran.ran.added))) put.front put.cut status
+          (filed by added (desks_text after) (admitted_text (length list + 1) (reverse (rows_of ran.ran.added))) put.front put.cut status
           (texts stopped) lines put.whole put.all (
             other (desks_status after) status 6 put.shows (few_statuses after 6 (omega arith) (λ e. omega (arith, e)) (λ e. omega (arith, e))) (λ e. omega (arith, e)),
             other (desks_status after) status 7 put.shows (few_statuses after 7 (omega arith) (λ e. omega (arith, e)) (λ e. omega (arith, e))) (λ e. omega (arith, e)),

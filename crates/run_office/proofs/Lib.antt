@@ -1,5 +1,6 @@
 pub mod Admitting
 pub mod AtOnce
+pub mod ByPlace
 pub mod Closing
 pub mod Crew
 pub mod DeskCauses

@@ -17,6 +17,7 @@ use Rattle.kept_desks.specs.DeskTexts.{desk_text, stop_at, stop_text}
 use Rattle.kept_desks.specs.Desks.{all_shown, shown_of}
 use Rattle.kept_list.specs.Names.{entries_of}
 use Rattle.kept_list.specs.declared.names.Filed.{Filed}
+use Rattle.kept_list.specs.declared.names.RowName.{RowName}
 use Rattle.kept_desks.specs.declared.stop.DeskEnd.{DeskEnd}
 use Rattle.kept_desks.specs.declared.stop.DeskEnd.TheVariants.{Open, Done, Stopped}
 use Rattle.kept_desks.specs.declared.stop.DeskStop.{DeskStop}
@@ -30,6 +31,7 @@ use Rattle.office_lock.specs.Passes.{IsOlder}
 use Rattle.office_lock.specs.declared.turned.Stand.{Stand}
 use Rattle.run_office.specs.DeskTexts.{desk_prefix, desks_status, desks_text, had_disk_fault, had_no_memory, stop_line, stop_words}
 use Rattle.run_office.specs.RanDesks.{FilesOwn, View, left_of}
+use Rattle.run_office.proofs.ByPlace.{AreNamed}
 use Rattle.run_office.proofs.Following.{follows_older, older_refl, older_trans}
 
 -- a part of a legal history is legal
@@ -42,13 +44,13 @@ none_meant number [] is = refl
 none_meant number (row ∷ rows) is = absurd (let bad : ⊥ = cc in bad)
 
 -- rows in front were answered by these lines; none is left where what is left says nothing
-record Replied (desk : ℕ) (closed : List Filing) (number : ℕ) (rows : List Row) (seen : List Filing) (count : ℕ) (left : List desk_texts.Meaning) (lines : List ℕ) : Type 0 where
+record Replied (by : ℕ → RowName) (desk : ℕ) (closed : List Filing) (number : ℕ) (rows : List Row) (seen : List Filing) (count : ℕ) (left : List desk_texts.Meaning) (lines : List ℕ) : Type 0 where
   pub front : List Row
   pub behind : List Row
   pub whole : rows ≡ front ++ behind
   pub counted : length front ≡ count
   pub last : left ≡ [] → behind ≡ []
-  pub replies : Replies desk closed number front seen lines
+  pub replies : Replies by desk closed number front seen lines
 
 -- why a desk stopped, behind the row's number
 abbrev pub fault_of : DeskStop → List ℕ
@@ -71,11 +73,11 @@ stop_begins prefix row stop = ap (λ l. prefix ++ l) (words stop) ∙ (sym (appe
     words NoMemory = refl
 
 -- one row more, in front
-reply : (desk number : ℕ) (closed seen now : List Filing) (a : Answer Filing Ask RowError) (answers : List (Answer Filing Ask RowError)) (row : Row) (rows : List Row) (left : List desk_texts.Meaning)
-    → IsLegal closed → IsOlder now closed → Follows office_judging seen (a ∷ answers) now → said_by a.row ≡ asked (row_meaning number row)
-    → Replied desk closed (number + 1) rows (after_row office_judging a.past a.row) (length answers) left (answer_lines office_judging desk_texts (desk_prefix desk) (number + 1) answers)
-    → Replied desk closed number (row ∷ rows) seen (length (a ∷ answers)) left (answer_lines office_judging desk_texts (desk_prefix desk) number (a ∷ answers))
-reply desk number closed seen now a answers row rows left legal older follows means more = record {
+reply : (by : ℕ → RowName) (desk number : ℕ) (closed seen now : List Filing) (a : Answer Filing Ask RowError) (answers : List (Answer Filing Ask RowError)) (row : Row) (rows : List Row) (left : List desk_texts.Meaning)
+    → IsLegal closed → IsOlder now closed → Follows office_judging seen (a ∷ answers) now → AreNamed by desk number (a ∷ answers) → said_by a.row ≡ asked (row_meaning number row)
+    → Replied by desk closed (number + 1) rows (after_row office_judging a.past a.row) (length answers) left (answer_lines office_judging desk_texts (desk_prefix desk) (number + 1) answers)
+    → Replied by desk closed number (row ∷ rows) seen (length (a ∷ answers)) left (answer_lines office_judging desk_texts (desk_prefix desk) number (a ∷ answers))
+reply by desk number closed seen now a answers row rows left legal older follows named means more = record {
   front = row ∷ more.front;
   behind = more.behind;
   whole = ap (λ l. row ∷ l) more.whole;
@@ -83,7 +85,7 @@ reply desk number closed seen now a answers row rows left legal older follows me
   last = more.last;
   replies = many.more number row more.front seen a.past (after_row office_judging a.past a.row) (row_line office_judging desk_texts a.past number a.row)
       (answer_lines office_judging desk_texts (desk_prefix desk) (number + 1) answers) follows.0
-      (row_answered a.past number row a.row (legal_part a.past closed (older_trans a.past now closed before older) legal) means)
+      (row_answered a.past number row a.row (legal_part a.past closed (older_trans a.past now closed before older) legal) means) named.0
       (older_trans (after_row office_judging a.past a.row) now closed (follows_older office_judging (after_row office_judging a.past a.row) now answers follows.1) older) more.replies;
 }
   where
@@ -91,11 +93,11 @@ reply desk number closed seen now a answers row rows left legal older follows me
     before = follows_older office_judging a.past now (a ∷ answers) (older_refl a.past, follows.1)
 
 -- the answers of a desk are replies to its rows in front
-replied : (desk number : ℕ) (closed seen now : List Filing) (answers : List (Answer Filing Ask RowError)) (taken : List (Result Ask RowError)) (rest : List desk_texts.Meaning) (rows : List Row)
-    → IsLegal closed → IsOlder now closed → Follows office_judging seen answers now
+replied : (by : ℕ → RowName) (desk number : ℕ) (closed seen now : List Filing) (answers : List (Answer Filing Ask RowError)) (taken : List (Result Ask RowError)) (rest : List desk_texts.Meaning) (rows : List Row)
+    → IsLegal closed → IsOlder now closed → Follows office_judging seen answers now → AreNamed by desk number answers
     → map asked (meanings_from number rows) ≡ map said_by (map (λ (a : Answer Filing Ask RowError). a.row) answers ++ taken) ++ rest
-    → Replied desk closed number rows seen (length answers) (map said_by taken ++ rest) (answer_lines office_judging desk_texts (desk_prefix desk) number answers)
-replied desk number closed seen now [] taken rest rows legal older follows is = record {
+    → Replied by desk closed number rows seen (length answers) (map said_by taken ++ rest) (answer_lines office_judging desk_texts (desk_prefix desk) number answers)
+replied by desk number closed seen now [] taken rest rows legal older follows named is = record {
   front = [];
   behind = rows;
   whole = refl;
@@ -103,12 +105,12 @@ replied desk number closed seen now [] taken rest rows legal older follows is = 
   last = λ none. none_meant number rows (is ∙ none);
   replies = many.none number seen;
 }
-replied desk number closed seen now (a ∷ answers) taken rest [] legal older follows is = absurd (let bad : ⊥ = cc in bad)
-replied desk number closed seen now (a ∷ answers) taken rest (row ∷ rows) legal older follows is =
+replied by desk number closed seen now (a ∷ answers) taken rest [] legal older follows named is = absurd (let bad : ⊥ = cc in bad)
+replied by desk number closed seen now (a ∷ answers) taken rest (row ∷ rows) legal older follows named is =
     let means : said_by a.row ≡ asked (row_meaning number row) = cc in
     let others : map asked (meanings_from (suc number) rows) ≡ map said_by (map (λ (x : Answer Filing Ask RowError). x.row) answers ++ taken) ++ rest = cc in
-    reply desk number closed seen now a answers row rows (map said_by taken ++ rest) legal older follows means
-    (replied desk (number + 1) closed (after_row office_judging a.past a.row) now answers taken rest rows legal older follows.1
+    reply by desk number closed seen now a answers row rows (map said_by taken ++ rest) legal older follows named means
+    (replied by desk (number + 1) closed (after_row office_judging a.past a.row) now answers taken rest rows legal older follows.1 named.1
     (subst (λ (n : ℕ). map asked (meanings_from n rows) ≡ map said_by (map (λ (x : Answer Filing Ask RowError). x.row) answers ++ taken) ++ rest) (omega arith) others))
 
 -- the desk has this number, and files these rows
@@ -117,11 +119,11 @@ pub record IsOf (number : ℕ) (rows : List Row) (desk : View) : Type 0 where
   pub prefix : desk.prefix ≡ desk_prefix number
   pub rows_are : left_of desk.rows ≡ map asked (meanings_from 1 rows)
 
-module _ (opening : Stand (Filed Filing)) (past closed : List Filing) (status : ℕ) (opens : entries_of opening.list ≡ past) (legal : IsLegal closed) where
+module _ (by : ℕ → RowName) (opening : Stand (Filed Filing)) (past closed : List Filing) (status : ℕ) (opens : entries_of opening.list ≡ past) (legal : IsLegal closed) where
   -- what a desk writes
   one_desk : (number : ℕ) (rows : List Row) (before after : View) (own : FilesOwn opening before after) → IsOf number rows before → IsOlder (entries_of own.known.seen) closed
-      → ((stop : DeskStop) → after.ended ≡ Stopped stop → status ≢ 0) → DeskText number rows past closed status (desk_text (stop_line after.prefix) after)
-  one_desk number rows before after own of older stopped = record {
+      → AreNamed by number 1 own.files.answers → ((stop : DeskStop) → after.ended ≡ Stopped stop → status ≢ 0) → DeskText by number rows past closed status (desk_text (stop_line after.prefix) after)
+  one_desk number rows before after own of older named stopped = record {
     answered = replies.front;
     left = replies.behind;
     whole = replies.whole;
@@ -133,10 +135,10 @@ module _ (opening : Stand (Filed Filing)) (past closed : List Filing) (status : 
     stops = ends after.ended refl own.files.ends;
   }
     where
-      replies : Replied number closed 1 rows past (length own.files.answers) (map said_by own.files.taken ++ own.files.rest)
+      replies : Replied by number closed 1 rows past (length own.files.answers) (map said_by own.files.taken ++ own.files.rest)
           (answer_lines office_judging desk_texts (desk_prefix number) 1 own.files.answers)
-      replies = replied number 1 closed past (entries_of own.known.seen) own.files.answers own.files.taken own.files.rest rows legal older
-          (subst (λ l. Follows office_judging l own.files.answers (entries_of own.known.seen)) (ap (λ (s : Stand (Filed Filing)). entries_of s.list) own.opening_is ∙ opens) own.files.follows)
+      replies = replied by number 1 closed past (entries_of own.known.seen) own.files.answers own.files.taken own.files.rest rows legal older
+          (subst (λ l. Follows office_judging l own.files.answers (entries_of own.known.seen)) (ap (λ (s : Stand (Filed Filing)). entries_of s.list) own.opening_is ∙ opens) own.files.follows) named
           (sym of.rows_are ∙ own.files.split)
 
       stop_is : (stop : DeskStop) → stop_line after.prefix (record { desk = after.number; row = after.answered + 1 }) stop
@@ -156,18 +158,21 @@ module _ (opening : Stand (Filed Filing)) (past closed : List Filing) (status : 
       → (each : (k : ℕ) (d : View) → k < length before → FilesOwn opening (get_or before k d) (get_or desks k d))
       → ((k : ℕ) (d : View) → k < length before → IsOf (number + k) (get_or inputs k []) (get_or before k d))
       → ((k : ℕ) (d : View) (lt : k < length before) → IsOlder (entries_of (each k d lt).known.seen) closed)
-      → ((k : ℕ) (d : View) (stop : DeskStop) → k < length before → (get_or desks k d).ended ≡ Stopped stop → status ≢ 0) → DeskTexts past closed status number inputs (desks_text desks)
-  all_desks number [] [] [] one two each of older stopped = many.none number
-  all_desks number [] [] (d ∷ desks) one two each of older stopped = absurd (omega (arith, two))
-  all_desks number [] (b ∷ before) desks one two each of older stopped = absurd (omega (arith, one))
-  all_desks number (rows ∷ inputs) [] desks one two each of older stopped = absurd (omega (arith, one))
-  all_desks number (rows ∷ inputs) (b ∷ before) [] one two each of older stopped = absurd (omega (arith, two))
-  all_desks number (rows ∷ inputs) (b ∷ before) (d ∷ desks) one two each of older stopped =
+      → ((k : ℕ) (d : View) (lt : k < length before) → AreNamed by (number + k) 1 (each k d lt).files.answers)
+      → ((k : ℕ) (d : View) (stop : DeskStop) → k < length before → (get_or desks k d).ended ≡ Stopped stop → status ≢ 0) → DeskTexts by past closed status number inputs (desks_text desks)
+  all_desks number [] [] [] one two each of older named stopped = many.none number
+  all_desks number [] [] (d ∷ desks) one two each of older named stopped = absurd (omega (arith, two))
+  all_desks number [] (b ∷ before) desks one two each of older named stopped = absurd (omega (arith, one))
+  all_desks number (rows ∷ inputs) [] desks one two each of older named stopped = absurd (omega (arith, one))
+  all_desks number (rows ∷ inputs) (b ∷ before) [] one two each of older named stopped = absurd (omega (arith, two))
+  all_desks number (rows ∷ inputs) (b ∷ before) (d ∷ desks) one two each of older named stopped =
       many.more number rows inputs (desk_text (stop_line d.prefix) d) (desks_text desks)
-      (one_desk number rows b d (each 0 b (omega arith)) (subst (λ (n : ℕ). IsOf n rows b) (omega arith) (of 0 b (omega arith))) (older 0 b (omega arith)) (λ stop is. stopped 0 b stop (omega arith) is))
+      (one_desk number rows b d (each 0 b (omega arith)) (subst (λ (n : ℕ). IsOf n rows b) (omega arith) (of 0 b (omega arith))) (older 0 b (omega arith))
+      (subst (λ (n : ℕ). AreNamed by n 1 (each 0 b (omega arith)).files.answers) (omega arith) (named 0 b (omega arith))) (λ stop is. stopped 0 b stop (omega arith) is))
       (all_desks (number + 1) inputs before desks (omega (arith, one)) (omega (arith, two)) (λ k x lt. each (suc k) x (omega (arith, lt)))
       (λ k x lt. subst (λ (n : ℕ). IsOf n (get_or inputs k []) (get_or before k x)) (omega arith) (of (suc k) x (omega (arith, lt))))
-      (λ k x lt. older (suc k) x (omega (arith, lt))) (λ k x stop lt is. stopped (suc k) x stop (omega (arith, lt)) is))
+      (λ k x lt. older (suc k) x (omega (arith, lt)))
+      (λ k x lt. subst (λ (n : ℕ). AreNamed by n 1 (each (suc k) x (omega (arith, lt))).files.answers) (omega arith) (named (suc k) x (omega (arith, lt)))) (λ k x stop lt is. stopped (suc k) x stop (omega (arith, lt)) is))
 
 -- ---- what is shown of desks
 -- their texts are
