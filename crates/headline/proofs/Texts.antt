@@ -17,7 +17,7 @@ use Rattle.aid_types.specs.Programs.{rank}
 use Rattle.aid_types.specs.declared.number.Program.{Program as ProgramOf}
 use Rattle.aid_types.specs.declared.number.Program.TheVariants.{Unsub, Sub, Plus, Pell, Fseog, Teach}
 use Rattle.enrolment.proofs.DayLemmas.{dated_by_number, epoch_from_1900, same_number}
-use Rattle.enrolment.proofs.DayTextLaws.{IsDayReading-day_in}
+use Rattle.enrolment.proofs.DayTextLaws.{IsDayReading-day_in, one_text as one_day_text}
 use Rattle.enrolment.specs.CivilDays.{IsCivilDate, IsDay, days_from_1900, day_number as civil_number}
 use Rattle.enrolment.specs.DayText.{IsDayText, date_text, day_in}
 use Rattle.filing_kinds.specs.Kinds.{words_of_programs}
@@ -26,7 +26,7 @@ use Rattle.field_table.specs.declared.field.Form.TheVariants.{Cents, Day, Word}
 use Rattle.filing_numbers.specs.Numbers.{day_number}
 use Rattle.field_rows.specs.Fields.{number_in}
 use Rattle.headline.proofs.KeptBytes.{value}
-use Rattle.headline.specs.Written.{IsDateOf, Number, Spells, whole, ranged, money, day, word}
+use Rattle.headline.specs.Written.{IsDateOf, IsInRange, Number, Spells, whole, ranged, money, day, word}
 
 -- ---- the form in which a number is written
 abbrev pub has_form : Number → Form → Bool
@@ -122,6 +122,19 @@ day_spelled text d h =
 
 day_read : (text : List ℕ) (d : ℕ) → IsDay (day_number d) → IsDateOf d text → number_in words_of_programs Day text ≡ Ok (day_number d)
 day_read text d within h = ap (result_map_both day_number (λ e. e)) (((IsDayReading-day_in text).ok d).1 (text_of-date text d within h))
+
+-- a day has one text
+one_date : (one other : List ℕ) (d : ℕ) → d ≤ 2958463 → IsDateOf d one → IsDateOf d other → one ≡ other
+one_date one other d last first second =
+    let within : IsDay (day_number d) = (omega (arith, ints), omega (arith, ints, last)) in
+    one_day_text one other d (text_of-date one d within first) (text_of-date other d within second)
+
+pub one_spelling : (n : Number) (one other : List ℕ) → IsInRange n → Spells n one → Spells n other → one ≡ other
+one_spelling (whole width z) one other fits first second = first ∙ sym second
+one_spelling (ranged width low high n) one other fits first second = first ∙ sym second
+one_spelling (money cents) one other fits first second = first ∙ sym second
+one_spelling (day d) one other fits first second = one_date one other d fits first second
+one_spelling (word program) one other fits first second = first ∙ sym second
 
 -- ---- words
 place_of : (o : Option ℕ) (z : ℤ) → ok_or (option_map (λ place. pos place) o) Spelling ≡ Ok z → (n : ℕ) × (o ≡ Some n) × (pos n ≡ z)

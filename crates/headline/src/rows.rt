@@ -4,7 +4,7 @@ ghost use Rattle.aid_filings.specs.declared.filing.Filing.{Filing};
 ghost use Rattle.desk_forms.specs.Rows.{row_meaning};
 ghost use Rattle.field_rows.specs.declared.error.RowError.{RowError};
 ghost use Rattle.filing_numbers.specs.Numbers.{IsFiling, kind_of, numbers_of};
-ghost use Rattle.headline.specs.Written.{Files};
+ghost use Rattle.headline.specs.Written.{Files, IsInRange, Number, Spells};
 
 /// A row is read as a filing exactly where it files it: the name of its kind, and a text for each number.
 pub fn row_files()
@@ -19,6 +19,11 @@ pub fn row_files_once()
 /// The numbers of a row that is read fit their fields.
 pub fn meant_in_range()
     ensures { (number : ℕ) (row : List (List ℕ)) (f : Filing) → row_meaning number row ≡ Ok (kind_of f.what, numbers_of f) → IsFiling f }
+{}
+
+/// A number of a filing has one text: a day, which is written as year, month and day, as well as any other.
+pub fn spelled_once()
+    ensures { (n : Number) (one other : List ℕ) → IsInRange n → Spells n one → Spells n other → one ≡ other }
 {}
 
 /// A row that isn't read is told by its own number.
