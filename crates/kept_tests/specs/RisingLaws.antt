@@ -1,5 +1,5 @@
 -- What holds of numbers that rise as a docket.
-use Rattle.std.proofs.Common.{◌≡◌, ℕ, refl, subst, arith, Bool, true, false, IsTrue, List, [], ◌∷◌, ◌++◌, Some, None}
+use Rattle.std.proofs.Common.{◌≡◌, ◌≤◌, length, ℕ, refl, subst, arith, Bool, true, false, IsTrue, List, [], ◌∷◌, ◌++◌, Some, None}
 use Rattle.std.specs.Prelude.{⊤, if◌then◌else◌}
 use Rattle.filing_journal.specs.Stands.{IsPayload}
 use Rattle.kept_tests.specs.Rising.{is_next, next_of}
@@ -16,3 +16,7 @@ added_admitted past ask n is = go (is_next past ask) refl is
     go : (b : Bool) → is_next past ask ≡ b → (if b then Some ask else None) ≡ Some n → IsTrue (is_next past n)
     go true next same = let one : ask ≡ n = cc in subst (λ (m : ℕ). IsTrue (is_next past m)) one next
     go false next same = absurd (let bad : ⊥ = cc in bad)
+
+-- a stamp may stand before it
+pub short : (n : ℕ) → ⊤ → length (n ∷ []) ≤ 8155
+short n is = omega arith

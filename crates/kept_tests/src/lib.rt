@@ -1,5 +1,6 @@
 //! What a state has to bring to a lock, and an office of another kind to a kept list, a session, a round and desks: a list of
-//! numbers beside a device that may fail, in which several threads file, and numbers that rise. And offices in the middle of a turn.
+//! numbers beside a device that may fail, in which several threads file, and numbers that rise, plain and stamped. And offices
+//! in the middle of a turn.
 #![tactic(auto)]
 
 ghost use Rattle.kept_session.specs.Sessions.{Session};
@@ -17,6 +18,9 @@ mod rising;
 mod rounds;
 #[cfg(test)]
 mod sessions;
+pub mod stamped;
+#[cfg(test)]
+mod stamped_numbers;
 #[cfg(test)]
 mod threads;
 
