@@ -546,7 +546,7 @@ def minimum_percent(book, application):
 
 
 def is_at_ceiling(book, found):
-    """Whether an index is at or above the year's percent of the greatest award. HEA 401(b)(1)(D)."""
+    """Whether an index is at or above the year's percent of the greatest award. HEA 401(b)(1), since Public Law 119-21."""
     return book.ceiling > 0 and 100 * found >= book.ceiling * book.maximum
 
 
@@ -1010,7 +1010,7 @@ def not_whole_dollars(history, payment):
 
 
 def at_ceiling(history, payment):
-    """Pell for an index at or above the year's ceiling, of one who isn't barred as a graduate. HEA 401(b)(1)(D)."""
+    """Pell for an index at or above the year's ceiling, of one who isn't barred as a graduate. HEA 401(b)(1), since Public Law 119-21."""
     application, (_, book) = application_of(history, payment.student, payment.year), book_at(history, payment.year)
     if payment.program != PELL or application.graduate or application.bachelor:
         return None

@@ -16,7 +16,7 @@ pub fn award(book: &Book, application: &Application) -> u32
     decide(book, application, index(book, application).index).scheduled
 }
 
-/// The ceiling that decides on an application under a book (HEA 401(b)(1)(D)).
+/// The ceiling that decides on an application under a book (HEA 401(b)(1), since Public Law 119-21, section 83001).
 pub fn ceiling(book: &Book, application: &Application) -> Ceiling
     ensures { result ≡ ceiling_by book.now application.now }
 {

@@ -72,8 +72,8 @@ is_within income percent g = int_le (pos 100 *ℤ income) (percent *ℤ g)
 abbrev pub is_barred : Application → Bool
 is_barred a = a.graduate || a.bachelor
 
--- an index at or above the book's percent of the Maximum award, where the book has a ceiling (HEA 401(b)(1)(D), since
--- Public Law 119-21, section 83001)
+-- an index at or above the book's percent of the Maximum award, where the book has a ceiling (HEA 401(b)(1), since Public
+-- Law 119-21, section 83001)
 unfoldable pub is_at_ceiling : Book → ℤ → Bool
 is_at_ceiling book index = nat_lt 0 book.ceiling && int_le (pos book.ceiling *ℤ book.pell.maximum) (pos 100 *ℤ index)
 

@@ -73,7 +73,8 @@ pub fn decide(book: &Book, a: &Application, index: i32) -> Decision
     decide_under(formula_of(book, a), book, a, index)
 }
 
-/// The ceiling of the year where it decides on an application with this index (HEA 401(b)(1)(D)).
+/// The ceiling of the year where it decides on an application with this index (HEA 401(b)(1), since Public Law
+/// 119-21, section 83001).
 pub fn ceiling_for(book: &Book, a: &Application, index: i32) -> Ceiling
     requires { IsIndex index }
     ensures value { result ≡ ceiling_at book.now a.now index }
