@@ -15,7 +15,7 @@ use crate::figures::{
 use crate::tables::{ages, brackets, business};
 use aid_books::Book;
 use aid_types::Year;
-pub use text::{BOOK_TEXT, YEAR_LINES, YEAR_ROWS};
+pub use text::{BOOK_TEXT, NINE_LINES, NINE_ROWS, YEAR_LINES, YEAR_ROWS};
 
 /// The specimen book of award year 2025-26. Its figures are own, even where one looks published.
 #[tactic(auto, unfolding(crate::specs::Specimen::IsSpecimenBook))]

@@ -138,7 +138,19 @@ withdraw,120,8,5001,2025,2,2026-01-30,2026-02-05,100.00,0.00,0.00,0.00,0.00,0.00
 repay,120,9,5001,2025,2,pell,51.44\n\
 repay,120,10,5001,2025,2,pell,0.01\n";
 
-/// The lines that answer them.
+/// The first nine of them, up to the student's origination at the first school.
+pub const NINE_ROWS: &str = "\
+school,0,2,110,2,12\n\
+school,0,3,120,3,12\n\
+calendar,110,1,2025,1,0,2025-08-25,2025-12-12,1,2025-11-22,2025-11-30\n\
+calendar,110,2,2025,2,0,2026-01-12,2026-05-01,0\n\
+calendar,120,1,2025,1,0,2025-09-22,2025-12-05,0\n\
+calendar,120,2,2025,2,0,2026-01-05,2026-03-20,0\n\
+apply,110,3,5001,2025,1,2006,0,4,0,0,0,0,0,0,0,0,0,0,1,6000,0,0,0,0,0,0,0,0,0,6000,0,0,900,0,0,1,1,48,85000,0,0,0,0,0,0,0,0,5200,50000,35000,0,12000,20000,0\n\
+enrol,110,4,5001,2025,1,12\n\
+originate,110,5,5001,2025,24000\n";
+
+/// The lines that answer the year's rows.
 pub const YEAR_LINES: &str = "\
 1 1 accepted 2 noted\n\
 2 2 accepted 3 noted\n\
@@ -160,3 +172,15 @@ pub const YEAR_LINES: &str = "\
 18 16 accepted 17 returned 34.7 65.30 51.44 0.00\n\
 19 17 accepted 18 noted\n\
 20 18 refused 70 5145 5144\n";
+
+/// The first nine of them.
+pub const NINE_LINES: &str = "\
+1 1 accepted 2 noted\n\
+2 2 accepted 3 noted\n\
+3 3 accepted 4 noted\n\
+4 4 accepted 5 noted\n\
+5 5 accepted 6 noted\n\
+6 6 accepted 7 noted\n\
+7 7 accepted 8 index A 5104 calculated 2290\n\
+8 8 accepted 9 noted\n\
+9 9 accepted 10 noted\n";
