@@ -1,10 +1,10 @@
 // Commands on the rows of a first day, on files and texts that are none, and what each fault leaves.
-use crate::runs::{EMPTY, Run, assert_runs, disk, ran, ran_over};
+use crate::runs::assert_runs;
 use aid_edges::MemorySource;
 use kept_session::INPUT_LIMIT;
 use specimen::BOOK_TEXT;
-use std::alloc::{AllocError, Global};
 use std::test::Fail;
+use whole_runs::{BOTH, CUT, EMPTY, Run, disk, long_input, ran, ran_over};
 
 const FIRST: &str = "school,0,1,110,2,12\nprior,0,2,5001,550000\n";
 
@@ -12,11 +12,7 @@ const ACCEPTED: &str = "1 0 accepted 1 noted\n2 1 accepted 2 noted\n";
 
 const AGAIN: &str = "1 2 again 1 noted\n2 2 again 2 noted\n";
 
-// The file of the two first filings.
-pub(crate) const BOTH: &[u8] =
-    b"\x01AIDPELL1\x01\0\0\0\0\0\0\x01\x13\0\0\0\x02\0\0\0\0\x01\0\0\0\0\0\0\0\x6e\0\0\0\x02\x0c\x01\x19\0\0\0\x04\0\0\0\0\x02\0\0\0\0\0\0\0\x89\x13\0\0\0\0\0\0\x70\x64\x08\0\0";
-
-// The same with two bytes behind it, as a stop may leave them.
+// The file of the two first filings with two bytes behind it, as a stop may leave them.
 const TORN: &[u8] =
     b"\x01AIDPELL1\x01\0\0\0\0\0\0\x01\x13\0\0\0\x02\0\0\0\0\x01\0\0\0\0\0\0\0\x6e\0\0\0\x02\x0c\x01\x19\0\0\0\x04\0\0\0\0\x02\0\0\0\0\0\0\0\x89\x13\0\0\0\0\0\0\x70\x64\x08\0\0\x01\x05";
 
@@ -126,10 +122,6 @@ const NO_OFFICES: [(&[u8], Run); 10] = [
     (UNKNOWN, ("file", "", 7, "fault damaged 40\n")),
     (BOTH, ("found", "", 6, "fault office exists\n")),
 ];
-
-// The first 60 bytes of the file of two filings.
-pub(crate) const CUT: &[u8] =
-    b"\x01AIDPELL1\x01\0\0\0\0\0\0\x01\x13\0\0\0\x02\0\0\0\0\x01\0\0\0\0\0\0\0\x6e\0\0\0\x02\x0c\x01\x19\0\0\0\x04\0\0\0\0\x02\0\0\0\0\0\0\0\x89\x13";
 
 // The first filing once more in the place of the second, and a second filing of a kind that is none.
 const TWICE: &[u8] =
@@ -264,19 +256,11 @@ fn read_faults_end_a_run(rt: HostRuntime) -> Result<(), Fail> {
     Ok(())
 }
 
-// An input of one field.
-pub(crate) fn long_input(alloc: Global, length: usize) -> Result<Vec<u8>, AllocError> {
-    vec![in alloc; b'x'; length]
-}
-
 // One byte past the limit is too long.
 #[test]
 fn inputs_have_a_limit(rt: HostRuntime) -> Result<(), Fail> {
     let alloc = rt.alloc();
-    for (length, want, text) in [
-        (INPUT_LIMIT, 0, "1 error 1 1\n"),
-        (INPUT_LIMIT + 1, 8, "fault too long\n"),
-    ] {
+    for (length, want, text) in LENGTHS {
         let input = long_input(alloc, length)?;
         let disk = disk(alloc, EMPTY, &[], None)?;
         let (status, sink, after) = ran(alloc, "file", &input, disk, &[])?;
@@ -286,3 +270,9 @@ fn inputs_have_a_limit(rt: HostRuntime) -> Result<(), Fail> {
     }
     Ok(())
 }
+
+// How long an input is, the status, and the text.
+const LENGTHS: [(usize, u8, &str); 2] = [
+    (INPUT_LIMIT, 0, "1 error 1 1\n"),
+    (INPUT_LIMIT + 1, 8, "fault too long\n"),
+];

@@ -1,9 +1,9 @@
-// Sessions over one connection: what is written over any cutting of its bytes, what a fault leaves, that each answer is written
-// before more is read, and a session over a socket.
+// Sessions over one connection: what is written over any cutting of its bytes, the answers of a worked year, what a fault leaves,
+// that each answer is written before more is read, and a session over a socket.
 ghost use Rattle.std.specs.Prelude.{◌≡◌, ◌≤◌, None, IfSome};
 ghost use Rattle.aid_edges.specs.Faults.{Rose};
 
-use crate::runs::{EMPTY, assert_runs, disk};
+use crate::runs::{assert_runs, with_book, with_school};
 use aid_edges::Failed;
 use disk_model::MemoryDisk;
 use kept_desks::SharedList;
@@ -12,7 +12,8 @@ use kept_office::FiledOffice;
 use kept_web::serve_desk;
 use office_lock::Turns;
 use run_web::OfficeTexts;
-use std::alloc::Global;
+use specimen::{NINE_LINES, NINE_ROWS, YEAR_LINES, YEAR_ROWS};
+use std::alloc::{AllocError, Global};
 use std::io;
 use std::io::{Read, Write};
 use std::net::{Ipv4Addr, Shutdown, TcpListener, TcpStream};
@@ -22,6 +23,7 @@ use std::test::Fail;
 use std::thread::join;
 use web_desk::End;
 use web_edges::{Link, MemoryLink, SocketEdge};
+use whole_runs::disk;
 
 // A request that files a student's earlier use, and its answers where one filing stands and where it stands itself.
 pub(crate) const FILING: &str = "\
@@ -70,7 +72,7 @@ fn serve<L: Link, H: Wait>(rt: &H, alloc: Global, disk: MemoryDisk, link: &mut L
 }
 
 // Whatever the pieces are in which its bytes come, a connection's session ends so and writes this.
-pub(crate) fn assert_session(
+fn assert_session(
     rt: &(impl Abort + Wait),
     alloc: Global,
     image: &[u8],
@@ -90,16 +92,10 @@ pub(crate) fn assert_session(
 }
 
 // One text behind the other.
-fn joined(alloc: Global, one: &str, other: &str) -> Result<Vec<u8>, Fail> {
+fn joined(alloc: Global, one: &str, other: &str) -> Result<Vec<u8>, AllocError> {
     let mut bytes = one.as_bytes().to_vec(alloc)?;
     bytes.extend_from_slice(other.as_bytes())?;
     Ok(bytes)
-}
-
-// The file of an office in which one school stands.
-fn with_school(rt: &impl Abort, alloc: Global) -> Result<MemoryDisk, Fail> {
-    let row = ("file", "school,0,1,110,2,12\n", 0, "1 0 accepted 1 noted\n");
-    assert_runs(rt, alloc, EMPTY, &[row])
 }
 
 #[test]
@@ -116,16 +112,33 @@ fn requests_are_answered(rt: HostRuntime) -> Result<(), Fail> {
             text.as_bytes(),
         )?;
     }
-    // A filing twice on one connection.
+    Ok(())
+}
+
+#[test]
+fn a_filing_twice_on_one_connection(rt: HostRuntime) -> Result<(), Fail> {
+    let alloc = rt.alloc();
+    let school = with_school(&rt, alloc)?;
     let twice = joined(alloc, FILING, FILING)?;
     let answers = joined(alloc, CREATED, AGAIN)?;
-    assert_session(&rt, alloc, school.image(), &twice, End::Closed, &answers)?;
-    // The longest body, which is no filing.
-    let head = b"POST /desks/0/filings HTTP/1.1\r\nContent-Length: 65536\r\n\r\n";
-    let mut longest = head.to_vec(alloc)?;
-    longest.resize(head.len() + 65_536, b' ')?;
+    assert_session(&rt, alloc, school.image(), &twice, End::Closed, &answers)
+}
+
+#[test]
+fn the_longest_body_is_no_filing(rt: HostRuntime) -> Result<(), Fail> {
+    let alloc = rt.alloc();
+    let school = with_school(&rt, alloc)?;
+    let longest = longest(alloc)?;
     let text = NO_FILING.as_bytes();
     assert_session(&rt, alloc, school.image(), &longest, End::Closed, text)
+}
+
+// A request with the longest body.
+fn longest(alloc: Global) -> Result<Vec<u8>, AllocError> {
+    let head = b"POST /desks/0/filings HTTP/1.1\r\nContent-Length: 65536\r\n\r\n";
+    let mut bytes = head.to_vec(alloc)?;
+    bytes.resize(head.len() + 65_536, b' ')?;
+    Ok(bytes)
 }
 
 const NO_FILING: &str = "\
@@ -275,6 +288,48 @@ Connection: close\r\n\
 {\"error\":404}",
     ),
 ];
+
+#[test]
+fn a_worked_year_is_answered(rt: HostRuntime) -> Result<(), Fail> {
+    let alloc = rt.alloc();
+    let book = with_book(&rt, alloc)?;
+    for (rows, lines, request, text) in WORKED {
+        let filed = assert_runs(&rt, alloc, book.image(), &[("file", rows, 0, lines)])?;
+        assert_session(
+            &rt,
+            alloc,
+            filed.image(),
+            request.as_bytes(),
+            End::Closed,
+            text.as_bytes(),
+        )?;
+    }
+    Ok(())
+}
+
+// Rows of the worked year with their lines, and behind them a request and its answer: a quote behind the first nine rows, and the
+// student's standing behind all of them.
+const WORKED: [(&str, &str, &str, &str); 2] = [
+    (NINE_ROWS, NINE_LINES, QUOTE, QUOTED),
+    (YEAR_ROWS, YEAR_LINES, STANDING, STANDS),
+];
+
+const QUOTE: &str = "GET /desks/110/quote/5001/2025/1 HTTP/1.1\r\n\r\n";
+
+const QUOTED: &str = "\
+HTTP/1.1 200 OK\r\n\
+Content-Length: 45\r\n\
+Content-Type: application/json\r\n\r\n\
+{\"answer\":\"quoted\",\"cents\":114500,\"front\":10}";
+
+const STANDING: &str = "GET /standing/5001/2025 HTTP/1.1\r\n\r\n";
+
+const STANDS: &str = "\
+HTTP/1.1 200 OK\r\n\
+Content-Length: 136\r\n\
+Content-Type: application/json\r\n\r\n\
+{\"answer\":\"standing\",\"formula\":\"A\",\"front\":18,\"paid\":179126,\"sai\":5104,\"scheduled\":2290,\
+\"transaction\":1,\"used\":78221,\"way\":\"calculated\"}";
 
 // The calls that fail, of the disk and of a connection's reads and writes, how the session over two filings ends, and what is
 // written. The disk is opened by four calls, one makes the file longer, the record is written and synced by two more, and its gate
@@ -451,33 +506,49 @@ fn answers_come_before_the_next_read(rt: HostRuntime) -> Result<(), Fail> {
         End::Closed,
         BOTH_ANSWERS.as_bytes(),
     )?;
+    Ok(())
+}
+
+#[test]
+fn a_head_too_long_is_rejected_before_the_next_read(rt: HostRuntime) -> Result<(), Fail> {
+    let alloc = rt.alloc();
     let mut long = b"GET / HTTP/1.1\r\na: ".to_vec(alloc)?;
     long.resize(16_384, b'v')?;
-    let parts = [(long.len(), 0)];
-    let text = rejection(alloc, "431 Request Header Fields Too Large")?;
-    assert_answered(
+    assert_rejected(
         &rt,
         alloc,
-        school.image(),
         long.as_slice(),
+        "431 Request Header Fields Too Large",
+    )
+}
+
+#[test]
+fn heads_are_rejected_before_the_next_read(rt: HostRuntime) -> Result<(), Fail> {
+    for (head, line) in REJECTED {
+        assert_rejected(&rt, rt.alloc(), head.as_bytes(), line)?;
+    }
+    Ok(())
+}
+
+// A peer that sends a head is answered by this status and phrase before it sends more.
+fn assert_rejected(
+    rt: &(impl Abort + Wait),
+    alloc: Global,
+    head: &[u8],
+    line: &str,
+) -> Result<(), Fail> {
+    let school = with_school(rt, alloc)?;
+    let parts = [(head.len(), 0)];
+    let text = rejection(alloc, line)?;
+    assert_answered(
+        rt,
+        alloc,
+        school.image(),
+        head,
         &parts,
         End::Rejected,
         text.as_bytes(),
-    )?;
-    for (head, line) in REJECTED {
-        let parts = [(head.len(), 0)];
-        let text = rejection(alloc, line)?;
-        assert_answered(
-            &rt,
-            alloc,
-            school.image(),
-            head.as_bytes(),
-            &parts,
-            End::Rejected,
-            text.as_bytes(),
-        )?;
-    }
-    Ok(())
+    )
 }
 
 // The filing again, as the last request of its connection, cut in its head.
@@ -544,11 +615,11 @@ const REJECTED: [(&str, &str); 11] = [
 ];
 
 // The answer to a rejected head, by its status and phrase.
-fn rejection(alloc: Global, line: &str) -> Result<String, Fail> {
+fn rejection(alloc: Global, line: &str) -> Result<String, AllocError> {
     let (status, _) = line.split_once(' ').unwrap_or((line, ""));
-    Ok(format!(in alloc;
+    format!(in alloc;
         "HTTP/1.1 {line}\r\nContent-Length: 13\r\nContent-Type: application/json\r\nConnection: close\r\n\r\n{{\"error\":{status}}}"
-    )?)
+    )
 }
 
 // The peer files, reads the answer, files again, reads that answer, and shuts its side.

@@ -3,17 +3,18 @@ ghost use Rattle.std.specs.Prelude.{◌≡◌, ◌<◌, IfOk};
 ghost use Rattle.web_edges.specs.Ports.{IsUnused};
 
 use crate::connections::{AGAIN, CREATED, FILING};
-use crate::runs::{EMPTY, assert_runs, disk};
+use crate::runs::with_school;
 use aid_edges::{HoldGate, MemorySink};
 use disk_model::MemoryDisk;
 use kept_web::WebDesk;
 use run_web::{OfficeWebDesk, run_web};
-use std::alloc::Global;
+use std::alloc::{AllocError, Global};
 use std::process::Abort;
 use std::sync::Wait;
 use std::test::Fail;
 use std::thread::Threads;
 use web_edges::{GatedPort, MemoryLink, MemoryPort, Port};
+use whole_runs::{EMPTY, disk};
 
 // The filing of a student's earlier use under another number.
 const OTHER: &[u8] =
@@ -66,14 +67,8 @@ fn port_of_two(
 }
 
 // A founded file.
-fn founded(alloc: Global) -> Result<MemoryDisk, Fail> {
+fn founded(alloc: Global) -> Result<MemoryDisk, AllocError> {
     disk(alloc, EMPTY, &[], None)
-}
-
-// A file with one school.
-fn with_school(rt: &impl Abort, alloc: Global) -> Result<MemoryDisk, Fail> {
-    let row = ("file", "school,0,1,110,2,12\n", 0, "1 0 accepted 1 noted\n");
-    assert_runs(rt, alloc, EMPTY, &[row])
 }
 
 // The ports are served, so many connections each, which ends with this status and this text.

@@ -1,25 +1,16 @@
-// The worked year of two schools: its rows, reports and rounds, what is answered over a connection, and generated years.
-use crate::connections::assert_session;
+// The worked year of two schools: its rows, reports and rounds, and generated years.
 use crate::plain_file::PlainFile;
-use crate::runs::{EMPTY, Run, assert_runs, disk, ran, ran_over, with_book};
+use crate::runs::{assert_runs, with_book};
 use aid_edges::SteadySource;
-use specimen::{BOOK_TEXT, YEAR_LINES, YEAR_ROWS};
+use specimen::{BOOK_TEXT, NINE_LINES, NINE_ROWS, YEAR_LINES, YEAR_ROWS};
 use std::test::Fail;
-use web_desk::End;
+use whole_runs::{EMPTY, Run, disk, ran, ran_over};
 
 #[test]
 fn a_worked_year(rt: HostRuntime) -> Result<(), Fail> {
     let alloc = rt.alloc();
     let book = with_book(&rt, alloc)?;
-    let nine = assert_runs(&rt, alloc, book.image(), &FIRST_NINE)?;
-    assert_session(
-        &rt,
-        alloc,
-        nine.image(),
-        QUOTE.as_bytes(),
-        End::Closed,
-        QUOTED.as_bytes(),
-    )?;
+    assert_runs(&rt, alloc, book.image(), &FIRST_NINE)?;
     let year = assert_runs(
         &rt,
         alloc,
@@ -27,14 +18,6 @@ fn a_worked_year(rt: HostRuntime) -> Result<(), Fail> {
         &[("file", YEAR_ROWS, 0, YEAR_LINES)],
     )?;
     assert_runs(&rt, alloc, year.image(), &REPORTS)?;
-    assert_session(
-        &rt,
-        alloc,
-        year.image(),
-        STANDING.as_bytes(),
-        End::Closed,
-        STANDS.as_bytes(),
-    )?;
     for runs in ROUNDS {
         assert_runs(&rt, alloc, year.image(), runs)?;
     }
@@ -84,32 +67,9 @@ pay,110,6,5001,2025,1,pell,1145.00\n",
     ("quote 110 5001 2025 1", "", 0, "quote 0\n"),
 ];
 
-// The first nine rows, up to the student's origination at the first school.
+// The first nine rows, and a quote behind them.
 const FIRST_NINE: [Run; 2] = [
-    (
-        "file",
-        "\
-school,0,2,110,2,12\n\
-school,0,3,120,3,12\n\
-calendar,110,1,2025,1,0,2025-08-25,2025-12-12,1,2025-11-22,2025-11-30\n\
-calendar,110,2,2025,2,0,2026-01-12,2026-05-01,0\n\
-calendar,120,1,2025,1,0,2025-09-22,2025-12-05,0\n\
-calendar,120,2,2025,2,0,2026-01-05,2026-03-20,0\n\
-apply,110,3,5001,2025,1,2006,0,4,0,0,0,0,0,0,0,0,0,0,1,6000,0,0,0,0,0,0,0,0,0,6000,0,0,900,0,0,1,1,48,85000,0,0,0,0,0,0,0,0,5200,50000,35000,0,12000,20000,0\n\
-enrol,110,4,5001,2025,1,12\n\
-originate,110,5,5001,2025,24000\n",
-        0,
-        "\
-1 1 accepted 2 noted\n\
-2 2 accepted 3 noted\n\
-3 3 accepted 4 noted\n\
-4 4 accepted 5 noted\n\
-5 5 accepted 6 noted\n\
-6 6 accepted 7 noted\n\
-7 7 accepted 8 index A 5104 calculated 2290\n\
-8 8 accepted 9 noted\n\
-9 9 accepted 10 noted\n",
-    ),
+    ("file", NINE_ROWS, 0, NINE_LINES),
     ("quote 110 5001 2025 1", "", 0, "quote 1145\n"),
 ];
 
@@ -163,23 +123,6 @@ const AGAIN: &str = "\
 18 18 again 17 returned 34.7 65.30 51.44 0.00\n\
 19 18 again 18 noted\n\
 20 18 refused 70 5145 5144\n";
-
-const QUOTE: &str = "GET /desks/110/quote/5001/2025/1 HTTP/1.1\r\n\r\n";
-
-const QUOTED: &str = "\
-HTTP/1.1 200 OK\r\n\
-Content-Length: 45\r\n\
-Content-Type: application/json\r\n\r\n\
-{\"answer\":\"quoted\",\"cents\":114500,\"front\":10}";
-
-const STANDING: &str = "GET /standing/5001/2025 HTTP/1.1\r\n\r\n";
-
-const STANDS: &str = "\
-HTTP/1.1 200 OK\r\n\
-Content-Length: 136\r\n\
-Content-Type: application/json\r\n\r\n\
-{\"answer\":\"standing\",\"formula\":\"A\",\"front\":18,\"paid\":179126,\"sai\":5104,\"scheduled\":2290,\
-\"transaction\":1,\"used\":78221,\"way\":\"calculated\"}";
 
 // A fund whose amount runs out, and then is used up; one of each policy, on the year anew; and a policy that isn't there.
 const ROUNDS: [&[Run]; 4] = [

@@ -1,7 +1,8 @@
 // Offices of a few rows that were worked by hand: each file and quote, with the text that answers it.
-use crate::runs::{Run, assert_runs, with_book};
+use crate::runs::{assert_runs, with_book};
 use specimen::BOOK_TEXT as BOOK;
 use std::test::Fail;
+use whole_runs::Run;
 
 #[test]
 fn worked_offices(rt: HostRuntime) -> Result<(), Fail> {

@@ -1,16 +1,16 @@
 // What many desks do at once: two that pay one student, in either order, one that ends early, those that don't begin, and
 // those whose lines can't be written.
-use crate::commands::{BOTH, CUT, long_input};
-use crate::runs::{assert_runs, disk, with_book};
+use crate::runs::{assert_runs, with_book};
 use aid_edges::{FreeGate, HoldGate, MemorySink, MemorySource, SteadySource, read_to_limit};
 use disk_model::MemoryDisk;
 use kept_session::INPUT_LIMIT;
 use run_office::{DeskInput, run_desks};
-use std::alloc::Global;
+use std::alloc::{AllocError, Global};
 use std::process::Abort;
 use std::sync::Wait;
 use std::test::Fail;
 use std::thread::Threads;
+use whole_runs::{BOTH, CUT, Run, disk, long_input};
 
 // Two schools with two terms each, and a student at both with 550,000 lifetime units.
 const ROWS: &str = "\
@@ -72,16 +72,20 @@ fn assert_written<H: Threads + Wait + Abort + Sync>(
     failing: &[u64],
     ends: (u8, &[u8]),
 ) -> Result<MemoryDisk, Fail> {
-    let mut desks = Vec::new(alloc);
-    for row in rows {
-        let input = SteadySource::new(row.to_vec(alloc)?);
-        desks.push(DeskInput { input })?;
-    }
+    let mut desks = two_desks(alloc, rows)?;
     let mut sink = MemorySink::new(alloc, failing.to_vec(alloc)?);
     let (status, after) = run_desks(rt, alloc, &mut desks, disk, gate, &mut sink);
     assert_eq!(rt; status, ends.0);
     assert_eq!(rt; sink.text(), ends.1);
     Ok(after)
+}
+
+// Two desks with these rows.
+fn two_desks(alloc: Global, rows: [&[u8]; 2]) -> Result<Vec<DeskInput<SteadySource>>, AllocError> {
+    let [one, other] = rows;
+    let one = SteadySource::new(one.to_vec(alloc)?);
+    let other = SteadySource::new(other.to_vec(alloc)?);
+    Ok(vec![in alloc; DeskInput { input: one }, DeskInput { input: other }]?)
 }
 
 // The payments of 3,000 dollars that two schools file for the student, whose lifetime limit has room for one of them.
@@ -127,112 +131,146 @@ fn desk_2_pays_first(rt: HostRuntime) -> Result<(), Fail> {
 #[test]
 fn a_desk_ends_early(rt: HostRuntime) -> Result<(), Fail> {
     let alloc = rt.alloc();
-    let rows: [&[u8]; 2] = [
-        b"prior,0,7,5007,1\nprior,0,9,5009,1\n",
-        b"prior,0,8,5008,1\n",
-    ];
-    // The file is made longer by a call, the record is written and synced by two more, and its gate by another two.
-    let cases: [(&[u64], &[u8]); 4] = [
-        (
-            &[5],
-            b"desk 1 1 fault disk none\ndesk 2 1 2 accepted 3 noted\nadmitted 3 2 1\n",
-        ),
-        (
-            &[5, 10],
-            b"desk 1 1 fault disk none\ndesk 2 1 2 accepted 3 noted\nadmitted 3 2 1\n",
-        ),
-        (
-            &[6],
-            b"desk 1 1 fault disk none\ndesk 2 1 2 accepted 3 noted\nadmitted 3 2 1\n",
-        ),
-        (
-            &[8],
-            b"desk 1 1 fault disk 3\ndesk 2 1 3 accepted 4 noted\nadmitted 3 1 1\nadmitted 4 2 1\n",
-        ),
-    ];
-    for (calls, text) in cases {
+    for (calls, text) in DISK_FAULTS {
         let gate = HoldGate::new(2, 1, 1_000_000);
         let disk = disk(alloc, BOTH, calls, None)?;
-        assert_filed(&rt, alloc, disk, &gate, rows, (5, text))?;
+        assert_filed(&rt, alloc, disk, &gate, TWO_AND_ONE, (5, text))?;
     }
     Ok(())
 }
+
+const TWO_AND_ONE: [&[u8]; 2] = [
+    b"prior,0,7,5007,1\nprior,0,9,5009,1\n",
+    b"prior,0,8,5008,1\n",
+];
+
+// The calls of the disk that fail, and the text. The file is made longer by a call, the record is written and synced by two more,
+// and its gate by another two.
+const DISK_FAULTS: [(&[u64], &[u8]); 4] = [
+    (
+        &[5],
+        b"desk 1 1 fault disk none\ndesk 2 1 2 accepted 3 noted\nadmitted 3 2 1\n",
+    ),
+    (
+        &[5, 10],
+        b"desk 1 1 fault disk none\ndesk 2 1 2 accepted 3 noted\nadmitted 3 2 1\n",
+    ),
+    (
+        &[6],
+        b"desk 1 1 fault disk none\ndesk 2 1 2 accepted 3 noted\nadmitted 3 2 1\n",
+    ),
+    (
+        &[8],
+        b"desk 1 1 fault disk 3\ndesk 2 1 3 accepted 4 noted\nadmitted 3 1 1\nadmitted 4 2 1\n",
+    ),
+];
 
 // The text ends where a write fails, in the lines of the desks or in those behind them. What they filed stands as one
 // session leaves it, and the file may be longer.
 #[test]
 fn all_have_filed_when_a_write_fails(rt: HostRuntime) -> Result<(), Fail> {
     let alloc = rt.alloc();
-    let rows: [&[u8]; 2] = [b"prior,0,7,5007,1\n", b"prior,0,8,5008,1\n"];
-    let session = (
-        "file",
-        "prior,0,7,5007,1\nprior,0,8,5008,1\n",
-        0,
-        "1 2 accepted 3 noted\n2 3 accepted 4 noted\n",
-    );
-    let filed = assert_runs(&rt, alloc, BOTH, &[session])?;
-    let cases: [(u64, u8, &[u8]); 4] = [
-        (2, 4, b"desk 1 1 2 accepted 3 noted\n"),
-        (
-            3,
-            4,
-            b"desk 1 1 2 accepted 3 noted\ndesk 2 1 3 accepted 4 noted\n",
-        ),
-        (
-            4,
-            4,
-            b"desk 1 1 2 accepted 3 noted\ndesk 2 1 3 accepted 4 noted\nadmitted 3 1 1\n",
-        ),
-        (
-            5,
-            0,
-            b"desk 1 1 2 accepted 3 noted\ndesk 2 1 3 accepted 4 noted\nadmitted 3 1 1\nadmitted 4 2 1\n",
-        ),
-    ];
-    for (call, status, text) in cases {
+    let filed = assert_runs(&rt, alloc, BOTH, &ONE_SESSION)?;
+    for (call, status, text) in WRITE_FAULTS {
         let gate = HoldGate::new(2, 1, 1_000_000);
         let disk = disk(alloc, BOTH, &[], None)?;
-        let after = assert_written(&rt, alloc, disk, &gate, rows, &[call], (status, text))?;
+        let ends = (status, text);
+        let after = assert_written(&rt, alloc, disk, &gate, ONE_AND_ONE, &[call], ends)?;
         assert!(rt; after.image().starts_with(filed.image()), "call {call}");
     }
     Ok(())
 }
 
+const ONE_AND_ONE: [&[u8]; 2] = [b"prior,0,7,5007,1\n", b"prior,0,8,5008,1\n"];
+
+// The same rows in one session.
+const ONE_SESSION: [Run; 1] = [(
+    "file",
+    "prior,0,7,5007,1\nprior,0,8,5008,1\n",
+    0,
+    "1 2 accepted 3 noted\n2 3 accepted 4 noted\n",
+)];
+
+// The call of the sink that fails, the status, and the text.
+const WRITE_FAULTS: [(u64, u8, &[u8]); 4] = [
+    (2, 4, b"desk 1 1 2 accepted 3 noted\n"),
+    (
+        3,
+        4,
+        b"desk 1 1 2 accepted 3 noted\ndesk 2 1 3 accepted 4 noted\n",
+    ),
+    (
+        4,
+        4,
+        b"desk 1 1 2 accepted 3 noted\ndesk 2 1 3 accepted 4 noted\nadmitted 3 1 1\n",
+    ),
+    (
+        5,
+        0,
+        b"desk 1 1 2 accepted 3 noted\ndesk 2 1 3 accepted 4 noted\nadmitted 3 1 1\nadmitted 4 2 1\n",
+    ),
+];
+
 // No input is read behind one that fails, or that is too long.
 #[test]
 fn an_input_stops_those_behind_it(rt: HostRuntime) -> Result<(), Fail> {
     let alloc = rt.alloc();
-    for (length, failing, want, text) in [
-        (20, 1, 3, "fault read\n"),
-        (INPUT_LIMIT + 1, 0, 8, "fault too long\n"),
-    ] {
-        let bad = MemorySource::new(long_input(alloc, length)?, vec![in alloc; failing; 1]?);
-        let mut desks = Vec::new(alloc);
-        desks.push(DeskInput {
-            input: good_input(alloc)?,
-        })?;
-        desks.push(DeskInput { input: bad })?;
-        desks.push(DeskInput {
-            input: good_input(alloc)?,
-        })?;
-        let mut sink = MemorySink::new(alloc, Vec::new(alloc));
-        let disk = disk(alloc, BOTH, &[], None)?;
-        let (status, after) = run_desks(&rt, alloc, &mut desks, disk, &FreeGate, &mut sink);
-        assert_eq!(rt; status, want, "{text}");
-        assert_eq!(rt; sink.text(), text.as_bytes());
-        assert_eq!(rt; after.image(), BOTH, "{text}");
-        for (place, rest) in [(0, b"".as_slice()), (2, GOOD)] {
-            let left = read_to_limit(alloc, &mut desks[place].input, INPUT_LIMIT)?;
-            assert_eq!(rt; left.as_slice(), rest, "{text}: {place}");
-        }
-    }
+    let failing = MemorySource::new(long_input(alloc, 20)?, vec![in alloc; 1]?);
+    assert_stopped(&rt, alloc, failing, 3, "fault read\n")?;
+    let long = MemorySource::new(long_input(alloc, INPUT_LIMIT + 1)?, Vec::new(alloc));
+    assert_stopped(&rt, alloc, long, 8, "fault too long\n")
+}
+
+// Three desks, the second of which has an input that stops them, end so: the first input was read whole, the third not at all.
+fn assert_stopped<H: Threads + Wait + Abort + Sync>(
+    rt: &H,
+    alloc: Global,
+    bad: MemorySource,
+    want: u8,
+    text: &str,
+) -> Result<(), Fail> {
+    let mut desks = three_desks(alloc, bad)?;
+    let mut sink = MemorySink::new(alloc, Vec::new(alloc));
+    let disk = disk(alloc, BOTH, &[], None)?;
+    let (status, after) = run_desks(rt, alloc, &mut desks, disk, &FreeGate, &mut sink);
+    assert_eq!(rt; status, want, "{text}");
+    assert_eq!(rt; sink.text(), text.as_bytes());
+    assert_eq!(rt; after.image(), BOTH, "{text}");
+    assert_left(rt, alloc, desks.as_mut_slice(), 0, b"")?;
+    assert_left(rt, alloc, desks.as_mut_slice(), 2, GOOD)
+}
+
+// What wasn't read of the input of the desk at this place.
+fn assert_left(
+    rt: &impl Abort,
+    alloc: Global,
+    desks: &mut [DeskInput<MemorySource>],
+    place: usize,
+    rest: &[u8],
+) -> Result<(), Fail> {
+    let Some(desk) = desks.get_mut(place) else {
+        return Err(Fail::new("no such desk"));
+    };
+    let left = read_to_limit(alloc, &mut desk.input, INPUT_LIMIT)?;
+    assert_eq!(rt; left.as_slice(), rest, "desk at {place}");
     Ok(())
+}
+
+// A desk with this input between two with a good one.
+fn three_desks(
+    alloc: Global,
+    between: MemorySource,
+) -> Result<Vec<DeskInput<MemorySource>>, AllocError> {
+    let first = good_desk(alloc)?;
+    let third = good_desk(alloc)?;
+    Ok(vec![in alloc; first, DeskInput { input: between }, third]?)
 }
 
 const GOOD: &[u8] = b"prior,0,2,5001,550000\n";
 
-fn good_input(alloc: Global) -> Result<MemorySource, Fail> {
-    Ok(MemorySource::new(GOOD.to_vec(alloc)?, Vec::new(alloc)))
+fn good_desk(alloc: Global) -> Result<DeskInput<MemorySource>, AllocError> {
+    let input = MemorySource::new(GOOD.to_vec(alloc)?, Vec::new(alloc));
+    Ok(DeskInput { input })
 }
 
 #[test]
@@ -263,15 +301,7 @@ fn assert_unfiled<H: Threads + Wait + Abort + Sync>(
     row: Unfiled,
 ) -> Result<(), Fail> {
     let (count, unread, image, failing, want, text) = row;
-    let mut desks = Vec::new(alloc);
-    for number in 1..=count {
-        let mut calls = Vec::new(alloc);
-        if number == unread {
-            calls.push(1)?;
-        }
-        let input = MemorySource::new(b"prior,0,2,5001,550000\n".to_vec(alloc)?, calls);
-        desks.push(DeskInput { input })?;
-    }
+    let mut desks = desks_of(alloc, count, unread)?;
     let mut sink = MemorySink::new(alloc, failing.to_vec(alloc)?);
     let disk = disk(alloc, image, &[], None)?;
     let (status, after) = run_desks(rt, alloc, &mut desks, disk, &FreeGate, &mut sink);
@@ -279,4 +309,28 @@ fn assert_unfiled<H: Threads + Wait + Abort + Sync>(
     assert_eq!(rt; sink.text(), text.as_bytes(), "{count} desks");
     assert_eq!(rt; after.image(), image, "{count} desks");
     Ok(())
+}
+
+// So many desks, of which the one with this number can't be read.
+fn desks_of(
+    alloc: Global,
+    count: u32,
+    unread: u32,
+) -> Result<Vec<DeskInput<MemorySource>>, AllocError> {
+    let mut desks = Vec::new(alloc);
+    for number in 1..=count {
+        let desk = if number == unread {
+            bad_desk(alloc)?
+        } else {
+            good_desk(alloc)?
+        };
+        desks.push(desk)?;
+    }
+    Ok(desks)
+}
+
+// A desk whose input fails at the first call.
+fn bad_desk(alloc: Global) -> Result<DeskInput<MemorySource>, AllocError> {
+    let input = MemorySource::new(GOOD.to_vec(alloc)?, vec![in alloc; 1]?);
+    Ok(DeskInput { input })
 }

@@ -1,0 +1,40 @@
+// Runs one after another over a file in memory.
+use disk_model::MemoryDisk;
+use specimen::BOOK_TEXT;
+use std::alloc::Global;
+use std::process::Abort;
+use std::test::Fail;
+use whole_runs::{EMPTY, Run, disk, ran};
+
+// Each run goes on with the file of the one before it, and ends so.
+pub(crate) fn assert_runs(
+    rt: &impl Abort,
+    alloc: Global,
+    image: &[u8],
+    runs: &[Run],
+) -> Result<MemoryDisk, Fail> {
+    let mut kept = disk(alloc, image, &[], None)?;
+    for &(line, input, want, text) in runs {
+        let (status, sink, next) = ran(alloc, line, input.as_bytes(), kept, &[])?;
+        assert_eq!(rt; sink.text(), text.as_bytes(), "{line}: {input}");
+        assert_eq!(rt; status, want, "{line}");
+        kept = next;
+    }
+    Ok(kept)
+}
+
+// An office in which the specimen book stands.
+pub(crate) fn with_book(rt: &impl Abort, alloc: Global) -> Result<MemoryDisk, Fail> {
+    assert_runs(
+        rt,
+        alloc,
+        EMPTY,
+        &[("book 1", BOOK_TEXT, 0, "1 0 accepted 1 noted\n")],
+    )
+}
+
+// An office in which one school stands.
+pub(crate) fn with_school(rt: &impl Abort, alloc: Global) -> Result<MemoryDisk, Fail> {
+    let row = ("file", "school,0,1,110,2,12\n", 0, "1 0 accepted 1 noted\n");
+    assert_runs(rt, alloc, EMPTY, &[row])
+}
