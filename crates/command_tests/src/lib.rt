@@ -8,6 +8,8 @@ mod offices;
 #[cfg(test)]
 mod plain_file;
 #[cfg(test)]
+mod policies;
+#[cfg(test)]
 mod runs;
 #[cfg(test)]
 mod year;
