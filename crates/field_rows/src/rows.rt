@@ -1,7 +1,7 @@
 // The rows of a text.
 ghost use Rattle.std.specs.Prelude.{◌≡◌, ◌≢◌, ◌≤◌, ◌+◌, [], ◌∷◌, true, IfOk, MatchOption, OnErr, length};
 ghost use Rattle.csv.specs.Reading.{stops_reader};
-ghost use Rattle.field_rows.specs.Left.{line_ends};
+ghost use Rattle.field_rows.specs.Left.{ended_lines, ends_line};
 ghost use Rattle.field_rows.specs.Meanings.{meanings, said_of};
 
 use crate::error::RowError;
@@ -54,7 +54,7 @@ impl<M: RowForm> TextRows<M> {
         requires { length text.items ≤ 16777216 }
         ensures { result ≡ meanings M.meaning text.items }
     {
-        let at_most = line_ends_in(&text) + 1;
+        let at_most = ended_lines_in(&text) + 1;
         let reader = ReaderBuilder::new()
             .has_headers(false)
             .flexible(true)
@@ -70,7 +70,8 @@ impl<M: RowForm> TextRows<M> {
         }
     }
 
-    /// At most so many rows are left: one more than the text has line feeds and carriage returns. It does not fall as rows
+    /// At most so many rows are left: one more than the text has lines that something stands in and that have an end. A
+    /// line feed or carriage return in quotes ends one too, empty lines count for nothing, and it does not fall as rows
     /// are taken.
     pub fn at_most(&self) -> u32
         ensures bound { length self.now ≤ result }
@@ -118,15 +119,28 @@ impl<M: RowForm> TextRows<M> {
     }
 }
 
-// How many bytes of a text end a line.
-fn line_ends_in(text: &[u8]) -> u32
+// How many lines of a text have an end, the empty ones left out: a byte ends one where the byte before it ends none.
+fn ended_lines_in(text: &[u8]) -> u32
     requires { length text.now ≤ 16777216 }
-    ensures ends { result ≡ line_ends text.now }
+    ensures ends { result ≡ ended_lines text.now }
     ensures few { result ≤ 16777216 }
 {
-    text.iter()
-        .filter(|byte| **byte == b'\r' || **byte == b'\n')
-        .count() as u32
+    let mut lines = 0;
+    let mut before = b'\n';
+    for byte in text {
+        if ends_line(*byte) && !ends_line(before) {
+            lines += 1;
+        }
+        before = *byte;
+    }
+    lines
+}
+
+// Whether a byte ends a line.
+fn ends_line(byte: u8) -> bool
+    ensures { result ≡ ends_line byte }
+{
+    byte == b'\r' || byte == b'\n'
 }
 
 // The fault of an error.

@@ -1,6 +1,6 @@
 //! What the law's worksheets say that nothing prints: the lines of need analysis and the edges of the book's tables, the decision on
-//! an index, the worksheet of a withdrawal, rounds of awards, lifetime totals, and tables of rows by key. Expected figures are worked
-//! by hand from the specimen book. This library has tests alone.
+//! an index, the worksheet of a withdrawal, rounds of awards, lifetime totals, tables of rows by key, and the room for a text's rows.
+//! Expected figures are worked by hand from the specimen book. This library has tests alone.
 #![tactic(auto)]
 
 #[cfg(test)]
@@ -13,6 +13,8 @@ mod households;
 mod rounds;
 #[cfg(test)]
 mod rows;
+#[cfg(test)]
+mod texts;
 #[cfg(test)]
 mod totals;
 #[cfg(test)]

@@ -1,7 +1,7 @@
 use Rattle.std.proofs.Common.{◌≡◌, Some, inr, ap, ◌∙◌, arith}
 use Rattle.std.specs.Io.Cursor.{cursor_remaining}
 use Rattle.csv.specs.Reading.{source_of, strip_bom}
-use Rattle.field_rows.specs.Left.{line_ends}
+use Rattle.field_rows.specs.Left.{ended_lines}
 use Rattle.field_rows.proofs.ReadingLemmas.{rows_few}
 use Rattle.field_rows.proofs.rows.TextRows.new.Goals as goal
 
@@ -12,7 +12,7 @@ invariant_of-result g c =
     let f = c.has_headers.ensures in
     let text = c.args.text.items in
     let known : source_of (cursor_remaining (λ v. Some v.items)) c.from_reader-reader.result ≡ Some (strip_bom text) = rw (c.new-2.ensures.inner, c.new-2.ensures.position) at fr.source in
-    let ends : c.line_ends_in-at_most.result ≡ line_ends text = c.line_ends_in-at_most.ensures.ends ∙ ap line_ends c.deref.ensures.value in (
+    let ends : c.ended_lines_in-at_most.result ≡ ended_lines text = c.ended_lines_in-at_most.ensures.ends ∙ ap ended_lines c.deref.ensures.value in (
       (λ before. record {
         bytes = strip_bom text;
         known = known;
@@ -24,6 +24,6 @@ invariant_of-result g c =
       record {
         first = omega arith;
         few = rw (known, fr.state) (omega (arith, rows_few text, ends));
-        bound = omega (arith, c.line_ends_in-at_most.ensures.few);
+        bound = omega (arith, c.ended_lines_in-at_most.ensures.few);
       },
     )

@@ -1,8 +1,12 @@
-use Rattle.std.proofs.Common.{arith, ap, length, ◌||◌, ◌==◌}
+use Rattle.std.proofs.Common.{arith, ap, length, drop}
 use Rattle.std.proofs.lemmas.List.{length-map}
 use Rattle.std.proofs.lemmas.List.Sums.{count_by-le-length}
+use Rattle.std.proofs.lemmas.Slice.Zip.{length-zip}
+use Rattle.std.proofs.Math.Nat.{min-le_left}
+use Rattle.std.specs.List.{zip}
 use Rattle.csv.specs.Reading.{default_config, records, strip_bom}
 use Rattle.field_rows.proofs.ReadingLemmas.{meanings_from-length, rows_few}
+use Rattle.field_rows.specs.Left.{ends_a_line}
 use Rattle.desk_forms.specs.Rows.{row_meaning}
 use Rattle.run_rows.specs.Asks.{asked}
 use Rattle.run_rows.proofs.desk.DeskFormsForms.read.Goals as goal
@@ -17,5 +21,7 @@ returns-clause-few g c =
       ap length c.new.ensures,
       meanings_from-length row_meaning 1 (records default_config (strip_bom text)),
       rows_few text,
-      count_by-le-length (λ c. (c == 13) || (c == 10)) text,
+      count_by-le-length ends_a_line (zip text (drop 1 text)),
+      length-zip text (drop 1 text),
+      min-le_left (length text) (length (drop 1 text)),
     )
