@@ -41,3 +41,4 @@ pub mod InForce
 pub mod NoCredits
 pub mod Own
 pub mod Sixes
+pub mod Applications

@@ -1,5 +1,6 @@
 pub mod Places
 pub mod Past
+pub mod Applications
 pub mod Award
 pub mod Net
 pub mod Sheets

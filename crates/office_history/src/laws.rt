@@ -1,13 +1,16 @@
 //! Laws of histories, each as the contract of a function that computes nothing. A slice has the oldest filing first.
 ghost use Rattle.std.specs.List.{AllPairs};
-ghost use Rattle.std.specs.Prelude.{◌≡◌, ◌≢◌, ◌↔◌, ◌+◌, ◌≤◌, ◌++◌, ◌∷◌, ℕ, true, None, IsTrue, reverse, length, take, Some, slice_get};
+ghost use Rattle.std.specs.Prelude.{◌≡◌, ◌≢◌, ◌↔◌, ◌+◌, ◌<◌, ◌≤◌, ◌++◌, ◌∷◌, ℕ, true, None, IfSome, IsSome, IsTrue, reverse, length, take, Some, slice_get};
+ghost use Rattle.aid_types.specs.declared.application.Application.{Application};
 ghost use Rattle.aid_filings.specs.declared.filing.Filing.{Filing};
 ghost use Rattle.aid_filings.specs.declared.filing.WithdrawFacts.{WithdrawFacts};
 ghost use Rattle.aid_filings.specs.declared.filing.What.TheVariants.{Withdraw};
 ghost use Rattle.aid_filings.specs.declared.reply.Verdict.TheVariants.{Again, Admit};
-ghost use Rattle.office_history.specs.Past.{key_at, same_filing};
+ghost use Rattle.office_history.specs.Applications.{IsFiledApplication, IsInForce};
+ghost use Rattle.office_history.specs.Past.{application, cost, key_at, same_filing};
+ghost use Rattle.office_history.specs.Positions.{cost_at};
 ghost use Rattle.office_history.specs.Sheets.{CanBeWorkedOut};
-ghost use Rattle.office_history.specs.Answer.{breaks, outcome_of, outcome_at, answer_of, is_admit, IsLegal};
+ghost use Rattle.office_history.specs.Answer.{breaks, outcome_of, outcome_at, answer_of, is_admit, standing_of, IsLegal};
 ghost use Rattle.office_history.specs.Within.{IsWithinEveryLimit};
 
 use aid_filings::Filing;
@@ -102,4 +105,24 @@ pub fn older_outcome(history: &[Filing], later: &[Filing])
 {
     let _ = history;
     let _ = later;
+}
+
+/// The application in force of a student and a year is a filing of the history, and no other of theirs has a higher
+/// transaction. Where any is filed, one is in force.
+pub fn application_in_force(history: &[Filing])
+    ensures filed { (student year : ℕ) → IfSome (application (reverse history.now) student year) (IsInForce (reverse history.now) student year) }
+    ensures some { (student year : ℕ) (a : Application) → IsFiledApplication (reverse history.now) student year a → IsSome (application (reverse history.now) student year) }
+{
+    let _ = history;
+}
+
+/// In a legal list a student with a cost of attendance on file, at any school, has an application in force for the year, and
+/// stands there with its transaction.
+pub fn cost_has_application(history: &[Filing])
+    requires { IsLegal (reverse history.now) }
+    ensures originated { (school student year : ℕ) → 0 < cost_at (reverse history.now) school student year → IsSome (application (reverse history.now) student year) }
+    ensures cost { (school student year : ℕ) → 0 < cost (reverse history.now) school student year → IsSome (application (reverse history.now) student year) }
+    ensures standing { (school student year : ℕ) → 0 < cost_at (reverse history.now) school student year → 0 < (standing_of (reverse history.now) student year).transaction }
+{
+    let _ = history;
 }

@@ -17,8 +17,9 @@ mod sums;
 pub use account::Account;
 pub use decided::{award, ceiling, decision};
 pub use laws::{
-    admitted_is_legal, complete, legal_front, legal_keys, legal_length, legal_within,
-    older_outcome, repeated_filing, same_is_equal, sound_is_worked_out,
+    admitted_is_legal, application_in_force, complete, cost_has_application, legal_front,
+    legal_keys, legal_length, legal_within, older_outcome, repeated_filing, same_is_equal,
+    sound_is_worked_out,
 };
 pub use least::{
     first_found, first_term_found, least_code_found, least_term_found, least_term_over, one_least,
