@@ -1,4 +1,5 @@
 pub mod DayTexts
+pub mod Exactly
 pub mod InOrder
 pub mod Orders
 pub mod Passes

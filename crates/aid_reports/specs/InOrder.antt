@@ -14,7 +14,7 @@ abbrev pub placed : {K : Type 0} → (K → K → Ordering) → K → List K →
 placed cmp k [] = k ∷ []
 placed cmp k (x ∷ xs) = placed_by (cmp k x) k x xs (placed cmp k xs)
 
--- the items in order, each once: `rises` and `holds` of proofs/InOrder say that the list rises strictly and has exactly these
+-- the items in order, each once: the laws of src/laws.rt say that the list rises strictly and has exactly these
 abbrev pub in_order : {K : Type 0} → (K → K → Ordering) → List K → List K
 in_order cmp [] = []
 in_order cmp (k ∷ ks) = placed cmp k (in_order cmp ks)

@@ -4,3 +4,4 @@ pub mod InOrder
 pub mod Lines
 pub mod Reports
 pub mod Rows
+pub mod Told

@@ -1,9 +1,11 @@
-//! Reports on an office: standings, awards, returns and lifetime units.
+//! Reports on an office: standings, awards, returns and lifetime units; and their laws, each as the contract of a function that
+//! computes nothing.
 #![tactic(auto)]
 
 mod columns;
 mod gathered;
 mod keys;
+mod laws;
 mod lines;
 mod listed;
 mod priors;
@@ -11,4 +13,5 @@ mod reports;
 mod rows;
 mod table;
 
+pub use laws::{places_of_awards, returns_in_order, students_of_reports};
 pub use reports::{awards, lifetimes, returns, standings};

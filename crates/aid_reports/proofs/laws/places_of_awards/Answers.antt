@@ -1,0 +1,15 @@
+use Rattle.std.proofs.Common.{reverse}
+use Rattle.aid_reports.specs.Rows.{paid_place, paid_places, place_order, told_by}
+use Rattle.aid_reports.specs.Told.{IsBefore}
+use Rattle.aid_reports.proofs.InOrder.{rises}
+use Rattle.aid_reports.proofs.Exactly.{exactly, place_before, rising}
+use Rattle.aid_reports.proofs.Orders.{place_exact, place_order_total}
+use Rattle.aid_reports.proofs.laws.places_of_awards.Goals as goal
+
+pub returns-clause-rise : goal.returns-clause-rise
+returns-clause-rise c year =
+    let past = reverse c.args.history.now in
+    rising place_order IsBefore place_before (paid_places past year) (rises place_order_total (told_by (λ f. paid_place year f.key f.what) past))
+
+pub returns-clause-told : goal.returns-clause-told
+returns-clause-told c year place = exactly place_order_total place_exact (λ f. paid_place year f.key f.what) (reverse c.args.history.now) place
