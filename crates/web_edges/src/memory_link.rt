@@ -30,26 +30,32 @@ impl Model for MemoryLink {
 }
 
 impl MemoryLink {
-    /// A link that brings these bytes, at most `piece` of them a read, and takes at most `piece` bytes a write.
+    /// A link that brings these bytes, as many of them a read as fit into the buffer, and takes all the bytes of a write.
     pub fn new(
         alloc: Global,
         bytes: Vec<u8>,
-        piece: usize,
         failing_reads: Vec<u64>,
         failing_writes: Vec<u64>,
     ) -> Self
-        requires some { 0 < piece }
         ensures { result ≡ record {
           feed = record { left = bytes.items; failing = failing_reads.items; calls = 0; faults = 0 };
           tape = record { text = []; failing = failing_writes.items; calls = 0; faults = 0 };
-          piece = piece;
+          piece = usize.MAX;
         } }
     {
         MemoryLink {
             source: MemorySource::new(bytes, failing_reads),
             sink: MemorySink::new(alloc, failing_writes),
-            piece,
+            piece: usize::MAX,
         }
+    }
+
+    /// The link, with at most `piece` bytes a read and a write.
+    pub fn in_pieces(self, piece: usize) -> MemoryLink
+        requires some { 0 < piece }
+        ensures { result ≡ record self { piece = piece } }
+    {
+        MemoryLink { piece, ..self }
     }
 
     /// What was written. It takes no memory.

@@ -83,7 +83,8 @@ fn assert_session(
     for piece in [1, 7, 1_000_000] {
         assert!(rt; piece > 0);
         let none = Vec::new(alloc);
-        let mut link = MemoryLink::new(alloc, bytes.to_vec(alloc)?, piece, none, Vec::new(alloc));
+        let link = MemoryLink::new(alloc, bytes.to_vec(alloc)?, none, Vec::new(alloc));
+        let mut link = link.in_pieces(piece);
         let ended = serve(rt, alloc, disk(alloc, image, &[], None)?, &mut link);
         assert_eq!(rt; link.text(), text);
         assert_eq!(rt; ended, Some(end));
@@ -377,13 +378,8 @@ fn faults_on_a_connection(rt: HostRuntime) -> Result<(), Fail> {
     for (calls, reads, writes, end, text) in FAULTS {
         let disk = disk(alloc, school.image(), calls, None)?;
         let bytes = joined(alloc, FILING, FILING)?;
-        let mut link = MemoryLink::new(
-            alloc,
-            bytes,
-            50,
-            reads.to_vec(alloc)?,
-            writes.to_vec(alloc)?,
-        );
+        let link = MemoryLink::new(alloc, bytes, reads.to_vec(alloc)?, writes.to_vec(alloc)?);
+        let mut link = link.in_pieces(50);
         let ended = serve(&rt, alloc, disk, &mut link);
         assert_eq!(rt; link.text(), text.as_bytes());
         assert_eq!(rt; ended, Some(end));

@@ -27,15 +27,13 @@ const FIRST: &[u8] =
 const SECOND: &[u8] =
     b"HTTP/1.1 422 Unprocessable Entity\r\nContent-Length: 62\r\nContent-Type: application/json\r\n\r\n{\"answer\":\"refused\",\"bound\":5001,\"front\":1,\"kept\":1,\"rule\":80}";
 
-// A connection that brings these bytes, at most so many a read.
-fn link(alloc: Global, bytes: &[u8], piece: usize) -> Result<MemoryLink, Fail>
-    requires { 0 < piece }
+// A connection that brings these bytes.
+fn link(alloc: Global, bytes: &[u8]) -> Result<MemoryLink, Fail>
     ensures { IfOk result (λ link. IsUnused link) }
 {
     Ok(MemoryLink::new(
         alloc,
         bytes.to_vec(alloc)?,
-        piece,
         Vec::new(alloc),
         Vec::new(alloc),
     ))
@@ -43,7 +41,7 @@ fn link(alloc: Global, bytes: &[u8], piece: usize) -> Result<MemoryLink, Fail>
 
 // A port of one connection.
 fn port_of_one(alloc: Global, bytes: &[u8]) -> Result<MemoryPort, Fail> {
-    let link = link(alloc, bytes, 100_000)?;
+    let link = link(alloc, bytes)?;
     let mut links = Vec::new(alloc);
     links.push(link)?;
     Ok(MemoryPort::new(alloc, links, Vec::new(alloc))?)
@@ -58,8 +56,8 @@ fn port_of_two(
 ) -> Result<MemoryPort, Fail>
     requires { 0 < piece }
 {
-    let one = link(alloc, bytes, piece)?;
-    let other = link(alloc, bytes, piece)?;
+    let one = link(alloc, bytes)?.in_pieces(piece);
+    let other = link(alloc, bytes)?.in_pieces(piece);
     let mut links = Vec::new(alloc);
     links.push(one)?;
     links.push(other)?;
