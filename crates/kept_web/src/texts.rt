@@ -7,7 +7,7 @@ ghost use Rattle.web_desk.specs.Asks.{Scheme};
 use kept_list::{Docket, ListReply, OwnDocket};
 use std::alloc::{AllocError, Global};
 use std::marker::PhantomData;
-use web_desk::{Call, Forms, Status};
+use web_desk::{Call, CallForms, Status};
 
 /// How the asks of a docket are read from requests, and its replies written.
 pub trait WebTexts<R: OwnDocket> {
@@ -41,7 +41,7 @@ pub struct DocketForms<R, T> {
     marker: PhantomData<(R, T)>,
 }
 
-impl<R: OwnDocket, T: WebTexts<R>> Forms for DocketForms<R, T> {
+impl<R: OwnDocket, T: WebTexts<R>> CallForms for DocketForms<R, T> {
     type Ask = R::Ask;
 
     type Reply = ListReply<R::Verdict>;

@@ -8,7 +8,7 @@ use Rattle.web_desk.specs.Exchange.{Sized, Told, more, bad, whole, told_body, Te
 use Rattle.web_desk.specs.declared.head.Head.{Head}
 use Rattle.web_desk.specs.declared.status.Status.{Status}
 use Rattle.web_desk.specs.declared.end.End.TheVariants.{Rejected}
-use Rattle.web_desk.proofs.LookLemmas.{judges_unique}
+use Rattle.web_desk.proofs.NextRequestLemmas.{judges_unique}
 use Rattle.web_desk.proofs.Steps.{run_append, append_requests, written_append}
 
 abbrev count_of : Option ℕ → ℕ

@@ -1,51 +1,51 @@
 -- The walk finds the first place at which bytes end as a head block does.
 use Rattle.std.proofs.Common.{rules, arith, ◌≡◌, ◌∙◌, sym, ap, subst, refl, ℕ, suc, Bool, true, false, ◌+◌, ◌≤◌, inl, inr, ◌==◌, ◌||◌, if◌then◌else◌, List, [], ◌∷◌, ◌++◌, length, take, drop, None, Some, append_assoc, length-append}
 use Rattle.std.proofs.lemmas.List.{take-append-drop, length-take-le}
-use Rattle.web_desk.specs.Ends.{has_begun, IsEnded, IsFirstEnd, next_place, ends_at, end_from, head_end}
-use Rattle.web_desk.specs.declared.place.Place.{Place}
-use Rattle.web_desk.specs.declared.place.Place.TheVariants.{Before, Within, AfterFeed, AfterReturn}
+use Rattle.web_desk.specs.Ends.{has_begun, IsEnded, IsFirstEnd, next_state, ends_at, end_from, head_end}
+use Rattle.web_desk.specs.declared.head_state.HeadState.{HeadState}
+use Rattle.web_desk.specs.declared.head_state.HeadState.TheVariants.{Before, Within, AfterFeed, AfterReturn}
 use Rattle.web_desk.proofs.EndWalk.{append_nil}
 
--- the place after bytes
-abbrev place_after : Place → List ℕ → Place
-place_after place [] = place
-place_after place (b ∷ rest) = place_after (next_place place b) rest
+-- the state after bytes
+abbrev state_after : HeadState → List ℕ → HeadState
+state_after state [] = state
+state_after state (b ∷ rest) = state_after (next_state state b) rest
 
-after-append : (place : Place) (a b : List ℕ) → place_after place (a ++ b) ≡ place_after (place_after place a) b
-after-append place [] b = refl
-after-append place (x ∷ a) b = after-append (next_place place x) a b
+after-append : (state : HeadState) (a b : List ℕ) → state_after state (a ++ b) ≡ state_after (state_after state a) b
+after-append state [] b = refl
+after-append state (x ∷ a) b = after-append (next_state state x) a b
 
 -- the bytes end with one at which the walk stops
-record Stops (place : Place) (bytes : List ℕ) : Type 0 where
+record Stops (state : HeadState) (bytes : List ℕ) : Type 0 where
   pub front : List ℕ
   pub last : ℕ
   pub split : bytes ≡ front ++ (last ∷ [])
-  pub stops : ends_at (place_after place front) last ≡ true
+  pub stops : ends_at (state_after state front) last ≡ true
 
 -- where the walk stops, the bytes up to there end so, and no fewer do
-found_stops : (place : Place) (n : ℕ) (bytes : List ℕ) (k : ℕ) → end_from place n bytes ≡ Some k → (m : ℕ) × (k ≡ n + m) × (m ≤ length bytes) × Stops place (take m bytes)
-found_stops place n [] k is = absurd (let bad : ⊥ = cc in bad)
-found_stops place n (b ∷ rest) k is = go (ends_at place b) refl (λ h. found_stops (next_place place b) (n + 1) rest k h) is
+found_stops : (state : HeadState) (n : ℕ) (bytes : List ℕ) (k : ℕ) → end_from state n bytes ≡ Some k → (m : ℕ) × (k ≡ n + m) × (m ≤ length bytes) × Stops state (take m bytes)
+found_stops state n [] k is = absurd (let bad : ⊥ = cc in bad)
+found_stops state n (b ∷ rest) k is = go (ends_at state b) refl (λ h. found_stops (next_state state b) (n + 1) rest k h) is
   where
-    later : (m : ℕ) × (k ≡ (n + 1) + m) × (m ≤ length rest) × Stops (next_place place b) (take m rest) → (m : ℕ) × (k ≡ n + m) × (m ≤ length (b ∷ rest)) × Stops place (take m (b ∷ rest))
+    later : (m : ℕ) × (k ≡ (n + 1) + m) × (m ≤ length rest) × Stops (next_state state b) (take m rest) → (m : ℕ) × (k ≡ n + m) × (m ≤ length (b ∷ rest)) × Stops state (take m (b ∷ rest))
     later (m, at, le, stops) = (suc m, omega (arith, at), omega (arith, le), record { front = b ∷ stops.front; last = stops.last; split = ap (λ (l : List ℕ). b ∷ l) stops.split; stops = stops.stops })
 
-    here : k ≡ n + 1 → ends_at place b ≡ true → (m : ℕ) × (k ≡ n + m) × (m ≤ length (b ∷ rest)) × Stops place (take m (b ∷ rest))
+    here : k ≡ n + 1 → ends_at state b ≡ true → (m : ℕ) × (k ≡ n + m) × (m ≤ length (b ∷ rest)) × Stops state (take m (b ∷ rest))
     here at stops = (1, at, omega arith, record { front = []; last = b; split = refl; stops = stops })
 
-    go : (e : Bool) → ends_at place b ≡ e
-        → (end_from (next_place place b) (n + 1) rest ≡ Some k → (m : ℕ) × (k ≡ (n + 1) + m) × (m ≤ length rest) × Stops (next_place place b) (take m rest))
-        → (if e then Some (n + 1) else end_from (next_place place b) (n + 1) rest) ≡ Some k → (m : ℕ) × (k ≡ n + m) × (m ≤ length (b ∷ rest)) × Stops place (take m (b ∷ rest))
+    go : (e : Bool) → ends_at state b ≡ e
+        → (end_from (next_state state b) (n + 1) rest ≡ Some k → (m : ℕ) × (k ≡ (n + 1) + m) × (m ≤ length rest) × Stops (next_state state b) (take m rest))
+        → (if e then Some (n + 1) else end_from (next_state state b) (n + 1) rest) ≡ Some k → (m : ℕ) × (k ≡ n + m) × (m ≤ length (b ∷ rest)) × Stops state (take m (b ∷ rest))
     go true stops below h = here (let same : n + 1 ≡ k = search rules in sym same) stops
     go false goes below h = later (below h)
 
 -- and whatever ends so among the bytes isn't before it
-stops_not_before : (place : Place) (n : ℕ) (front : List ℕ) (last : ℕ) (rest : List ℕ) → ends_at (place_after place front) last ≡ true
-    → (k : ℕ) × (end_from place n (front ++ (last ∷ rest)) ≡ Some k) × (k ≤ n + length front + 1)
-stops_not_before place n [] last rest stops = (n + 1, ap (λ (e : Bool). if e then Some (n + 1) else end_from (next_place place last) (n + 1) rest) stops, omega arith)
-stops_not_before place n (b ∷ front) last rest stops = go (ends_at place b) (stops_not_before (next_place place b) (n + 1) front last rest stops)
+stops_not_before : (state : HeadState) (n : ℕ) (front : List ℕ) (last : ℕ) (rest : List ℕ) → ends_at (state_after state front) last ≡ true
+    → (k : ℕ) × (end_from state n (front ++ (last ∷ rest)) ≡ Some k) × (k ≤ n + length front + 1)
+stops_not_before state n [] last rest stops = (n + 1, ap (λ (e : Bool). if e then Some (n + 1) else end_from (next_state state last) (n + 1) rest) stops, omega arith)
+stops_not_before state n (b ∷ front) last rest stops = go (ends_at state b) (stops_not_before (next_state state b) (n + 1) front last rest stops)
   where
-    go : (e : Bool) → (k : ℕ) × (end_from (next_place place b) (n + 1) (front ++ (last ∷ rest)) ≡ Some k) × (k ≤ (n + 1) + length front + 1) → (k : ℕ) × ((if e then Some (n + 1) else end_from (next_place place b) (n + 1) (front ++ (last ∷ rest))) ≡ Some k) × (k ≤ n + length (b ∷ front) + 1)
+    go : (e : Bool) → (k : ℕ) × (end_from (next_state state b) (n + 1) (front ++ (last ∷ rest)) ≡ Some k) × (k ≤ (n + 1) + length front + 1) → (k : ℕ) × ((if e then Some (n + 1) else end_from (next_state state b) (n + 1) (front ++ (last ∷ rest))) ≡ Some k) × (k ≤ n + length (b ∷ front) + 1)
     go true later = (n + 1, refl, omega arith)
     go false later = (later.0, later.1, omega (arith, later.2))
 
@@ -69,8 +69,8 @@ begun-last (y ∷ a) x is = go ((y == 13) || (y == 10)) (begun-last a x is)
     go true below = below
     go false below = refl
 
--- what the bytes up to a place are
-abbrev Shape : Place → List ℕ → Type 0
+-- what the bytes up to a state are
+abbrev Shape : HeadState → List ℕ → Type 0
 Shape Before done = Unit {0}
 Shape Within done = has_begun done ≡ true
 Shape AfterFeed done = (front : List ℕ) × (done ≡ front ++ (10 ∷ [])) × (has_begun front ≡ true)
@@ -85,7 +85,7 @@ begun_return done (front, is, begun) = ap has_begun is ∙ begun-append front (1
 after_feed : (done : List ℕ) (b : ℕ) → b ≡ 10 → has_begun done ≡ true → Shape AfterFeed (done ++ (b ∷ []))
 after_feed done b is begun = (done, ap (λ (x : ℕ). done ++ (x ∷ [])) is, begun)
 
-shape_next : (place : Place) (done : List ℕ) (b : ℕ) → Shape place done → Shape (next_place place b) (done ++ (b ∷ []))
+shape_next : (state : HeadState) (done : List ℕ) (b : ℕ) → Shape state done → Shape (next_state state b) (done ++ (b ∷ []))
 shape_next Before done b shape = go ((b == 13) || (b == 10)) refl
   where
     go : (e : Bool) → ((b == 13) || (b == 10)) ≡ e → Shape (if e then Before else Within) (done ++ (b ∷ []))
@@ -111,13 +111,13 @@ shape_next AfterReturn done b shape = go (b == 10) refl
     go true is = after_feed done b (same_byte b 10 is) (begun_return done shape)
     go false is = begun-append done (b ∷ []) (begun_return done shape)
 
-shape_after : (place : Place) (done bytes : List ℕ) → Shape place done → Shape (place_after place bytes) (done ++ bytes)
-shape_after place done [] shape = subst (Shape place) (sym (append_nil done)) shape
-shape_after place done (b ∷ bytes) shape =
-    subst (Shape (place_after (next_place place b) bytes)) (append_assoc done (b ∷ []) bytes) (shape_after (next_place place b) (done ++ (b ∷ [])) bytes (shape_next place done b shape))
+shape_after : (state : HeadState) (done bytes : List ℕ) → Shape state done → Shape (state_after state bytes) (done ++ bytes)
+shape_after state done [] shape = subst (Shape state) (sym (append_nil done)) shape
+shape_after state done (b ∷ bytes) shape =
+    subst (Shape (state_after (next_state state b) bytes)) (append_assoc done (b ∷ []) bytes) (shape_after (next_state state b) (done ++ (b ∷ [])) bytes (shape_next state done b shape))
 
 -- where the walk stops, the bytes end as a head block does
-stop_ends : (place : Place) (done : List ℕ) (b : ℕ) → Shape place done → ends_at place b ≡ true → IsEnded (done ++ (b ∷ []))
+stop_ends : (state : HeadState) (done : List ℕ) (b : ℕ) → Shape state done → ends_at state b ≡ true → IsEnded (done ++ (b ∷ []))
 stop_ends Before done b shape stops = absurd (let bad : ⊥ = cc in bad)
 stop_ends Within done b shape stops = absurd (let bad : ⊥ = cc in bad)
 stop_ends AfterFeed done b (front, is, begun) stops =
@@ -127,16 +127,16 @@ stop_ends AfterReturn done b (front, is, begun) stops =
 
 stops_ended : (bytes : List ℕ) → Stops Before bytes → IsEnded bytes
 stops_ended bytes stops =
-    subst IsEnded (sym stops.split) (stop_ends (place_after Before stops.front) stops.front stops.last (shape_after Before [] stops.front tt) stops.stops)
+    subst IsEnded (sym stops.split) (stop_ends (state_after Before stops.front) stops.front stops.last (shape_after Before [] stops.front tt) stops.stops)
 
 -- a request that has begun goes on
-abbrev started : Place → Bool
+abbrev started : HeadState → Bool
 started Before = false
 started Within = true
 started AfterFeed = true
 started AfterReturn = true
 
-started_next : (place : Place) (b : ℕ) → started place ≡ true → started (next_place place b) ≡ true
+started_next : (state : HeadState) (b : ℕ) → started state ≡ true → started (next_state state b) ≡ true
 started_next Before b is = absurd (let bad : ⊥ = cc in bad)
 started_next Within b is = elim (b == 10) as (λ e. started (if e then AfterFeed else Within) ≡ true) [ true ↦ refl | false ↦ refl ]
 started_next AfterFeed b is =
@@ -144,19 +144,19 @@ started_next AfterFeed b is =
     [ true ↦ refl | false ↦ elim (b == 10) as (λ e. started (if e then AfterFeed else Within) ≡ true) [ true ↦ refl | false ↦ refl ] ]
 started_next AfterReturn b is = elim (b == 10) as (λ e. started (if e then AfterFeed else Within) ≡ true) [ true ↦ refl | false ↦ refl ]
 
-started_after : (place : Place) (bytes : List ℕ) → started place ≡ true → started (place_after place bytes) ≡ true
-started_after place [] is = is
-started_after place (b ∷ bytes) is = started_after (next_place place b) bytes (started_next place b is)
+started_after : (state : HeadState) (bytes : List ℕ) → started state ≡ true → started (state_after state bytes) ≡ true
+started_after state [] is = is
+started_after state (b ∷ bytes) is = started_after (next_state state b) bytes (started_next state b is)
 
-begun_after : (bytes : List ℕ) → has_begun bytes ≡ true → started (place_after Before bytes) ≡ true
+begun_after : (bytes : List ℕ) → has_begun bytes ≡ true → started (state_after Before bytes) ≡ true
 begun_after [] begun = absurd (let bad : ⊥ = cc in bad)
 begun_after (b ∷ bytes) begun = go ((b == 13) || (b == 10)) (begun_after bytes) begun
   where
-    go : (e : Bool) → (has_begun bytes ≡ true → started (place_after Before bytes) ≡ true) → (if e then has_begun bytes else true) ≡ true → started (place_after (if e then Before else Within) bytes) ≡ true
+    go : (e : Bool) → (has_begun bytes ≡ true → started (state_after Before bytes) ≡ true) → (if e then has_begun bytes else true) ≡ true → started (state_after (if e then Before else Within) bytes) ≡ true
     go true below h = below h
     go false below h = started_after Within bytes refl
 
-fed : (place : Place) → started place ≡ true → next_place place 10 ≡ AfterFeed
+fed : (state : HeadState) → started state ≡ true → next_state state 10 ≡ AfterFeed
 fed Before is = absurd (let bad : ⊥ = cc in bad)
 fed Within is = refl
 fed AfterFeed is = refl
@@ -168,13 +168,13 @@ ended_stops bytes (front, begun, inl is) = record {
   front = front ++ (10 ∷ []);
   last = 10;
   split = is ∙ sym (append_assoc front (10 ∷ []) (10 ∷ []));
-  stops = ap (λ (p : Place). ends_at p 10) (after-append Before front (10 ∷ []) ∙ fed (place_after Before front) (begun_after front begun));
+  stops = ap (λ (p : HeadState). ends_at p 10) (after-append Before front (10 ∷ []) ∙ fed (state_after Before front) (begun_after front begun));
 }
 ended_stops bytes (front, begun, inr is) = record {
   front = front ++ (10 ∷ 13 ∷ []);
   last = 10;
   split = is ∙ sym (append_assoc front (10 ∷ 13 ∷ []) (10 ∷ []));
-  stops = ap (λ (p : Place). ends_at p 10) (after-append Before front (10 ∷ 13 ∷ []) ∙ ap (λ (p : Place). next_place p 13) (fed (place_after Before front) (begun_after front begun)));
+  stops = ap (λ (p : HeadState). ends_at p 10) (after-append Before front (10 ∷ 13 ∷ []) ∙ ap (λ (p : HeadState). next_state p 13) (fed (state_after Before front) (begun_after front begun)));
 }
 
 -- bytes that end so are not before the end that the walk finds

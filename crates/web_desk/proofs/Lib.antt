@@ -4,7 +4,7 @@ pub mod EndLaws
 pub mod EndWalk
 pub mod HeadLines
 pub mod Joined
-pub mod LookLemmas
+pub mod NextRequestLemmas
 pub mod OneExchange
 pub mod Reached
 pub mod Room

@@ -2,7 +2,7 @@
 use Rattle.std.proofs.Common.{arith, ◌≡◌, ◌∙◌, ap, ℕ, zero, suc, ◌+◌, ◌<◌, ◌≤◌, List, [], ◌∷◌, ◌++◌, length, length-append, take, append_assoc, Some}
 use Rattle.web_desk.specs.Ends.{head_end}
 use Rattle.web_edges.specs.LinkTelling.{IsPrefix}
-use Rattle.web_desk.specs.declared.place.Place.TheVariants.{Before}
+use Rattle.web_desk.specs.declared.head_state.HeadState.TheVariants.{Before}
 use Rattle.web_desk.proofs.EndWalk.{end_from-le}
 
 -- a piece more, where fewer were held than are sought

@@ -4,6 +4,6 @@ pub mod Ends
 pub mod Exchange
 pub mod Found
 pub mod Heads
-pub mod Looks
+pub mod NextRequests
 pub mod Responses
 pub mod Statuses

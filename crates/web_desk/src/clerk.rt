@@ -2,10 +2,10 @@
 ghost use Rattle.std.specs.Prelude.{◌≡◌, ◌≤◌, ℕ};
 ghost use Rattle.aid_edges.specs.Faults.{Rose};
 
-use crate::{Forms, Status};
+use crate::{CallForms, Status};
 
 /// Who answers the asks of a session.
-pub trait Clerk<F: Forms> {
+pub trait Clerk<F: CallForms> {
     /// One ask: the clerk before, the ask, the reply and the clerk after.
     ghost asked: { Self → F.Ask → F.Reply → Self → Type 0 };
 

@@ -8,7 +8,7 @@ ghost use Rattle.web_desk.specs.Heads.{Judges};
 ghost use Rattle.web_desk.specs.declared.head.Head.{Head};
 ghost use Rattle.web_desk.specs.declared.status.Status.{Status};
 
-use crate::{Clerk, End, Forms};
+use crate::{CallForms, Clerk, End};
 
 /// The end of a head block is the first place at which bytes end as a head block does, and there is none where they
 /// never do.
@@ -29,7 +29,7 @@ pub fn one_exchange()
 {}
 
 /// What a session leaves that can't go on begins the exchange of all the bytes.
-pub fn front_begins<F: Forms, C: Clerk<F>>()
+pub fn front_begins<F: CallForms, C: Clerk<F>>()
     ensures { (limit : ℕ) (bytes : List ℕ) (requests : List Request) (ending : Ending) (before after : C) (old new : List ℕ) → IsFront (Answers F.scheme C.asked C.faults) limit bytes before after old new
         → Brings limit bytes requests ending → IsFrontOf (Answers F.scheme C.asked C.faults) requests ending before after old new }
 {}

@@ -3,14 +3,14 @@
 #![tactic(auto)]
 
 mod call;
+mod call_forms;
 mod clerk;
 mod end;
-mod forms;
 mod head;
+mod head_state;
 mod laws;
-mod look;
+mod next_request;
 mod pieces;
-mod place;
 mod response;
 mod scan;
 mod session;
@@ -18,9 +18,9 @@ mod status;
 mod stop;
 
 pub use call::Call;
+pub use call_forms::CallForms;
 pub use clerk::Clerk;
 pub use end::End;
-pub use forms::Forms;
 pub use head::Head;
 pub use laws::{first_end, front_begins, one_exchange, one_judgement, two_exchanges};
 pub use response::Answer;

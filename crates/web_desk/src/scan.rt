@@ -2,41 +2,41 @@
 ghost use Rattle.std.specs.Prelude.{◌≡◌, ◌≤◌, [], ℕ, List, length, IfSome, IfNone};
 ghost use Rattle.web_desk.specs.Ends.{head_end, IsScanned};
 
-use crate::place::Place;
+use crate::head_state::HeadState;
 
 /// How far the bytes held were looked at: no head block ends in the first `count` of them.
 #[derive(Clone, Copy, Debug, PartialEq, Eq)]
 pub struct Scan {
-    place: Place,
+    state: HeadState,
     count: usize,
 }
 
 impl Scan {
     /// No byte was looked at.
     pub fn new() -> Scan
-        ensures { (bytes : List ℕ) → IsScanned result.place result.count bytes }
+        ensures { (bytes : List ℕ) → IsScanned result.state result.count bytes }
     {
         Scan {
-            place: Place::Before,
+            state: HeadState::Before,
             count: 0,
         }
     }
 
     /// Looks at the bytes that weren't looked at yet, and answers where the first head block ends.
     pub fn advance(&mut self, bytes: &[u8]) -> Option<usize>
-        requires { IsScanned self.old.place self.old.count bytes.now }
+        requires { IsScanned self.old.state self.old.count bytes.now }
         ensures end { result ≡ head_end bytes.now }
         ensures within { IfSome result (λ k. k ≤ length bytes.now) }
-        ensures scanned { IfNone result (IsScanned self.new.place self.new.count bytes.now) }
+        ensures scanned { IfNone result (IsScanned self.new.state self.new.count bytes.now) }
         ensures all { IfNone result (self.new.count ≡ length bytes.now) }
     {
         let mut rest = &bytes[self.count..];
         while let [byte, after @ ..] = rest {
             self.count += 1;
-            if self.place.ends(*byte) {
+            if self.state.ends(*byte) {
                 return Some(self.count);
             }
-            self.place = self.place.next(*byte);
+            self.state = self.state.next(*byte);
             rest = after;
         }
         None

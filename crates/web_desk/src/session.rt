@@ -10,10 +10,10 @@ ghost use Rattle.web_desk.specs.Exchange.{Tells, whole, request_at, rejection_of
 
 use crate::call::{Call, Route, routes};
 use crate::head::Head;
-use crate::look::{Look, next_look};
+use crate::next_request::{NextRequest, read_request};
 use crate::response::{Answer, failure};
 use crate::stop::Stop;
-use crate::{Clerk, End, Forms, Status};
+use crate::{CallForms, Clerk, End, Status};
 use matchit::Router;
 use std::alloc::{AllocError, Global};
 use web_edges::{Link, write_all};
@@ -36,7 +36,7 @@ fn has_begun(bytes: &[u8]) -> bool
 }
 
 // Answers a call: the clerk is asked where the body is an ask.
-fn answer_call<F: Forms, C: Clerk<F>>(
+fn answer_call<F: CallForms, C: Clerk<F>>(
     alloc: Global,
     clerk: &mut C,
     call: Call,
@@ -55,7 +55,7 @@ fn answer_call<F: Forms, C: Clerk<F>>(
 }
 
 // Answers a request.
-fn answer_to<F: Forms, C: Clerk<F>>(
+fn answer_to<F: CallForms, C: Clerk<F>>(
     alloc: Global,
     clerk: &mut C,
     head: Head,
@@ -95,7 +95,7 @@ fn write_answer<L: Link>(
 }
 
 // Answers a request, and writes the response whole.
-fn respond_to<F: Forms, C: Clerk<F>, L: Link>(
+fn respond_to<F: CallForms, C: Clerk<F>, L: Link>(
     alloc: Global,
     clerk: &mut C,
     link: &mut L,
@@ -158,7 +158,7 @@ fn drop_front(alloc: Global, held: &mut Vec<u8>, count: usize) -> Result<(), All
 
 // Answers a request whose head block of `end` bytes and whose body stand in front of the bytes held. `None`: the session
 // goes on.
-fn respond<F: Forms, C: Clerk<F>, L: Link>(
+fn respond<F: CallForms, C: Clerk<F>, L: Link>(
     alloc: Global,
     clerk: &mut C,
     link: &mut L,
@@ -193,7 +193,7 @@ fn respond<F: Forms, C: Clerk<F>, L: Link>(
 }
 
 // Reads and answers one request more. `None`: the session goes on.
-fn serve_one<F: Forms, C: Clerk<F>, L: Link>(
+fn serve_one<F: CallForms, C: Clerk<F>, L: Link>(
     alloc: Global,
     router: &Router<Route>,
     clerk: &mut C,
@@ -211,23 +211,25 @@ fn serve_one<F: Forms, C: Clerk<F>, L: Link>(
     ensures later { L.faults link.old ≤ L.faults link.new }
     ensures cause { result ≡ Some End.LinkFault → Rose (L.faults link.old) (L.faults link.new) }
 {
-    match next_look(router, link, held) {
+    match read_request(router, link, held) {
         Err(stop) => Some(end_of(stop)),
-        Ok(Look::More) => Some(if has_begun(held) {
+        Ok(NextRequest::More) => Some(if has_begun(held) {
             End::Cut
         } else {
             End::Closed
         }),
-        Ok(Look::Bad(status)) => match reject(alloc, link, status) {
+        Ok(NextRequest::Bad(status)) => match reject(alloc, link, status) {
             Ok(()) => Some(End::Rejected),
             Err(stop) => Some(end_of(stop)),
         },
-        Ok(Look::Whole { head, end }) => respond::<F, C, L>(alloc, clerk, link, held, head, end),
+        Ok(NextRequest::Whole { head, end }) => respond::<F, C, L>(
+            alloc, clerk, link, held, head, end,
+        ),
     }
 }
 
 // Serves a connection up to so many requests.
-fn serve_up_to<F: Forms, C: Clerk<F>, L: Link>(
+fn serve_up_to<F: CallForms, C: Clerk<F>, L: Link>(
     alloc: Global,
     router: &Router<Route>,
     clerk: &mut C,
@@ -256,7 +258,7 @@ fn serve_up_to<F: Forms, C: Clerk<F>, L: Link>(
 /// At the ends `LinkFault` and `NoMemory` it is a front of that, and a link that tells nothing is promised the clerk's
 /// part alone: the clerk's asks follow one another, and nothing else changes it. Behind the requests answered, no more than a
 /// head, a body and a piece less one byte were taken from the link.
-pub fn serve<F: Forms, C: Clerk<F>, L: Link>(alloc: Global, clerk: &mut C, link: &mut L) -> End
+pub fn serve<F: CallForms, C: Clerk<F>, L: Link>(alloc: Global, clerk: &mut C, link: &mut L) -> End
     ensures exchange { IsHonest (L.tells link.old)
         → ServesNear (Answers F.scheme C.asked C.faults) 10000 (L.tells link.old).left (L.tells link.new).left clerk.old clerk.new (L.tells link.old).text (L.tells link.new).text result }
     ensures reached { Reaches (IsAsked C.asked C.faults F.scheme.status) clerk.old clerk.new }

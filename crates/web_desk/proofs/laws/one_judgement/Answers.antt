@@ -1,4 +1,4 @@
-use Rattle.web_desk.proofs.LookLemmas.{judges_unique}
+use Rattle.web_desk.proofs.NextRequestLemmas.{judges_unique}
 use Rattle.web_desk.proofs.laws.one_judgement.Goals as goal
 
 pub returns : goal.returns

@@ -18,6 +18,6 @@ loop-scan-preserved g c =
       room = λ honest small. room_kept c.loop-scan.held.items (g.L.Link.tells c.loop-scan.link).left c.fill.new.held.items (g.L.Link.tells c.fill.new.link).left 16384
           (c.in_ok-fill.ensures.bytes (c.loop-scan.invariant.honest ∙ honest)) (c.fill.ensures.no_further (c.loop-scan.invariant.honest ∙ honest)) (let a = c.loop-scan-test.true in let b = c.len.ensures in omega (arith, a, b)) (omega arith);
       later = (let a = c.fill.ensures.later in let b = c.loop-scan.invariant.later in omega (arith, a, b));
-      scanned = scanned_room c.advance.new.self.place c.advance.new.self.count 16384 c.loop-scan.held.items grown.got c.fill.new.held.items grown.behind
-          (subst (λ l. IsScanned c.advance.new.self.place c.advance.new.self.count l) looked c.in_default.ensures.scanned);
+      scanned = scanned_room c.advance.new.self.state c.advance.new.self.count 16384 c.loop-scan.held.items grown.got c.fill.new.held.items grown.behind
+          (subst (λ l. IsScanned c.advance.new.self.state c.advance.new.self.count l) looked c.in_default.ensures.scanned);
     }

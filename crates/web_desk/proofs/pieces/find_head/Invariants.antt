@@ -10,7 +10,7 @@ invariant-loop-scan g l = record {
   bytes : IsHonest (g.L.Link.tells l.initial.link) → l.held.items ++ (g.L.Link.tells l.link).left ≡ l.initial.held.items ++ (g.L.Link.tells l.initial.link).left;
   room : IsHonest (g.L.Link.tells l.initial.link) → length l.initial.held.items ≤ 86015 → length l.held.items ≤ 86015;
   later : g.L.Link.faults l.initial.link ≤ g.L.Link.faults l.link;
-  scanned : IsScanned l.scan.place l.scan.count (take 16384 l.held.items);
+  scanned : IsScanned l.scan.state l.scan.count (take 16384 l.held.items);
 }
 
 abbrev pub decreases-loop-scan : goal.decreases-loop-scan

@@ -4,7 +4,7 @@ use Rattle.web_desk.proofs.scan.Scan.advance.Given as goal
 
 abbrev pub invariant-loop-rest : goal.invariant-loop-rest
 invariant-loop-rest l = record {
-  goes_on : (more : List ℕ) → head_end (l.bytes ++ more) ≡ end_from l.self.place l.self.count (l.rest ++ more);
+  goes_on : (more : List ℕ) → head_end (l.bytes ++ more) ≡ end_from l.self.state l.self.count (l.rest ++ more);
   size : l.self.count + length l.rest ≡ length l.bytes;
 }
 

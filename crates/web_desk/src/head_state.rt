@@ -1,10 +1,10 @@
 //! Where a head block ends.
 ghost use Rattle.std.specs.Prelude.{◌≡◌, ◌≤◌, length, drop, IfSome};
-ghost use Rattle.web_desk.specs.Ends.{next_place, ends_at, end_from};
+ghost use Rattle.web_desk.specs.Ends.{next_state, ends_at, end_from};
 
 /// Where the next byte lies in a request's head.
 #[derive(Clone, Copy, Debug, PartialEq, Eq)]
-pub enum Place {
+pub enum HeadState {
     /// No byte has come yet that is neither CR nor LF.
     Before,
     /// Within a line.
@@ -15,17 +15,17 @@ pub enum Place {
     AfterReturn,
 }
 
-impl Place {
-    /// The place after a byte.
-    pub fn next(self, byte: u8) -> Place
-        ensures { result ≡ next_place self byte }
+impl HeadState {
+    /// The state after a byte.
+    pub fn next(self, byte: u8) -> HeadState
+        ensures { result ≡ next_state self byte }
     {
         match self {
-            Place::Before if byte == 13 || byte == 10 => Place::Before,
-            Place::Before => Place::Within,
-            Place::AfterFeed if byte == 13 => Place::AfterReturn,
-            _ if byte == 10 => Place::AfterFeed,
-            _ => Place::Within,
+            HeadState::Before if byte == 13 || byte == 10 => HeadState::Before,
+            HeadState::Before => HeadState::Within,
+            HeadState::AfterFeed if byte == 13 => HeadState::AfterReturn,
+            _ if byte == 10 => HeadState::AfterFeed,
+            _ => HeadState::Within,
         }
     }
 
@@ -34,7 +34,7 @@ impl Place {
         ensures { result ≡ ends_at self byte }
     {
         match self {
-            Place::AfterFeed | Place::AfterReturn => byte == 10,
+            HeadState::AfterFeed | HeadState::AfterReturn => byte == 10,
             _ => false,
         }
     }

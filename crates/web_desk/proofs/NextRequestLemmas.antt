@@ -6,8 +6,8 @@ use Rattle.web_desk.specs.Ends.{head_end}
 use Rattle.web_desk.specs.Heads.{Judges, head_said}
 use Rattle.web_desk.specs.Exchange.{Told, more, bad, whole, Tells, unended, too_large, ended, told_body, request_at}
 use Rattle.std.specs.Prelude.{IfOk}
-use Rattle.web_desk.specs.Looks.{told_of}
-use Rattle.web_desk.specs.declared.look.Look.{Look}
+use Rattle.web_desk.specs.NextRequests.{told_of}
+use Rattle.web_desk.specs.declared.next_request.NextRequest.{NextRequest}
 use Rattle.web_desk.specs.declared.stop.Stop.{Stop}
 use Rattle.web_desk.specs.declared.head.Head.{Head}
 use Rattle.web_desk.specs.declared.status.Status.{Status}
@@ -63,6 +63,6 @@ tell_ended held left all is is_over none lt =
     unended same short
 
 -- the same of bytes that are the same
-pub tell_behind : (bytes all : List ℕ) (r : Result Look Stop) → bytes ≡ all → IfOk r (λ l. Tells bytes (told_of bytes l)) → IfOk r (λ l. Tells all (told_of all l))
+pub tell_behind : (bytes all : List ℕ) (r : Result NextRequest Stop) → bytes ≡ all → IfOk r (λ l. Tells bytes (told_of bytes l)) → IfOk r (λ l. Tells all (told_of all l))
 tell_behind bytes all (Ok l) is tells = subst (λ (x : List ℕ). Tells x (told_of x l)) is tells
 tell_behind bytes all (Err e) is tells = tt

@@ -6,7 +6,7 @@ use crate::{Call, Status};
 use std::alloc::{AllocError, Global};
 
 /// How asks are read from requests, and replies written.
-pub trait Forms {
+pub trait CallForms {
     /// What is asked.
     type Ask: Drop;
 

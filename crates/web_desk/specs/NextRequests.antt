@@ -1,26 +1,26 @@
 -- What the code finds of the next request.
 use Rattle.std.specs.Prelude.{◌≤◌, ◌+◌, ℕ, List, ⊤}
 use Rattle.web_desk.specs.Exchange.{Told, more, bad, whole, request_at}
-use Rattle.web_desk.specs.declared.look.Look.{Look}
-use Rattle.web_desk.specs.declared.look.Look.TheVariants.{More, Bad, Whole}
+use Rattle.web_desk.specs.declared.next_request.NextRequest.{NextRequest}
+use Rattle.web_desk.specs.declared.next_request.NextRequest.TheVariants.{More, Bad, Whole}
 
-abbrev pub told_of : List ℕ → Look → Told
+abbrev pub told_of : List ℕ → NextRequest → Told
 told_of bytes More = more
 told_of bytes (Bad status) = bad status
 told_of bytes (Whole head end) = whole (request_at bytes end head)
 
 -- a request has no more bytes than have come
-abbrev pub LookFits : ℕ → Look → Type 0
-LookFits n More = ⊤
-LookFits n (Bad status) = ⊤
-LookFits n (Whole head end) = end + head.length ≤ n
+abbrev pub RequestFits : ℕ → NextRequest → Type 0
+RequestFits n More = ⊤
+RequestFits n (Bad status) = ⊤
+RequestFits n (Whole head end) = end + head.length ≤ n
 
-abbrev pub IsMore : Look → Type 0
+abbrev pub IsMore : NextRequest → Type 0
 IsMore More = ⊤
 IsMore (Bad status) = ⊥
 IsMore (Whole head end) = ⊥
 
-abbrev pub IsBad : Look → Type 0
+abbrev pub IsBad : NextRequest → Type 0
 IsBad More = ⊥
 IsBad (Bad status) = ⊤
 IsBad (Whole head end) = ⊥

@@ -5,7 +5,7 @@ ghost use Rattle.web_edges.specs.LinkTelling.{IsHonest, IsPrefix};
 ghost use Rattle.web_desk.specs.Calls.{the_routes};
 ghost use Rattle.web_desk.specs.Ends.{head_end};
 ghost use Rattle.web_desk.specs.Exchange.{Tells};
-ghost use Rattle.web_desk.specs.Looks.{LookFits, IsBad, IsMore, told_of};
+ghost use Rattle.web_desk.specs.NextRequests.{RequestFits, IsBad, IsMore, told_of};
 
 use crate::Status;
 use crate::call::Route;
@@ -17,7 +17,7 @@ use web_edges::Link;
 
 /// What the link brought of the next request.
 #[derive(Clone, Copy, Debug, PartialEq, Eq)]
-pub enum Look {
+pub enum NextRequest {
     /// The input ended before the request did.
     More,
     /// Its head is rejected with this status.
@@ -27,21 +27,21 @@ pub enum Look {
 }
 
 // Reads the head block of `end` bytes, and awaits the body. A head that is rejected is answered at once: its body isn't awaited.
-fn look_behind<L: Link>(
+fn await_request<L: Link>(
     router: &Router<Route>,
     link: &mut L,
     held: &mut Vec<u8>,
     end: usize,
-) -> Result<Look, Stop>
+) -> Result<NextRequest, Stop>
     requires routes { router.now ≡ the_routes }
     requires within { end ≤ length held.old.items }
     ensures honest { (L.tells link.new).honest ≡ (L.tells link.old).honest }
     ensures text { IsHonest (L.tells link.old) → (L.tells link.new).text ≡ (L.tells link.old).text }
     ensures bytes { IsHonest (L.tells link.old)
         → OnOk result (held.new.items ++ (L.tells link.new).left ≡ held.old.items ++ (L.tells link.old).left) }
-    ensures look { IsHonest (L.tells link.old) → head_end (take 16384 held.old.items) ≡ Some end
+    ensures request { IsHonest (L.tells link.old) → head_end (take 16384 held.old.items) ≡ Some end
         → IfOk result (λ l. Tells (held.old.items ++ (L.tells link.old).left) (told_of (held.old.items ++ (L.tells link.old).left) l)) }
-    ensures fits { IfOk result (LookFits (length held.new.items)) }
+    ensures fits { IfOk result (RequestFits (length held.new.items)) }
     ensures end { IsHonest (L.tells link.old) → IfOk result (λ l. IsMore l → (L.tells link.new).left ≡ []) }
     ensures no_further { IsHonest (L.tells link.old) → length held.old.items ≤ 86015 → end ≤ 16384 → length (held.old.items ++ (L.tells link.old).left) ≤ length (L.tells link.new).left + 86015 }
     ensures at_once { IfOk result (λ l. IsBad l → (link.new ≡ link.old) × (held.new ≡ held.old)) }
@@ -49,39 +49,39 @@ fn look_behind<L: Link>(
     ensures cause { IsErrOf result Stop.Fault → Rose (L.faults link.old) (L.faults link.new) }
 {
     match read_head(router, &held[..end]) {
-        Err(status) => Ok(Look::Bad(status)),
+        Err(status) => Ok(NextRequest::Bad(status)),
         Ok(head) => {
             if await_bytes(link, held, end + head.length)? {
-                Ok(Look::Whole { head, end })
+                Ok(NextRequest::Whole { head, end })
             } else {
-                Ok(Look::More)
+                Ok(NextRequest::More)
             }
         }
     }
 }
 
 /// Reads until the bytes held tell of a request. `More` comes where the input ended before.
-pub fn next_look<L: Link>(
+pub fn read_request<L: Link>(
     router: &Router<Route>,
     link: &mut L,
     held: &mut Vec<u8>,
-) -> Result<Look, Stop>
+) -> Result<NextRequest, Stop>
     requires { router.now ≡ the_routes }
     ensures honest { (L.tells link.new).honest ≡ (L.tells link.old).honest }
     ensures text { IsHonest (L.tells link.old) → (L.tells link.new).text ≡ (L.tells link.old).text }
     ensures bytes { IsHonest (L.tells link.old)
         → OnOk result (held.new.items ++ (L.tells link.new).left ≡ held.old.items ++ (L.tells link.old).left) }
-    ensures look { IsHonest (L.tells link.old)
+    ensures request { IsHonest (L.tells link.old)
         → IfOk result (λ l. Tells (held.old.items ++ (L.tells link.old).left) (told_of (held.old.items ++ (L.tells link.old).left) l)) }
     ensures no_further { IsHonest (L.tells link.old) → length held.old.items ≤ 86015 → length (held.old.items ++ (L.tells link.old).left) ≤ length (L.tells link.new).left + 86015 }
-    ensures fits { IfOk result (LookFits (length held.new.items)) }
+    ensures fits { IfOk result (RequestFits (length held.new.items)) }
     ensures end { IsHonest (L.tells link.old) → IfOk result (λ l. IsMore l → (L.tells link.new).left ≡ []) }
     ensures later { L.faults link.old ≤ L.faults link.new }
     ensures cause { IsErrOf result Stop.Fault → Rose (L.faults link.old) (L.faults link.new) }
 {
     match find_head(link, held)? {
-        Found::End(end) => look_behind(router, link, held, end),
-        Found::TooLarge => Ok(Look::Bad(Status::HeadTooLarge)),
-        Found::InputEnded => Ok(Look::More),
+        Found::End(end) => await_request(router, link, held, end),
+        Found::TooLarge => Ok(NextRequest::Bad(Status::HeadTooLarge)),
+        Found::InputEnded => Ok(NextRequest::More),
     }
 }
