@@ -14,7 +14,7 @@ ghost use Rattle.office_history.specs.Rows.{place_row, student_row, term_row, te
 ghost use Rattle.office_answers.specs.Walked.{walked};
 
 use crate::applications::{award_in, brought_under, unfit};
-use crate::noted::{desk_facts, net_of};
+use crate::noted::desk_facts;
 use aid_filings::{Outcome, WithdrawFacts};
 use aid_types::{Application, Key, Program, School, Student, Year};
 use filing_rules::Facts;
@@ -133,7 +133,7 @@ fn aid_facts<P: OnFile, L: Ledger>(
             cost: cost.cost,
             credits: place.credits,
             withdrawn_at: place.withdrawn_at,
-            pell_term: net_of(&place.account, Program::Pell),
+            pell_term: place.account.net(Program::Pell),
             pell_year: year.nets.at(Program::Pell),
             fseog_year: year.nets.at(Program::Fseog),
             net_all: cost.net,

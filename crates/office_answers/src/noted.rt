@@ -1,8 +1,7 @@
 //! What the rules of a filing that is only noted read of the filings so far. Each row is asked for once.
-ghost use Rattle.std.specs.Prelude.{◌≡◌, ◌+◌, ◌-◌, ◌*◌, ◌≤◌, None, slice_index};
+ghost use Rattle.std.specs.Prelude.{◌≡◌, ◌+◌, ◌*◌, ◌≤◌, None};
 ghost use Rattle.aid_filings.specs.Students.{student_of};
 ghost use Rattle.aid_filings.specs.declared.filing.What.TheVariants.{Calendar, Enrol, Repay, Adjust};
-ghost use Rattle.aid_types.specs.Programs.{rank as rank_of};
 ghost use Rattle.office_history.specs.FactsOf.{facts_of, no_facts};
 ghost use Rattle.office_history.specs.Rows.{terms_at};
 ghost use Rattle.office_answers.specs.Noted.{IsNoted};
@@ -11,7 +10,7 @@ ghost use Rattle.office_answers.specs.Walked.{walked};
 use aid_filings::{Amount, CalendarFacts, EnrolFacts, Filing, What};
 use aid_types::{Key, Program};
 use filing_rules::Facts;
-use office_history::{Account, OnFile, SchoolRow};
+use office_history::{OnFile, SchoolRow};
 use sorted_rows::Steps;
 use std::sync::ledger::Ledger;
 
@@ -73,16 +72,6 @@ pub(crate) fn desk_facts(filings: u32, school: &SchoolRow) -> Facts
     }
 }
 
-/// The net of a program.
-pub(crate) fn net_of(account: &Account, program: Program) -> u64
-    ensures { result ≡ slice_index account.now.paid (rank_of program) - slice_index account.now.taken (rank_of program) }
-{
-    account
-        .paid
-        .at(program)
-        .saturating_sub(account.taken.at(program))
-}
-
 // What a term that is filed reads.
 fn calendar_facts<P: OnFile, L: Ledger>(
     past: &P,
@@ -121,7 +110,7 @@ fn enrolment_facts<P: OnFile, L: Ledger>(
         term_at: term.at,
         scheduled: past.year(filed.student, filed.year, steps).scheduled,
         withdrawn_at: place.withdrawn_at,
-        pell_term: net_of(&place.account, Program::Pell),
+        pell_term: place.account.net(Program::Pell),
         ..desk_facts(past.front(), &school)
     }
 }
@@ -161,7 +150,7 @@ fn adjustment_facts<P: OnFile, L: Ledger>(
     Facts {
         term_at: term.at,
         withdrawn_at: place.withdrawn_at,
-        net: net_of(&place.account, filed.program),
+        net: place.account.net(filed.program),
         ..desk_facts(past.front(), &school)
     }
 }

@@ -123,10 +123,7 @@ impl Office {
         // The front tells that the history is legal.
         let _filings = self.indexed.front();
         let account = place_of(&self.indexed, school, student, year, term).account;
-        account
-            .paid
-            .at(program)
-            .saturating_sub(account.taken.at(program))
+        account.net(program)
     }
 
     /// What is on file of the school with a code.

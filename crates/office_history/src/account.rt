@@ -1,8 +1,9 @@
 //! What moved in a student's term at a school.
-ghost use Rattle.std.specs.Prelude.{◌≡◌};
+ghost use Rattle.std.specs.Prelude.{◌≡◌, ◌-◌, slice_index};
+ghost use Rattle.aid_types.specs.Programs.{rank as rank_of};
 ghost use Rattle.office_history.specs.Accounts.{HasSums, joined};
 
-use aid_types::ByProgram;
+use aid_types::{ByProgram, Program};
 
 /// What moved in a student's term at a school, in cents and by program in the order of returns: what was paid and what
 /// was taken back by returns, repayments and adjustments; what withdrawals left the student to repay and what was
@@ -30,6 +31,13 @@ impl Account {
         after_all: 0,
         post: 0,
     };
+
+    /// The net of a program: what was paid, less what was taken back.
+    pub fn net(&self, program: Program) -> u64
+        ensures { result ≡ slice_index self.now.paid (rank_of program) - slice_index self.now.taken (rank_of program) }
+    {
+        self.paid.at(program).saturating_sub(self.taken.at(program))
+    }
 
     /// The sums of both.
     pub fn joined(&self, other: &Account) -> Account

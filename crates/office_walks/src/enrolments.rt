@@ -1,7 +1,7 @@
 //! Walks along a student's first enrolments, from the newest to the oldest, so that each term at a school in which the student
 //! is enrolled is visited once. A step is a look at the link of an enrolment, at where the one before it stands, at the row of
 //! its place, or at the filing of its school or its term.
-ghost use Rattle.std.specs.Prelude.{◌≡◌, ◌+◌, ◌-◌, ◌*◌, ◌≤◌, ◌<◌, ℕ, true, List, Some, IsSome, length, reverse, slice_index};
+ghost use Rattle.std.specs.Prelude.{◌≡◌, ◌+◌, ◌*◌, ◌≤◌, ◌<◌, ℕ, true, List, Some, IsSome, length, reverse};
 ghost use Rattle.std.specs.List.{slice_get};
 ghost use Rattle.sorted_rows.specs.Places.{value_at};
 ghost use Rattle.aid_filings.specs.declared.filing.Filing.{Filing as Filed};
@@ -21,7 +21,7 @@ use crate::links::EnrolmentLink;
 use aid_filings::{Filing, What};
 use aid_types::{Program, Refusal, School, Student, Term, Year};
 use enrolment::{intensity, period_pay, shares_day};
-use office_history::{Account, PlaceRow, StudentPlace};
+use office_history::{PlaceRow, StudentPlace};
 use sorted_rows::{Slots, Steps};
 use std::sync::ledger::Ledger;
 
@@ -123,7 +123,7 @@ fn is_paid_beside<L: Ledger>(
     ensures later { steps.old ≤ steps.new }
 {
     // Most places hold none.
-    if net_pell(&place.1.account) == 0 {
+    if place.1.account.net(Program::Pell) == 0 {
         return false;
     }
     if place.0.school == school.0 {
@@ -134,14 +134,6 @@ fn is_paid_beside<L: Ledger>(
         Some(term) => shares_day(this, &term),
         None => false,
     }
-}
-
-// The net Pell of an account in cents.
-fn net_pell(account: &Account) -> u64
-    ensures { result ≡ slice_index account.now.paid 3 - slice_index account.now.taken 3 }
-{
-    let paid = account.paid.at(Program::Pell);
-    paid.saturating_sub(account.taken.at(Program::Pell))
 }
 
 // The term that is filed.
@@ -211,7 +203,7 @@ fn over_in<L: Ledger>(
     if place.0.year != year.0 {
         return None;
     }
-    let kept = net_pell(&place.1.account);
+    let kept = place.1.account.net(Program::Pell);
     steps.tick();
     let bound = payment(
         &filings[link.school_at as usize - 1].what,

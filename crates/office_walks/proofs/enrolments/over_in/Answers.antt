@@ -27,8 +27,8 @@ returns-then-bound-kept-clause-value g c = λ f student e own.
     let row = row_read h rows f l e c.requires.rows place.0 place.1 c.look-place.ensures.here c.look-place.ensures.own in
     let named = name_read h rows f l e place.0 place.1 c.look-place.ensures.here in
     let of_year : (e.facts.year == c.args.year) ≡ true = eq-eqb e.facts.year c.args.year (sym (ap (λ (name : StudentPlace). name.year) named) ∙ c.if-place-year.false ∙ c.year.view_is) in
-    over_some (reverse h) rows f l e student own c.args.award c.args.year place.0.school place.0.term c.net_pell-kept.result c.payment-bound.result of_year
-    (c.net_pell-kept.ensures ∙ pell_read h rows f l e place.1 row)
+    over_some (reverse h) rows f l e student own c.args.award c.args.year place.0.school place.0.term c.net-kept.result c.payment-bound.result of_year
+    (c.net-kept.ensures ∙ pell_read h rows f l e place.1 row)
     (c.payment-bound.ensures ∙ payment_read h rows f l e place.1 row _ (school_read h rows f l e c.index-filings-link.result) c.args.award)
     c.if-bound-kept.true (ap (λ (name : StudentPlace). name.school) named) (ap (λ (name : StudentPlace). name.term) named)
 
@@ -41,7 +41,7 @@ returns-else-bound-kept-clause-value g c = λ f student e own.
     let row = row_read h rows f l e c.requires.rows place.0 place.1 c.look-place.ensures.here c.look-place.ensures.own in
     let named = name_read h rows f l e place.0 place.1 c.look-place.ensures.here in
     let of_year : (e.facts.year == c.args.year) ≡ true = eq-eqb e.facts.year c.args.year (sym (ap (λ (name : StudentPlace). name.year) named) ∙ c.if-place-year.false ∙ c.year.view_is) in
-    over_none (reverse h) rows f l e student own c.args.award c.args.year c.net_pell-kept.result c.payment-bound.result of_year
-    (c.net_pell-kept.ensures ∙ pell_read h rows f l e place.1 row)
+    over_none (reverse h) rows f l e student own c.args.award c.args.year c.net-kept.result c.payment-bound.result of_year
+    (c.net-kept.ensures ∙ pell_read h rows f l e place.1 row)
     (c.payment-bound.ensures ∙ payment_read h rows f l e place.1 row _ (school_read h rows f l e c.index-filings-link.result) c.args.award)
     c.if-bound-kept.false

@@ -1,4 +1,4 @@
-use Rattle.std.proofs.Common.{◌≡◌, ℕ, ◌-◌, ◌≤◌, List, ap, subst, sym, ◌∙◌}
+use Rattle.std.proofs.Common.{◌≡◌, ℕ, ◌≤◌, List, ap, subst, sym, ◌∙◌}
 use Rattle.aid_types.specs.Programs.{rank}
 use Rattle.aid_filings.specs.declared.filing.Filing.{Filing}
 use Rattle.office_history.specs.Answer.{IsLegal}
@@ -14,9 +14,8 @@ returns c =
     let past = c.args.self.now.history in
     let a = c.args in
     let view : c.self.inside.indexed.history ≡ past = ap (λ (r : Register). r.history) c.self.view_is in
-    let net : c.saturating_sub.result ≡ net_at past (cell_at a.school a.student a.year a.term (rank a.program)) =
-    c.saturating_sub.ensures
-    ∙ (λ i. c.at.ensures i - c.at-2.ensures i)
+    let net : c.net.result ≡ net_at past (cell_at a.school a.student a.year a.term (rank a.program)) =
+    c.net.ensures
     ∙ net_told past a.school a.student a.year a.term a.program c.place_of-account.result
     (c.place_of-account.ensures ∙ ap (λ (h : List Filing). place_row h a.school a.student a.year a.term) view) in
     record {
