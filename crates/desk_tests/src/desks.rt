@@ -1,7 +1,7 @@
 // What many desks do at once: two that pay one student, in either order, one that ends early, those that don't begin, and
 // those whose lines can't be written.
 use crate::runs::{assert_runs, with_book};
-use aid_edges::{FreeGate, HoldGate, MemorySink, MemorySource, SteadySource, read_to_limit};
+use aid_edges::{FreeGate, Gate, HoldGate, MemorySink, MemorySource, SteadySource, read_to_limit};
 use disk_model::MemoryDisk;
 use kept_session::INPUT_LIMIT;
 use run_office::{DeskInput, run_desks};
@@ -333,4 +333,59 @@ fn desks_of(
 fn bad_desk(alloc: Global) -> Result<DeskInput<MemorySource>, AllocError> {
     let input = MemorySource::new(GOOD.to_vec(alloc)?, vec![in alloc; 1]?);
     Ok(DeskInput { input })
+}
+
+// Two gates, each of which holds a desk up.
+#[derive(Drop)]
+struct TwoGates {
+    first: HoldGate,
+    second: HoldGate,
+}
+
+impl Gate for TwoGates {
+    fn hold(&self, desk: u32, row: u32) {
+        self.first.hold(desk, row);
+        self.second.hold(desk, row);
+    }
+
+    fn answered(&self, desk: u32, row: u32) {
+        self.first.answered(desk, row);
+        self.second.answered(desk, row);
+    }
+}
+
+// Desk 2 files first, then desk 1, then desk 3. The gate byte of desk 2's record can't be written, nor can desk 1's turn write it;
+// that of desk 3 does. The last lines of desks 1 and 2 name the same position. The line `admitted` names the first of the two rows
+// where both file the same, and else that which files what stands there.
+#[test]
+fn the_first_row_is_named(rt: HostRuntime) -> Result<(), Fail> {
+    let alloc = rt.alloc();
+    let cases: [(&[u8], &[u8]); 2] = [
+        (
+            b"prior,0,7,5007,1\n",
+            b"desk 1 1 fault disk 3\ndesk 2 1 fault disk 3\ndesk 3 1 3 accepted 4 noted\nadmitted 3 1 1\nadmitted 4 3 1\n",
+        ),
+        (
+            b"prior,0,9,5009,1\n",
+            b"desk 1 1 fault disk 3\ndesk 2 1 fault disk 3\ndesk 3 1 3 accepted 4 noted\nadmitted 3 2 1\nadmitted 4 3 1\n",
+        ),
+    ];
+    for (row, text) in cases {
+        let gate = TwoGates {
+            first: HoldGate::new(1, 2, 1_000_000),
+            second: HoldGate::new(3, 1, 1_000_000),
+        };
+        let rows: [&[u8]; 3] = [row, b"prior,0,7,5007,1\n", b"prior,0,8,5008,1\n"];
+        let mut desks = Vec::new(alloc);
+        for row in rows {
+            let input = SteadySource::new(row.to_vec(alloc)?);
+            desks.push(DeskInput { input })?;
+        }
+        let mut sink = MemorySink::new(alloc, Vec::new(alloc));
+        let disk = disk(alloc, BOTH, &[8, 9], None)?;
+        let (status, _disk) = run_desks(&rt, alloc, &mut desks, disk, &gate, &mut sink);
+        assert_eq!(rt; status, 5);
+        assert_eq!(rt; sink.text(), text);
+    }
+    Ok(())
 }

@@ -13,7 +13,7 @@ use Rattle.kept_desks.specs.declared.stop.DeskStop.TheVariants.{DiskFault, NoMem
 use Rattle.kept_desks.specs.declared.stop.DeskEnd.{DeskEnd}
 use Rattle.kept_desks.specs.declared.stop.DeskEnd.TheVariants.{Open, Done, Stopped}
 use Rattle.kept_list.specs.Names.{filed_by, entries_of}
-use Rattle.kept_desks.specs.Answered.{Answer, Follows, answer_lines, admitted_row, admitted_of, IsClean, IsAtFault, Ends, Files}
+use Rattle.kept_desks.specs.Answered.{Answer, Follows, answer_lines, admitted_row, admitted_of, IsClean, IsAtFault, Ends, Files, kept_row}
 use Rattle.kept_desks.specs.Rows.{IsAnsweredOn, IsFaulted, IsStarved, IsWritten, StopsAt}
 
 module _ {Entry Ask Verdict Error : Type 0} (judging : Judging Entry Ask Verdict) (texts : Texts Ask Verdict Error) (by : RowName) where
@@ -64,32 +64,32 @@ abbrev rows_in : {Entry Ask Error : Type 0} → List (Answer Entry Ask Error) �
 rows_in {Entry} {Ask} {Error} answers = map (λ (a : Answer Entry Ask Error). a.row) answers
 
 -- how far a desk's rows were filed, in a loop: these are left
-pub record FilesOn {Entry Ask Verdict Error : Type 0} (judging : Judging Entry Ask Verdict) (own : Ask → Option Entry) (texts : Texts Ask Verdict Error) (desk : ℕ) (prefix : List ℕ) (total left : List texts.Meaning) (written : List ℕ) (count : ℕ) (known : Known (Filed Entry)) : Type 0 where
-  pub files : Files judging own texts desk prefix total written count Open known
+pub record FilesOn {Entry Ask Verdict Error : Type 0} (judging : Judging Entry Ask Verdict) (own copied : Ask → Option Entry) (texts : Texts Ask Verdict Error) (desk : ℕ) (prefix : List ℕ) (total left : List texts.Meaning) (written : List ℕ) (count : ℕ) (known : Known (Filed Entry)) : Type 0 where
+  pub files : Files judging own copied texts desk prefix total written count Open None known
   pub rest : files.rest ≡ left
   pub shorter : count + length left ≡ length total
 
-module _ {Entry Ask Verdict Error : Type 0} {judging : Judging Entry Ask Verdict} {own : Ask → Option Entry} {texts : Texts Ask Verdict Error} {desk : ℕ} {prefix : List ℕ} {total : List texts.Meaning} where
+module _ {Entry Ask Verdict Error : Type 0} {judging : Judging Entry Ask Verdict} {own copied : Ask → Option Entry} {texts : Texts Ask Verdict Error} {desk : ℕ} {prefix : List ℕ} {total : List texts.Meaning} where
   -- before the first row
-  pub files_none : (known : Known (Filed Entry)) → IsOlder (entries_of known.opening.list) (entries_of known.seen) → known.mine ≡ [] → IsClean known → FilesOn judging own texts desk prefix total total [] 0 known
+  pub files_none : (known : Known (Filed Entry)) → IsOlder (entries_of known.opening.list) (entries_of known.seen) → known.mine ≡ [] → IsClean known → FilesOn judging own copied texts desk prefix total total [] 0 known
   files_none known older mine clean = record {
-    files = record { answers = []; taken = []; rest = total; split = refl; counted = refl; text = refl; follows = older; mine = mine; ends = (refl, clean) };
+    files = record { answers = []; taken = []; rest = total; split = refl; counted = refl; text = refl; follows = older; mine = mine; ends = (refl, clean); kept = refl };
     rest = refl;
     shorter = omega arith;
   }
 
-  module _ {left : List texts.Meaning} {written : List ℕ} {count : ℕ} {known : Known (Filed Entry)} (on : FilesOn judging own texts desk prefix total left written count known) where
+  module _ {left : List texts.Meaning} {written : List ℕ} {count : ℕ} {known : Known (Filed Entry)} (on : FilesOn judging own copied texts desk prefix total left written count known) where
     -- no row is left
-    pub files_done : left ≡ [] → Files judging own texts desk prefix total written count Done known
+    pub files_done : left ≡ [] → Files judging own copied texts desk prefix total written count Done None known
     files_done none =
         let f = on.files in
-        record { answers = f.answers; taken = f.taken; rest = f.rest; split = f.split; counted = f.counted; text = f.text; follows = f.follows; mine = f.mine; ends = (f.ends.0, on.rest ∙ none, f.ends.1) }
+        record { answers = f.answers; taken = f.taken; rest = f.rest; split = f.split; counted = f.counted; text = f.text; follows = f.follows; mine = f.mine; ends = (f.ends.0, on.rest ∙ none, f.ends.1); kept = f.kept }
 
     -- there is no memory for a further row
-    pub files_starved : Files judging own texts desk prefix total written count (Stopped NoMemory) known
+    pub files_starved : Files judging own copied texts desk prefix total written count (Stopped NoMemory) None known
     files_starved =
         let f = on.files in
-        record { answers = f.answers; taken = f.taken; rest = f.rest; split = f.split; counted = f.counted; text = f.text; follows = f.follows; mine = f.mine; ends = f.ends.1 }
+        record { answers = f.answers; taken = f.taken; rest = f.rest; split = f.split; counted = f.counted; text = f.text; follows = f.follows; mine = f.mine; ends = f.ends.1; kept = f.kept }
 
     -- at the next row
     module _ (row : Result Ask Error) (rest : List texts.Meaning) (next : left ≡ texts.said row ∷ rest) (after : Known (Filed Entry)) where
@@ -107,7 +107,7 @@ module _ {Entry Ask Verdict Error : Type 0} {judging : Judging Entry Ask Verdict
       follows_same older opening = subst (λ o. Follows judging (entries_of o.list) on.files.answers (entries_of after.seen)) (sym opening) (follows_on judging (entries_of known.opening.list) on.files.answers (entries_of known.seen) (entries_of after.seen) on.files.follows older)
 
       -- its desk ends there
-      pub files_stopped : (stop : DeskStop) → StopsAt own (record { desk = desk; row = count + 1 }) stop row known after → Files judging own texts desk prefix total written count (Stopped stop) after
+      pub files_stopped : (stop : DeskStop) → StopsAt own (record { desk = desk; row = count + 1 }) stop row known after → Files judging own copied texts desk prefix total written count (Stopped stop) (kept_row copied row) after
       files_stopped (DiskFault undecided) (ask, is, f) = record {
         answers = on.files.answers;
         taken = row ∷ [];
@@ -124,6 +124,7 @@ module _ {Entry Ask Verdict Error : Type 0} {judging : Judging Entry Ask Verdict
           named = f.named;
           left = λ entry has. ⊎_elim (λ a. absurd (on.files.ends.1.0 entry a)) (λ b. b) (f.left entry has);
         };
+        kept = refl;
       }
       files_stopped NoMemory f = record {
         answers = on.files.answers;
@@ -135,10 +136,11 @@ module _ {Entry Ask Verdict Error : Type 0} {judging : Judging Entry Ask Verdict
         follows = follows_same f.earlier f.opening;
         mine = f.mine ∙ on.files.mine;
         ends = clean_after f.left f.faults;
+        kept = refl;
       }
 
       -- it is answered
-      pub files_next : (text : List ℕ) → IsWritten judging texts (record { desk = desk; row = count + 1 }) prefix row written text known after → FilesOn judging own texts desk prefix total rest text (count + 1) after
+      pub files_next : (text : List ℕ) → IsWritten judging texts (record { desk = desk; row = count + 1 }) prefix row written text known after → FilesOn judging own copied texts desk prefix total rest text (count + 1) after
       files_next text (past, wrote, on_past) =
           let f = on.files in
           let number : count + 1 ≡ 1 + length f.answers = omega (arith, f.counted) in
@@ -156,6 +158,7 @@ module _ {Entry Ask Verdict Error : Type 0} {judging : Judging Entry Ask Verdict
               mine = on_past.mine ∙ (ap (λ l. l ++ admitted_row judging (record { desk = desk; row = count + 1 }) past row) f.mine
                   ∙ (ap (λ n. admitted_of judging desk 1 f.answers ++ admitted_row judging (record { desk = desk; row = n }) past row) number ∙ sym (admitted_push judging desk 1 f.answers past row)));
               ends = (refl, clean_after on_past.left on_past.faults);
+              kept = refl;
             };
             rest = refl;
             shorter = omega (arith, on.shorter, ap length next);

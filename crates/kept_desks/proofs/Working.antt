@@ -10,15 +10,15 @@ use Rattle.kept_desks.specs.declared.stop.DeskEnd.TheVariants.{Open}
 use Rattle.kept_desks.specs.Answered.{Files}
 use Rattle.kept_desks.specs.Desks.{DeskView, IsFresh, IsReady, HasEnded, Works}
 
-module _ {Entry Ask Verdict Error Lines : Type 0} (judging : Judging Entry Ask Verdict) (own : Ask → Option Entry) (texts : Texts Ask Verdict Error) (left : Lines → List texts.Meaning) where
+module _ {Entry Ask Verdict Error Lines : Type 0} (judging : Judging Entry Ask Verdict) (own copied : Ask → Option Entry) (texts : Texts Ask Verdict Error) (left : Lines → List texts.Meaning) where
   pub works_of : (lock : TableId) (old new : DeskView Entry Lines) (before after : Known (Filed Entry)) → old.pass ≡ Some before → new.pass ≡ Some after
       → after.lock ≡ before.lock → after.allowance ≡ before.allowance → after.opening ≡ before.opening → new.ended ≢ Open → new.number ≡ old.number → new.prefix ≡ old.prefix
-      → Files judging own texts old.number old.prefix (left old.rows) new.text new.answered new.ended after → Works judging own texts left lock old new
+      → Files judging own copied texts old.number old.prefix (left old.rows) new.text new.answered new.ended new.last after → Works judging own copied texts left lock old new
   works_of lock old new before after had has lock_is share opening_is ended number prefix files = record {
     number = number;
     prefix = prefix;
     ends = ends;
-    files = λ known is. let which : after ≡ known = cc in subst (λ k. Files judging own texts old.number old.prefix (left old.rows) new.text new.answered new.ended k) which files;
+    files = λ known is. let which : after ≡ known = cc in subst (λ k. Files judging own copied texts old.number old.prefix (left old.rows) new.text new.answered new.ended new.last k) which files;
   }
     where
       ends : (opening : Stand (Filed Entry)) → IsReady lock opening old → HasEnded lock opening new

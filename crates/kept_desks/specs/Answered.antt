@@ -61,9 +61,18 @@ Ends own by Done taken rest known = (taken ≡ []) × (rest ≡ []) × IsClean k
 Ends own by (Stopped (DiskFault undecided)) taken rest known = IsAtFault own by undecided taken known
 Ends own by (Stopped NoMemory) taken rest known = IsClean known
 
+-- what is kept of the entry of a row, where the row was taken and has no line
+abbrev pub kept_row : {Entry Ask Error : Type 0} → (Ask → Option Entry) → Result Ask Error → Option Entry
+kept_row copied (Ok ask) = copied ask
+kept_row copied (Err error) = None
+
+abbrev pub kept_of : {Entry Ask Error : Type 0} → (Ask → Option Entry) → List (Result Ask Error) → Option Entry
+kept_of copied [] = None
+kept_of copied (row ∷ rows) = kept_row copied row
+
 -- What a desk filed of its rows: each was answered on a list that goes on from the list that the desk had seen, has that
--- answer's line, and what it adds is among the desk's own.
-pub record Files {Entry Ask Verdict Error : Type 0} (judging : Judging Entry Ask Verdict) (own : Ask → Option Entry) (texts : Texts Ask Verdict Error) (desk : ℕ) (prefix : List ℕ) (total : List texts.Meaning) (written : List ℕ) (count : ℕ) (ended : DeskEnd) (known : Known (Filed Entry)) : Type 0 where
+-- answer's line, and what it adds is among the desk's own. Of the row at which it ended what it files is kept.
+pub record Files {Entry Ask Verdict Error : Type 0} (judging : Judging Entry Ask Verdict) (own copied : Ask → Option Entry) (texts : Texts Ask Verdict Error) (desk : ℕ) (prefix : List ℕ) (total : List texts.Meaning) (written : List ℕ) (count : ℕ) (ended : DeskEnd) (last : Option Entry) (known : Known (Filed Entry)) : Type 0 where
   pub answers : List (Answer Entry Ask Error)
   pub taken : List (Result Ask Error)
   pub rest : List texts.Meaning
@@ -73,3 +82,4 @@ pub record Files {Entry Ask Verdict Error : Type 0} (judging : Judging Entry Ask
   pub follows : Follows judging (entries_of known.opening.list) answers (entries_of known.seen)
   pub mine : known.mine ≡ admitted_of judging desk 1 answers
   pub ends : Ends own (record { desk = desk; row = count + 1 }) ended taken rest known
+  pub kept : last ≡ kept_of copied taken

@@ -6,6 +6,10 @@ use Rattle.kept_desks.specs.declared.stop.DeskEnd.{DeskEnd}
 use Rattle.kept_desks.specs.declared.stop.DeskEnd.TheVariants.{Open, Done, Stopped}
 use Rattle.kept_desks.specs.Desks.{DeskView}
 
+-- the row behind those that a desk answered
+abbrev pub end_row : {Entry Lines : Type 0} → DeskView Entry Lines → RowName
+end_row desk = record { desk = desk.number; row = desk.answered + 1 }
+
 -- the row at which a desk stopped, and why, where it did
 abbrev pub stop_at : ℕ → ℕ → DeskEnd → Option (RowName × DeskStop)
 stop_at desk answered Open = None

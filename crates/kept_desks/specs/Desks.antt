@@ -23,6 +23,8 @@ pub record DeskView (Entry Lines : Type 0) : Type 0 where
   pub text : List ℕ
   pub answered : ℕ
   pub ended : DeskEnd
+  -- what the row files at which it stopped, where that is kept
+  pub last : Option Entry
   -- its pass of the lock, while it has one
   pub pass : Option (Known (Filed Entry))
 
@@ -50,19 +52,19 @@ pub record HasEnded {Entry Lines : Type 0} (lock : TableId) (opening : Stand (Fi
   pub ended : desk.ended ≢ Open
 
 -- all of a desk but its pass
-abbrev pub shown_of : {Entry Lines : Type 0} → DeskView Entry Lines → ℕ × List ℕ × Lines × List ℕ × ℕ × DeskEnd
-shown_of desk = (desk.number, desk.prefix, desk.rows, desk.text, desk.answered, desk.ended)
+abbrev pub shown_of : {Entry Lines : Type 0} → DeskView Entry Lines → ℕ × List ℕ × Lines × List ℕ × ℕ × DeskEnd × Option Entry
+shown_of desk = (desk.number, desk.prefix, desk.rows, desk.text, desk.answered, desk.ended, desk.last)
 
 -- all of these desks but their passes
-abbrev pub all_shown : {Entry Lines : Type 0} → List (DeskView Entry Lines) → List (ℕ × List ℕ × Lines × List ℕ × ℕ × DeskEnd)
+abbrev pub all_shown : {Entry Lines : Type 0} → List (DeskView Entry Lines) → List (ℕ × List ℕ × Lines × List ℕ × ℕ × DeskEnd × Option Entry)
 all_shown desks = map shown_of desks
 
 -- A desk that has a pass files its rows by it, each in a turn of the lock, from the first to the last or to a stop.
-pub record Works {Entry Ask Verdict Error Lines : Type 0} (judging : Judging Entry Ask Verdict) (own : Ask → Option Entry) (texts : Texts Ask Verdict Error) (left : Lines → List texts.Meaning) (lock : TableId) (old new : DeskView Entry Lines) : Type 0 where
+pub record Works {Entry Ask Verdict Error Lines : Type 0} (judging : Judging Entry Ask Verdict) (own copied : Ask → Option Entry) (texts : Texts Ask Verdict Error) (left : Lines → List texts.Meaning) (lock : TableId) (old new : DeskView Entry Lines) : Type 0 where
   pub number : new.number ≡ old.number
   pub prefix : new.prefix ≡ old.prefix
   pub ends : (opening : Stand (Filed Entry)) → IsReady lock opening old → HasEnded lock opening new
-  pub files : (known : Known (Filed Entry)) → new.pass ≡ Some known → Files judging own texts old.number old.prefix (left old.rows) new.text new.answered new.ended known
+  pub files : (known : Known (Filed Entry)) → new.pass ≡ Some known → Files judging own copied texts old.number old.prefix (left old.rows) new.text new.answered new.ended new.last known
 
 -- what the turns of a desk's pass admitted, settled and left undecided, how many faults they told of, and the list that it saw last
 abbrev pub mine_in : {E : Type 0} → Option (Known E) → List (ℕ × E)

@@ -1,12 +1,12 @@
 // A desk: its rows, its lines, and its pass of the lock.
-ghost use Rattle.std.specs.Prelude.{◌≡◌, ◌+◌, ◌<◌, ◌^◌, [], None, Some, length};
+ghost use Rattle.std.specs.Prelude.{◌≡◌, ◌+◌, ◌<◌, ◌^◌, [], None, Some, length, option_copied};
 ghost use Rattle.office_lock.specs.declared.turned.Stand.{Stand};
 ghost use Rattle.kept_list.specs.declared.names.Filed.{Filed as FiledEntry};
 ghost use Rattle.kept_desks.specs.Desks.{IsReady, Works};
-ghost use Rattle.kept_desks.specs.DeskTexts.{stop_at};
+ghost use Rattle.kept_desks.specs.DeskTexts.{end_row, stop_at};
 
 use crate::filing::file_rows;
-use crate::{DeskEnd, DeskStop, SharedList};
+use crate::{Copies, DeskEnd, DeskStop, SharedList};
 use aid_edges::Gate;
 use disk_model::Disk;
 use kept_list::{Docket, Filed, OwnDocket, RowName, Rows};
@@ -25,6 +25,8 @@ pub struct Desk<R: OwnDocket, L: Rows<R>> {
     text: Vec<u8>,
     answered: u32,
     ended: DeskEnd,
+    // What the row may add at which it stopped.
+    last: Option<R::Entry>,
     pass: Option<Pass<Filed<R::Entry>>>,
 }
 
@@ -42,6 +44,7 @@ impl<R: OwnDocket, L: Rows<R>> Model for Desk<R, L> {
       text = d.text.items;
       answered = d.answered;
       ended = d.ended;
+      last = d.last;
       pass = d.pass;
     } };
 
@@ -59,6 +62,7 @@ impl<R: OwnDocket, L: Rows<R>> Desk<R, L> {
           text = [];
           answered = 0;
           ended = DeskEnd.Open;
+          last = None;
           pass = None;
         } }
     {
@@ -69,6 +73,7 @@ impl<R: OwnDocket, L: Rows<R>> Desk<R, L> {
             text: Vec::new(alloc),
             answered: 0,
             ended: DeskEnd::Open,
+            last: None,
             pass: None,
         }
     }
@@ -107,20 +112,31 @@ impl<R: OwnDocket, L: Rows<R>> Desk<R, L> {
         self.prefix.as_slice()
     }
 
+    /// The row behind those that it answered.
+    pub fn end_row(&self) -> RowName
+        ensures { result ≡ end_row self.now }
+    {
+        RowName {
+            desk: self.number,
+            row: self.answered + 1,
+        }
+    }
+
     /// The row at which it stopped, and why, where it did.
     pub fn stopped(&self) -> Option<(RowName, DeskStop)>
         ensures { result ≡ stop_at self.now.number self.now.answered self.now.ended }
     {
         match self.ended {
-            DeskEnd::Stopped(stop) => {
-                let at = RowName {
-                    desk: self.number,
-                    row: self.answered + 1,
-                };
-                Some((at, stop))
-            }
+            DeskEnd::Stopped(stop) => Some((self.end_row(), stop)),
             _ => None,
         }
+    }
+
+    /// What the row files at which it stopped, where that is kept.
+    pub fn last(&self) -> Option<&R::Entry>
+        ensures { option_copied result ≡ self.now.last }
+    {
+        self.last.as_ref()
     }
 
     /// How many rows it answered, and how it ended.
@@ -131,20 +147,21 @@ impl<R: OwnDocket, L: Rows<R>> Desk<R, L> {
         (self.answered, self.ended)
     }
 
-    /// Files the rows, each in a turn of the lock, from the first to the last or to a stop.
-    pub fn work<D: Disk, G: Gate, H: Wait>(
+    /// Files the rows, each in a turn of the lock, from the first to the last or to a stop. Of the row at which it stops a
+    /// copy of what it may add is kept.
+    pub fn work<D: Disk, C: Copies<R>, G: Gate, H: Wait>(
         &mut self,
         rt: &H,
         turns: &Turns<SharedList<D, R>>,
         gate: &G,
     )
         requires { (opening : Stand (FiledEntry R.Entry)) × IsReady turns.now.id opening self.old }
-        ensures { Works R.judging R.own L.texts L.left turns.now.id self.old self.new }
+        ensures { Works R.judging R.own C.copied L.texts L.left turns.now.id self.old self.new }
     {
         let Some(mut pass) = self.pass.take() else {
             return;
         };
-        let (answered, ended) = file_rows::<D, R, L, G, H>(
+        let (answered, ended, last) = file_rows::<D, R, L, C, G, H>(
             rt,
             turns,
             gate,
@@ -156,6 +173,7 @@ impl<R: OwnDocket, L: Rows<R>> Desk<R, L> {
         );
         self.answered = answered;
         self.ended = ended;
+        self.last = last;
         self.pass = Some(pass);
     }
 }

@@ -4,8 +4,9 @@ ghost use Rattle.office_lock.specs.Passes.{IsOlder};
 ghost use Rattle.kept_list.specs.Names.{entries_of};
 ghost use Rattle.kept_desks.specs.Answered.{Files, IsClean};
 
+use crate::copies::copy_row;
 use crate::row::file_row;
-use crate::{DeskEnd, DeskStop, SharedList};
+use crate::{Copies, DeskEnd, DeskStop, SharedList};
 use aid_edges::Gate;
 use disk_model::Disk;
 use kept_list::{Docket, Filed, OwnDocket, RowName, Rows};
@@ -13,8 +14,9 @@ use office_lock::{Pass, Turned, Turns};
 use std::sync::Wait;
 
 /// Files the rows that are left, in order, each in a turn of the lock, and appends a line for each. It ends at the first
-/// fault of the disk and at want of memory. It answers how many rows have lines.
-pub fn file_rows<D: Disk, R: OwnDocket, L: Rows<R>, G: Gate, H: Wait>(
+/// fault of the disk and at want of memory. It answers how many rows have lines, how it ended, and a copy of what the row
+/// may add at which it stopped.
+pub fn file_rows<D: Disk, R: OwnDocket, L: Rows<R>, C: Copies<R>, G: Gate, H: Wait>(
     rt: &H,
     turns: &Turns<SharedList<D, R>>,
     gate: &G,
@@ -23,14 +25,14 @@ pub fn file_rows<D: Disk, R: OwnDocket, L: Rows<R>, G: Gate, H: Wait>(
     prefix: &[u8],
     rows: &mut L,
     text: &mut Vec<u8>,
-) -> (u32, DeskEnd)
+) -> (u32, DeskEnd, Option<R::Entry>)
     requires lock { pass.old.lock ≡ turns.now.id }
     requires few { length (L.left rows.old) < 2 ^ 32 }
     requires older { IsOlder (entries_of pass.old.opening.list) (entries_of pass.old.seen) }
     requires mine { pass.old.mine ≡ [] }
     requires clean { IsClean pass.old }
     requires empty { text.old.items ≡ [] }
-    ensures files { Files R.judging R.own L.texts desk prefix.now (L.left rows.old) text.new.items result.0 result.1 pass.new }
+    ensures files { Files R.judging R.own C.copied L.texts desk prefix.now (L.left rows.old) text.new.items result.0 result.1 result.2 pass.new }
     ensures count { result.0 ≤ length (L.left rows.old) }
     ensures ended { result.1 ≢ DeskEnd.Open }
     ensures lock { pass.new.lock ≡ pass.old.lock }
@@ -41,16 +43,17 @@ pub fn file_rows<D: Disk, R: OwnDocket, L: Rows<R>, G: Gate, H: Wait>(
     loop {
         let row = match rows.next() {
             Ok(Some(row)) => row,
-            Ok(None) => return (count, DeskEnd::Done),
-            Err(_) => return (count, DeskEnd::Stopped(DeskStop::NoMemory)),
+            Ok(None) => return (count, DeskEnd::Done, None),
+            Err(_) => return (count, DeskEnd::Stopped(DeskStop::NoMemory), None),
         };
         let by = RowName {
             desk,
             row: count + 1,
         };
+        let copy = copy_row::<R, C, L::Error>(&row);
         match file_row::<D, R, L, G, H>(rt, turns, gate, pass, by, prefix, row, text) {
             Ok(()) => count += 1,
-            Err(stop) => return (count, DeskEnd::Stopped(stop)),
+            Err(stop) => return (count, DeskEnd::Stopped(stop), copy),
         }
     }
 }

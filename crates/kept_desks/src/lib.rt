@@ -1,6 +1,7 @@
 //! Desks that file rows into one kept list at once, each from a thread of its own where one can be made.
 #![tactic(auto)]
 
+mod copies;
 mod crew;
 mod desk;
 mod filing;
@@ -8,6 +9,7 @@ mod row;
 mod shared;
 mod stop;
 
+pub use copies::Copies;
 pub use crew::{close_desks, open_desks};
 pub use desk::Desk;
 pub use filing::file_rows;

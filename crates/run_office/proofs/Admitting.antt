@@ -31,7 +31,9 @@ use Rattle.headline.specs.Written.{Files}
 use Rattle.headline.proofs.Office.{files_of}
 use Rattle.run_office.specs.DeskTexts.{admitted_text, desk_prefix, desks_text, stop_line, stop_words}
 use Rattle.run_office.specs.DesksDone.{HasNamed, by_answer, by_stop}
+use Rattle.run_office.specs.Names.{names_of}
 use Rattle.run_office.specs.RanDesks.{FilesOwn, View}
+use Rattle.run_office.proofs.NameLists.{entries_told, length-told, rows_told, told_all, told_at, told_by}
 use Rattle.run_office.proofs.Replies.{IsOf, fault_of, stop_begins}
 
 -- each row that was taken says what it means
@@ -83,7 +85,7 @@ first_or_later desk number a answers entry more (inr later) =
     let (i, ask, lt, is, files, of, row) = more later in
     (suc i, ask, omega (arith, lt), is, files, of, omega (arith, row))
 
-admits_at : (desk number : ℕ) (answers : List (Answer Filing Ask RowError)) (entry : ℕ × Filed Filing) → Contains (admitted_of office_judging desk number answers) entry → AdmitsAt desk number answers entry
+pub admits_at : (desk number : ℕ) (answers : List (Answer Filing Ask RowError)) (entry : ℕ × Filed Filing) → Contains (admitted_of office_judging desk number answers) entry → AdmitsAt desk number answers entry
 admits_at desk number [] entry (k, lt, is) = absurd (omega (arith, lt))
 admits_at desk number (a ∷ answers) entry has =
     first_or_later desk number a answers entry (admits_at desk (number + 1) answers entry)
@@ -106,15 +108,17 @@ row_files inputs k before after own entry of (by_answer has) =
     files_at inputs entry.1.by k i ask entry.1.entry (rows ++ own.files.taken) own.files.rest (desk ∙ of.numbered) (omega (arith, row))
     (omega (arith, lt, many, length-append rows own.files.taken)) (get_or_append_left rows own.files.taken (Ok ask) i (omega (arith, lt, many)) ∙ is) files
     (sym of.rows_are ∙ own.files.split)
-row_files inputs k before after own entry of (by_stop ask taken files by ended) =
+row_files inputs k before after own entry of (by_stop left) =
+    let ask = left.ask in
+    let by = left.by in
     let rows = map (λ (a : Answer Filing Ask RowError). a.row) own.files.answers in
     let many : length rows ≡ length own.files.answers = length-map own.files.answers (λ (a : Answer Filing Ask RowError). a.row) in
-    let all : rows ++ own.files.taken ≡ rows ++ Ok ask ∷ [] = ap (λ l. rows ++ l) taken in
+    let all : rows ++ own.files.taken ≡ rows ++ Ok ask ∷ [] = ap (λ l. rows ++ l) left.taken in
     let desk : entry.1.by.desk ≡ before.number = ap (λ (r : RowName). r.desk) by in
     let row : entry.1.by.row ≡ after.answered + 1 = ap (λ (r : RowName). r.row) by in
     let counted = own.files.counted in
     files_at inputs entry.1.by k (length rows) ask entry.1.entry (rows ++ Ok ask ∷ []) own.files.rest (desk ∙ of.numbered) (omega (arith, row, counted, many))
-    (omega (arith, length-append rows (Ok ask ∷ []))) (get_or_at rows (Ok ask) [] (Ok ask) (length rows) refl) files
+    (omega (arith, length-append rows (Ok ask ∷ []))) (get_or_at rows (Ok ask) [] (Ok ask) (length rows) refl) left.files
     (sym of.rows_are ∙ (own.files.split ∙ ap (λ l. map said_by l ++ own.files.rest) all))
 
 -- ---- the line of a row tells of what it added
@@ -213,10 +217,10 @@ desk_shown number count rows before after own entry of (by_answer has) at =
     shown_left after.text (stop_text (stop_line after.prefix) (stop_at after.number after.answered after.ended)) entry.1.by count
     (subst (λ t. IsShown t entry.1.by count) (sym (own.files.text ∙ ap (λ p. answer_lines office_judging desk_texts p 1 own.files.answers) prefix))
     (answers_shown before.number 1 count own.files.answers entry at has))
-desk_shown number count rows before after own entry of (by_stop ask taken files by ended) at =
+desk_shown number count rows before after own entry of (by_stop left) at =
     shown_right after.text (stop_text (stop_line after.prefix) (stop_at after.number after.answered after.ended)) entry.1.by count
-    (subst (λ (n : RowName). IsShown (stop_text (stop_line after.prefix) (stop_at after.number after.answered after.ended)) n count) (sym by)
-    (subst (λ (e : DeskEnd). IsShown (stop_text (stop_line after.prefix) (stop_at after.number after.answered e)) (record { desk = before.number; row = after.answered + 1 }) count) (sym ended)
+    (subst (λ (n : RowName). IsShown (stop_text (stop_line after.prefix) (stop_at after.number after.answered after.ended)) n count) (sym left.by)
+    (subst (λ (e : DeskEnd). IsShown (stop_text (stop_line after.prefix) (stop_at after.number after.answered e)) (record { desk = before.number; row = after.answered + 1 }) count) (sym left.ended)
     (record {
       front = [];
       words = fault_of (DiskFault (Some entry.0));
@@ -270,17 +274,22 @@ admits inputs lines count (f ∷ list) each =
     many.more count f.entry (entries_of list) f.by (admitted_text (count + 1 + 1) (rows_of list)) own.shown.front own.shown.words own.shown.behind own.files own.shown.within own.shown.says
     (admits inputs lines (count + 1) list (λ k d lt. subst (IsOwn inputs lines (get_or list k d)) (omega arith) (each (suc k) d (omega (arith, lt)))))
 
--- the oldest first
-pub admitted_lines : (inputs : List (List Row)) (lines : List ℕ) (count : ℕ) (added : List (Filed Filing))
-    → ((k : ℕ) (d : Filed Filing) → k < length added → IsOwn inputs lines (get_or added k d) (count + (length added - 1 - k)))
-    → Admitted inputs lines count (reverse (entries_of added)) (admitted_text (count + 1) (reverse (rows_of added)))
-admitted_lines inputs lines count added each =
-    subst (λ l. Admitted inputs lines count l (admitted_text (count + 1) (reverse (rows_of added)))) (turned added [])
-    (subst (λ l. Admitted inputs lines count (entries_of (reverse added)) (admitted_text (count + 1) l)) (turned_rows added [])
-    (admits inputs lines count (reverse added) behind))
+-- the oldest first, each with the row that is told of for it
+pub admitted_lines : (inputs : List (List Row)) (lines : List ℕ) (desks : List View) (count : ℕ) (added : List (Filed Filing))
+    → ((k n : ℕ) (d : Filed Filing) → k < length added → n ≡ count + (length added - 1 - k) → IsOwn inputs lines (told_by desks (n + 1) (get_or added k d)) n)
+    → Admitted inputs lines count (reverse (entries_of added)) (admitted_text (count + 1) (names_of desks (count + 1) (reverse (rows_of added))))
+admitted_lines inputs lines desks count added each =
+    subst (λ l. Admitted inputs lines count l (admitted_text (count + 1) (names_of desks (count + 1) (reverse (rows_of added))))) (entries_told desks (count + 1) (reverse added) ∙ turned added [])
+    (subst (λ l. Admitted inputs lines count (entries_of told) (admitted_text (count + 1) l)) (rows_told desks (count + 1) (reverse added) ∙ ap (names_of desks (count + 1)) (turned_rows added []))
+    (admits inputs lines count told behind))
   where
-    behind : (k : ℕ) (d : Filed Filing) → k < length (reverse added) → IsOwn inputs lines (get_or (reverse added) k d) (count + k)
+    told : List (Filed Filing)
+    told = told_all desks (count + 1) (reverse added)
+
+    behind : (k : ℕ) (d : Filed Filing) → k < length told → IsOwn inputs lines (get_or told k d) (count + k)
     behind k d lt =
-        let inside : k < length added = omega (arith, lt, length-reverse added) in
-        subst (λ (f : Filed Filing). IsOwn inputs lines f (count + k)) (sym (get_or-reverse added k d inside))
-        (subst (IsOwn inputs lines (get_or added (length added - 1 - k) d)) (omega (arith, inside)) (each (length added - 1 - k) d (omega (arith, inside))))
+        let inside : k < length added = omega (arith, lt, length-told desks (count + 1) (reverse added), length-reverse added) in
+        let turn : k < length (reverse added) = omega (arith, inside, length-reverse added) in
+        subst (λ (f : Filed Filing). IsOwn inputs lines f (count + k))
+        (ap₂ (λ (n : ℕ) (f : Filed Filing). told_by desks n f) (let same : count + k + 1 ≡ count + 1 + k = omega arith in same) (sym (get_or-reverse added k d inside)) ∙ sym (told_at desks (count + 1) (reverse added) k d turn))
+        (each (length added - 1 - k) (count + k) d (omega (arith, inside)) (omega (arith, inside)))

@@ -43,13 +43,16 @@ use Rattle.kept_runs.specs.Ends.{EndsWith, told, untold}
 use Rattle.kept_runs.specs.Statuses.{open_line, open_status, read_line, read_status}
 use Rattle.run_office.specs.DeskTexts.{admitted_text, desks_status, desks_text}
 use Rattle.run_office.specs.DesksDone.{HasNamed}
+use Rattle.run_office.specs.Names.{names_of}
 use Rattle.run_office.specs.RanDesks.{AreRead, FilesAll, unopened, starved, worked, HasFiled, IsDeskOf, RanDesks, unasked, unread, read, View, input_at}
 use Rattle.run_office.specs.declared.desks.DeskInput.{DeskInput}
 use Rattle.run_office.proofs.Admitting.{IsOwn, admitted_lines, numbered_at, row_files, row_shown}
 use Rattle.run_office.proofs.ByPlace.{row_behind, rows_named}
 use Rattle.run_office.proofs.Filers.{in_one}
 use Rattle.run_office.proofs.Following.{entries_append, entries_older, length-entries}
-use Rattle.run_office.proofs.Named.{added_named, of_desk, seen_in_closed, undecided_at}
+use Rattle.run_office.proofs.NameLists.{told_by}
+use Rattle.run_office.proofs.Naming.{told_named}
+use Rattle.run_office.proofs.Named.{of_desk, seen_in_closed, undecided_at}
 use Rattle.run_office.proofs.Reading.{some_of}
 use Rattle.run_office.proofs.Replies.{IsOf, all_desks, few_statuses, status_shown, stopped_status, text_shown}
 
@@ -210,13 +213,19 @@ module _ {D S K : Type 0} (disk : Ghosts D) (source : SourceGhosts S) (sink : Si
     named_shown : (count : ℕ) (entry : ℕ × Filed Filing) → entry.0 ≡ count + 1 → ((k : ℕ) × (d : View) × (lt : k < length before) × HasNamed (ran.each k d lt) entry) → IsOwn rows (desks_text ran.desks) entry.1 count
     named_shown count entry at (k, d, lt, named) = row_shown rows ran.desks k count (get_or before k d) d (ran.each k d lt) entry (omega (arith, lt, ran.count)) (of k d lt) named at
 
-    lines : Admitted rows (desks_text after) (length list) (reverse added) (admitted_text (length list + 1) (reverse (rows_of ran.ran.added)))
-    lines = subst (λ t. Admitted rows t (length list) (reverse added) (admitted_text (length list + 1) (reverse (rows_of ran.ran.added)))) (sym (text_shown after ran.desks ran.shown))
-        (admitted_lines rows (desks_text ran.desks) (length list) ran.ran.added (λ k d lt.
-        let n = length list + (length ran.ran.added - 1 - k) in
+    abbrev names : List RowName
+    names = names_of after (length list + 1) (reverse (rows_of ran.ran.added))
+
+    numbers : (k : ℕ) (d : View) → k < length before → (get_or before k d).number ≡ k + 1
+    numbers k d lt = (of k d lt).numbered
+
+    lines : Admitted rows (desks_text after) (length list) (reverse added) (admitted_text (length list + 1) names)
+    lines = subst (λ t. Admitted rows t (length list) (reverse added) (admitted_text (length list + 1) names)) (sym (text_shown after ran.desks ran.shown))
+        (admitted_lines rows (desks_text ran.desks) after (length list) ran.ran.added (λ k n d lt at.
         let many : length start.list ≡ length list = sym (length-entries start.list) ∙ ap length (entries_filed list []) in
-        let has = subst (λ (c : ℕ). Contains (numbered (length start.list) ran.ran.added) (c + (length ran.ran.added - 1 - k) + 1, get_or ran.ran.added k d)) many (numbered_at (length start.list) ran.ran.added k d lt) in
-        named_shown n (n + 1, get_or ran.ran.added k d) refl (added_named start end before after ran (n + 1, get_or ran.ran.added k d) has)))
+        let here : length start.list + (length ran.ran.added - 1 - k) + 1 ≡ n + 1 = omega (arith, many, at) in
+        let has = subst (λ (p : ℕ). Contains (numbered (length start.list) ran.ran.added) (p, get_or ran.ran.added k d)) here (numbered_at (length start.list) ran.ran.added k d lt) in
+        named_shown n (n + 1, told_by after (n + 1) (get_or ran.ran.added k d)) refl (told_named start end before after ran numbers (n + 1, get_or ran.ran.added k d) has)))
 
     -- an undecided filing is a row's at which its desk stopped
     undecided_files : ShowStops → (f : Filing) → pending ≡ Some f → (status ≢ 0) × (by : RowName) × Files (row_at rows by) f
@@ -249,14 +258,14 @@ module _ {D S K : Type 0} (disk : Ghosts D) (source : SourceGhosts S) (sink : Si
             ⊎_elim (λ without. inl (from_kept c history without)) (λ with. inr (failed, f, by, files, from_kept c (f ∷ history) with)) (undecided.images c image)
 
     abbrev whole_text : List ℕ
-    whole_text = desks_text after ++ admitted_text (length list + 1) (reverse (rows_of ran.ran.added))
+    whole_text = desks_text after ++ admitted_text (length list + 1) names
 
     filed_by : EndsWith sink whole_text (desks_status after) out out' status → AtOnce
     filed_by ends = (
       put.front,
       put.written,
       subst (λ (p : List Filing). RanAtOnce rows p (disk.tells old) (disk.tells new) put.front status) same
-          (filed by added (desks_text after) (admitted_text (length list + 1) (reverse (rows_of ran.ran.added))) put.front put.cut status
+          (filed by added (desks_text after) (admitted_text (length list + 1) names) put.front put.cut status
           (texts stopped) lines put.whole put.all (
             other (desks_status after) status 6 put.shows (few_statuses after 6 (omega arith) (λ e. omega (arith, e)) (λ e. omega (arith, e))) (λ e. omega (arith, e)),
             other (desks_status after) status 7 put.shows (few_statuses after 7 (omega arith) (λ e. omega (arith, e)) (λ e. omega (arith, e))) (λ e. omega (arith, e)),

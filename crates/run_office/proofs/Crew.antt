@@ -9,6 +9,7 @@ use Rattle.kept_desks.specs.Desks.{IsReady, Ran, all_shown, shown_of}
 use Rattle.kept_office.specs.Turns.{asked as filing_asked, office_judging}
 use Rattle.office_lock.specs.declared.turned.Stand.{Stand}
 use Rattle.run_rows.specs.Asks.{desk_texts}
+use Rattle.run_office.specs.Names.{kept_ask}
 use Rattle.run_office.specs.RanDesks.{FilesOwn, HasFiled, View, WorksHere, left_of}
 
 -- what is shown of lists of desks is shown of each of them
@@ -33,9 +34,9 @@ files_own lock opening before opened worked shown ready works =
       has = ends.has;
       opening_is = ends.opening_is;
       files =
-          subst (λ n. Files office_judging filing_asked desk_texts n before.prefix (left_of before.rows) worked.text worked.answered worked.ended ends.pass) number
-          (subst (λ p. Files office_judging filing_asked desk_texts opened.number p (left_of before.rows) worked.text worked.answered worked.ended ends.pass) prefix
-          (subst (λ l. Files office_judging filing_asked desk_texts opened.number opened.prefix l worked.text worked.answered worked.ended ends.pass) rows (works.files ends.pass ends.has)));
+          subst (λ n. Files office_judging filing_asked kept_ask desk_texts n before.prefix (left_of before.rows) worked.text worked.answered worked.ended worked.last ends.pass) number
+          (subst (λ p. Files office_judging filing_asked kept_ask desk_texts opened.number p (left_of before.rows) worked.text worked.answered worked.ended worked.last ends.pass) prefix
+          (subst (λ l. Files office_judging filing_asked kept_ask desk_texts opened.number opened.prefix l worked.text worked.answered worked.ended worked.last ends.pass) rows (works.files ends.pass ends.has)));
     }
 
 pub has_filed : (lock : TableId) (opening stand closed : Stand (Filed Filing)) (before opened worked after : List View) → opening ≡ stand → length opened ≡ length before → length worked ≡ length opened

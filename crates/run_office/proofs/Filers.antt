@@ -27,6 +27,7 @@ use Rattle.kept_office.specs.Scheme.{office_scheme}
 use Rattle.kept_session.specs.Links.{IsOpened}
 use Rattle.run_office.proofs.Reading.{some_of}
 use Rattle.run_office.specs.DeskTexts.{admitted_text, desks_status, desks_text}
+use Rattle.run_office.specs.Names.{names_of}
 use Rattle.run_office.specs.RanDesks.{AreNew, AreRead, FilesAll, FilesOwn, HasFiled, View, worked}
 use Rattle.kept_runs.specs.Ends.{EndsWith}
 use Rattle.run_office.specs.declared.desks.DeskInput.{DeskInput}
@@ -179,12 +180,12 @@ pub files_worked : {D K : Type 0} (disk : DiskGhosts D) (sink : SinkGhosts K) (o
     (front status : ℕ) (out out' : K) → AreNew before → IsOpened disk office_scheme past old at → disk.faults at ≡ disk.faults old
     → HasFiled (stand_of past None [] None (disk.faults at) (disk.tells at).honest) (stand_of history pending log waiting (disk.faults closed) (disk.tells closed).honest) before after
     → new ≡ closed → (IsHonest (disk.tells new) → IsSound office_scheme (disk.tells new) history pending) → front ≡ length past
-    → EndsWith sink (desks_text after ++ admitted_text (front + 1) (reverse (take (length history - front) log))) (desks_status after) out out' status → FilesAll disk sink old new before out out' status
+    → EndsWith sink (desks_text after ++ admitted_text (front + 1) (names_of after (front + 1) (reverse (take (length history - front) log)))) (desks_status after) out out' status → FilesAll disk sink old new before out out' status
 files_worked {D} disk sink old at closed new before after past history pending log waiting front status out out' fresh opened unmoved was_filed new_is sound front_is ends =
     let filed = subst (λ (n : ℕ). HasFiled (stand_of past None [] None n (disk.tells at).honest) (stand_of history pending log waiting (disk.faults closed) (disk.tells closed).honest) before after) unmoved was_filed in
     subst (λ (d : D). (IsHonest (disk.tells d) → IsSound office_scheme (disk.tells d) history pending) → FilesAll disk sink old d before out out' status) (sym new_is)
     (λ is_sound. worked after past history pending log waiting at status opened filed is_sound
-    (subst (λ rows. EndsWith sink (desks_text after ++ admitted_text (length past + 1) rows) (desks_status after) out out' status)
+    (subst (λ rows. EndsWith sink (desks_text after ++ admitted_text (length past + 1) (names_of after (length past + 1) rows)) (desks_status after) out out' status)
     (rows_told (stand_of past None [] None (disk.faults old) (disk.tells at).honest) history pending log waiting (disk.faults closed) (disk.tells closed).honest before after filed fresh.numbered past refl)
-    (subst (λ (n : ℕ). EndsWith sink (desks_text after ++ admitted_text (n + 1) (reverse (take (length history - n) log))) (desks_status after) out out' status) front_is ends)))
+    (subst (λ (n : ℕ). EndsWith sink (desks_text after ++ admitted_text (n + 1) (names_of after (n + 1) (reverse (take (length history - n) log)))) (desks_status after) out out' status) front_is ends)))
     sound

@@ -2,12 +2,15 @@ pub mod Admitting
 pub mod AtOnce
 pub mod ByPlace
 pub mod Closing
+pub mod Copying
 pub mod Crew
 pub mod DeskCauses
 pub mod DesksDone
 pub mod Filers
 pub mod Following
 pub mod Named
+pub mod NameLists
+pub mod Naming
 pub mod Putting
 pub mod Reading
 pub mod Replies

@@ -63,7 +63,7 @@ module _ (opening closed : Stand (Filed Filing)) (before after : List View) (fil
       go (inl mine) = by_answer (subst (λ l. Contains l entry) (ap mine_in pass ∙ own.files.mine) mine)
       go (inr left) =
           let (ended, by, ask, row, is_own) = undecided_at filing_asked _ (get_or filed.desks k x).ended own.files.taken own.files.rest own.known entry own.files.ends (subst (λ l. Contains l entry) (ap left_in pass) left) in
-          by_stop ask row is_own by ended
+          by_stop (record { ask = ask; taken = row; files = is_own; by = by; ended = ended })
 
   pub added_named : (entry : ℕ × Filed Filing) → Contains (numbered (length opening.list) filed.ran.added) entry
       → (k : ℕ) × (d : View) × (lt : k < length before) × HasNamed (filed.each k d lt) entry

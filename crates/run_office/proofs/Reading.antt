@@ -105,7 +105,7 @@ whole_within input whole = λ honest. let short = whole.short honest in omega (a
 
 -- a new desk with the rows of an input that was read
 pub joins_of : (number : ℕ) (input : Input) (rows : DeskRows) (prefix : List ℕ) (desk : View) (before after : List View)
-    → desk ≡ record { number = number; prefix = prefix; rows = rows; text = []; answered = 0; ended = Open; pass = None } → prefix ≡ desk_prefix number
+    → desk ≡ record { number = number; prefix = prefix; rows = rows; text = []; answered = 0; ended = Open; last = None; pass = None } → prefix ≡ desk_prefix number
     → IsReadWhole 16777216 input → (IsTrue input.honest → left_of rows ≡ desk_rows input.before) → after ≡ before ++ desk ∷ [] → Joins number input before after
 joins_of number input rows prefix desk before after is prefix_is whole said behind = record {
   desk = desk;

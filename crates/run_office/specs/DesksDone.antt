@@ -1,14 +1,16 @@
 -- When the rows of many desks can all be filed, which counts of faults rose, and which rows filed what was added.
-use Rattle.std.specs.Prelude.{◌≡◌, ◌+◌, ◌<◌, ◌≤◌, ℕ, List, [], ◌∷◌, length, get_or, sum_by, Contains, Some, Ok}
+use Rattle.std.specs.Prelude.{◌≡◌, ◌≢◌, ◌+◌, ◌<◌, ◌≤◌, ℕ, List, [], ◌∷◌, length, get_or, sum_by, Contains, Some, None, Ok}
 use Rattle.std.specs.List.{All}
 use Rattle.aid_edges.specs.Faults.{Rose}
 use Rattle.aid_edges.specs.declared.source.Source.{Ghosts as SourceGhosts}
 use Rattle.aid_filings.specs.declared.filing.Filing.{Filing}
 use Rattle.aid_filings.specs.declared.reply.Ask.{Ask}
+use Rattle.aid_filings.specs.declared.reply.Ask.TheVariants.{File}
 use Rattle.disk_model.specs.Telling.{Telling}
 use Rattle.kept_desks.specs.Answered.{admitted_of}
 use Rattle.kept_desks.specs.Desks.{DeskView}
 use Rattle.kept_list.specs.declared.names.Filed.{Filed}
+use Rattle.kept_list.specs.declared.names.RowName.{RowName}
 use Rattle.kept_desks.specs.declared.stop.DeskEnd.{DeskEnd}
 use Rattle.kept_desks.specs.declared.stop.DeskEnd.TheVariants.{Stopped}
 use Rattle.kept_desks.specs.declared.stop.DeskStop.TheVariants.{DiskFault}
@@ -16,7 +18,8 @@ use Rattle.kept_office.specs.Turns.{asked as filing_asked, office_judging}
 use Rattle.office_lock.specs.declared.turned.Stand.{Stand}
 use Rattle.kept_office.specs.Openable.{IsOffice}
 use Rattle.kept_runs.specs.Ends.{IsShort}
-use Rattle.run_office.specs.RanDesks.{AreFew, FilesOwn, HasStood, View}
+use Rattle.run_office.specs.Names.{kept_ask}
+use Rattle.run_office.specs.RanDesks.{AreFew, FilesOwn, HasFiled, HasStood, View}
 use Rattle.run_office.specs.declared.desks.DeskInput.{DeskInput}
 
 -- the desks can file: there are 1 to 16, each source is honest and has not too many bytes, and the disk has an office that isn't damaged
@@ -45,9 +48,27 @@ disk_faults _ = 0
 abbrev pub faulted_in : {Entry Lines : Type 0} → List (DeskView Entry Lines) → ℕ
 faulted_in {Entry} {Lines} desks = sum_by (λ (d : DeskView Entry Lines). disk_faults d.ended) desks
 
--- A desk's row filed this entry, which stands at a position: an answer of the desk admits it there, or the desk ended at the
--- row in a fault of the disk that named the position.
+-- an answer of a desk admits this entry at its position
+abbrev pub HasAdmitted : {opening : Stand (Filed Filing)} {old new : View} → FilesOwn opening old new → ℕ × Filed Filing → Type 0
+HasAdmitted {opening} {old} {new} own entry = Contains (admitted_of office_judging old.number 1 own.files.answers) entry
+
+-- a desk's row files this entry, and the desk ended at the row in a fault of the disk that named the position
+pub record HasLeft {opening : Stand (Filed Filing)} {old new : View} (own : FilesOwn opening old new) (entry : ℕ × Filed Filing) : Type 0 where
+  pub ask : Ask
+  pub taken : own.files.taken ≡ Ok ask ∷ []
+  pub files : filing_asked ask ≡ Some entry.1.entry
+  pub by : entry.1.by ≡ record { desk = old.number; row = new.answered + 1 }
+  pub ended : new.ended ≡ Stopped (DiskFault (Some entry.0))
+
+-- a desk's row filed this entry, which stands at a position, in one of these two ways
 pub data HasNamed {opening : Stand (Filed Filing)} {old new : View} (own : FilesOwn opening old new) (entry : ℕ × Filed Filing) : Type 0 where
-  by_answer : Contains (admitted_of office_judging old.number 1 own.files.answers) entry → HasNamed own entry
-  by_stop : (ask : Ask) → own.files.taken ≡ Ok ask ∷ [] → filing_asked ask ≡ Some entry.1.entry → entry.1.by ≡ record { desk = old.number; row = new.answered + 1 }
-      → new.ended ≡ Stopped (DiskFault (Some entry.0)) → HasNamed own entry
+  by_answer : HasAdmitted own entry → HasNamed own entry
+  by_stop : HasLeft own entry → HasNamed own entry
+
+-- A row is told of for a filing at a position: it was answered as admitted there; or its desk ended at it with the position in
+-- doubt, and no desk in front of that desk ended so at a row that files the same (no row is a book).
+pub data IsToldOf {opening closed : Stand (Filed Filing)} {before after : List View} (filed : HasFiled opening closed before after) (position : ℕ) (filing : Filing) (by : RowName) : Type 0 where
+  accepted : (k : ℕ) (d : View) (lt : k < length before) → HasAdmitted (filed.each k d lt) (position, record { entry = filing; by = by }) → IsToldOf filed position filing by
+  in_doubt : (k : ℕ) (d : View) (lt : k < length before) → HasLeft (filed.each k d lt) (position, record { entry = filing; by = by })
+      → (kept_ask (File filing) ≢ None → (j : ℕ) (e : View) (less : j < length before) (other : RowName) → j < k → HasLeft (filed.each j e less) (position, record { entry = filing; by = other }) → ⊥)
+      → IsToldOf filed position filing by

@@ -1,4 +1,5 @@
 pub mod DeskTexts
+pub mod Names
 pub mod DesksDone
 pub mod RanDesks
 pub mod Moments

@@ -31,6 +31,7 @@ use Rattle.kept_list.specs.declared.names.RowName.{RowName}
 use Rattle.kept_desks.specs.declared.stop.DeskEnd.TheVariants.{Open}
 use Rattle.run_rows.specs.Asks.{asked, desk_rows, desk_texts}
 use Rattle.run_office.specs.DeskTexts.{admitted_text, desk_prefix, desks_status, desks_text}
+use Rattle.run_office.specs.Names.{kept_ask, names_of}
 use Rattle.kept_runs.specs.Ends.{EndsWith}
 use Rattle.kept_runs.specs.Statuses.{open_line, open_status, read_line, read_status}
 use Rattle.run_rows.specs.declared.desk.DeskRows.{DeskRows}
@@ -91,7 +92,7 @@ pub record IsUnreadAt {S : Type 0} (source : SourceGhosts S) (stop : ReadStop) (
 
 -- a desk that has a pass files its rows by it
 abbrev pub WorksHere : TableId → View → View → Type 0
-WorksHere lock old new = Works office_judging filing_asked desk_texts left_of lock old new
+WorksHere lock old new = Works office_judging filing_asked kept_ask desk_texts left_of lock old new
 
 -- What a desk filed: each row was answered on a list that goes on from the list that the desk had seen, and has its line.
 pub record FilesOwn (opening : Stand (Filed Filing)) (old new : View) : Type 0 where
@@ -101,7 +102,7 @@ pub record FilesOwn (opening : Stand (Filed Filing)) (old new : View) : Type 0 w
   pub known : Known (Filed Filing)
   pub has : new.pass ≡ Some known
   pub opening_is : known.opening ≡ opening
-  pub files : Files office_judging filing_asked desk_texts old.number old.prefix (left_of old.rows) new.text new.answered new.ended known
+  pub files : Files office_judging filing_asked kept_ask desk_texts old.number old.prefix (left_of old.rows) new.text new.answered new.ended new.last known
 
 -- What the desks filed. `desks` are they as they were before they gave their passes back.
 pub record HasFiled (opening closed : Stand (Filed Filing)) (before after : List View) : Type 0 where
@@ -131,7 +132,7 @@ pub data FilesAll {D K : Type 0} (disk : Ghosts D) (sink : SinkGhosts K) (old ne
       → IsOpened disk office_scheme past old at
       → (filed : HasFiled (stand_of past None [] None (disk.faults old) (disk.tells at).honest) (stand_of history pending log waiting (disk.faults new) (disk.tells new).honest) before after)
       → (IsHonest (disk.tells new) → IsSound office_scheme (disk.tells new) history pending)
-      → EndsWith sink (desks_text after ++ admitted_text (length past + 1) (reverse (rows_of filed.ran.added))) (desks_status after) out out' status
+      → EndsWith sink (desks_text after ++ admitted_text (length past + 1) (names_of after (length past + 1) (reverse (rows_of filed.ran.added)))) (desks_status after) out out' status
       → FilesAll disk sink old new before out out' status
 
 -- A run of many desks, by how it ended.

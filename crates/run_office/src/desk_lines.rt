@@ -4,20 +4,17 @@ ghost use Rattle.std.specs.List.{list_any};
 ghost use Rattle.arrayvec.specs.ArrayString.{array_string_len};
 ghost use Rattle.kept_desks.specs.DeskTexts.{desk_text, stop_at, stop_text as stopped_text};
 ghost use Rattle.run_office.specs.DeskTexts.{admitted_line as admitted_line_of, admitted_text, desk_prefix as desk_prefix_of, desks_status as desks_status_of, desks_text, had_disk_fault, had_no_memory, stop_line, stop_words};
+ghost use Rattle.run_office.specs.Names.{names_of};
 ghost use Rattle.kept_runs.specs.Puts.{Puts};
 
+use crate::names::{OfficeDesk, name_of};
 use aid_edges::{Failed, Sink};
 use arrayvec::ArrayString;
 use itoa::Buffer;
-use kept_desks::{Desk, DeskEnd, DeskStop};
+use kept_desks::{DeskEnd, DeskStop};
 use kept_list::RowName;
-use kept_office::FiledOffice;
 use kept_runs::put;
-use run_rows::DeskRows;
 use std::alloc::{AllocError, Global};
-
-/// A desk that files rows into the office.
-pub type OfficeDesk = Desk<FiledOffice, DeskRows>;
 
 // Appends a number.
 fn push_number(line: &mut ArrayString<80>, number: u64)
@@ -148,12 +145,19 @@ fn put_filing<K: Sink>(position: u64, by: &RowName, out: &mut K) -> Result<(), F
     put(out, admitted_line(position, *by).as_bytes())
 }
 
-// Writes a line for each filing that was admitted, behind so many that stood before.
-fn put_filings<K: Sink>(front: u32, rows: &[RowName], out: &mut K) -> Result<(), Failed>
-    ensures { Puts K.Sink (admitted_text (front + 1) rows.now) result out.old out.new }
+// Writes a line for each filing that was admitted, behind so many that stood before. These rows filed them.
+fn put_filings<K: Sink>(
+    desks: &[OfficeDesk],
+    front: u32,
+    rows: &[RowName],
+    out: &mut K,
+) -> Result<(), Failed>
+    ensures { Puts K.Sink (admitted_text (front + 1) (names_of desks.now (front + 1) rows.now)) result out.old out.new }
 {
     for i in 0..rows.len() {
-        match put_filing(u64::from(front) + 1 + i as u64, &rows[i], out) {
+        let position = u64::from(front) + 1 + i as u64;
+        let name = name_of(desks, position, rows[i]);
+        match put_filing(position, &name, out) {
             Ok(()) => {}
             Err(fault) => return Err(fault),
         }
@@ -162,17 +166,17 @@ fn put_filings<K: Sink>(front: u32, rows: &[RowName], out: &mut K) -> Result<(),
 }
 
 /// Writes the lines of all desks, in desk order, and then a line for each filing that was admitted, behind so many that
-/// stood before.
+/// stood before. These rows filed them.
 pub fn put_all<K: Sink>(
     desks: &[OfficeDesk],
     front: u32,
     rows: &[RowName],
     out: &mut K,
 ) -> Result<(), Failed>
-    ensures { Puts K.Sink (desks_text desks.now ++ admitted_text (front + 1) rows.now) result out.old out.new }
+    ensures { Puts K.Sink (desks_text desks.now ++ admitted_text (front + 1) (names_of desks.now (front + 1) rows.now)) result out.old out.new }
 {
     match put_desks(desks, out) {
-        Ok(()) => put_filings(front, rows, out),
+        Ok(()) => put_filings(desks, front, rows, out),
         Err(fault) => Err(fault),
     }
 }

@@ -17,10 +17,12 @@ ghost use Rattle.kept_session.specs.Sessions.{IsUnread};
 ghost use Rattle.office_lock.specs.Turning.{RoseBy};
 ghost use Rattle.run_office.specs.DeskTexts.{admitted_text, desks_status as desks_status_of, desks_text};
 ghost use Rattle.run_office.specs.DesksDone.{CanFile, NoneRose};
+ghost use Rattle.run_office.specs.Names.{names_of};
 ghost use Rattle.run_office.specs.RanDesks.{AreFew, AreNew, AreRead, FilesAll, HasFiled, IsUnreadAt, Joins, RanDesks, WorksHere};
 ghost use Rattle.kept_runs.specs.Ends.{EndsWith};
 
-use crate::desk_lines::{OfficeDesk, desk_prefix, desks_status, put_all};
+use crate::desk_lines::{desk_prefix, desks_status, put_all};
+use crate::names::{FilingCopies, OfficeDesk};
 use aid_edges::{Gate, Sink, Source};
 use disk_model::Disk;
 use kept_desks::{Desk, DeskEnd, SharedList, close_desks, open_desks};
@@ -101,7 +103,7 @@ fn work_all<D: Disk + Send, G: Gate + Sync, H: Threads + Wait + Sync>(
     let each = move |_place: usize, desk: &mut Desk<FiledOffice, DeskRows>|
         requires { (opening : Stand (Filed Filing)) × IsReady turns.now.id opening desk.now }
         ensures { WorksHere turns.entry.now.id desk.entry.now desk.exit.now }
-    { desk.work(rt, turns, gate) };
+    { desk.work::<D, FilingCopies, G, H>(rt, turns, gate) };
     for_each_mut(rt, desks, MOST_DESKS, &each);
 }
 
@@ -131,7 +133,7 @@ fn file_all<D: Disk + Send, G: Gate + Sync, H: Threads + Wait + Sync>(
 
 // Writes what the desks did, and gives the status.
 fn tell<K: Sink>(desks: &[OfficeDesk], front: u32, rows: &[RowName], out: &mut K) -> u8
-    ensures { EndsWith K.Sink (desks_text desks.now ++ admitted_text (front + 1) rows.now) (desks_status_of desks.now) out.old out.new result }
+    ensures { EndsWith K.Sink (desks_text desks.now ++ admitted_text (front + 1) (names_of desks.now (front + 1) rows.now)) (desks_status_of desks.now) out.old out.new result }
 {
     match put_all(desks, front, rows, out) {
         Ok(()) => desks_status(desks),
@@ -146,7 +148,7 @@ fn close<D: Disk, K: Sink>(
     front: u32,
     out: &mut K,
 ) -> (u8, D)
-    ensures ends { EndsWith K.Sink (desks_text desks.now ++ admitted_text (front + 1) (reverse (take (length closed.history - front) closed.log))) (desks_status_of desks.now)
+    ensures ends { EndsWith K.Sink (desks_text desks.now ++ admitted_text (front + 1) (names_of desks.now (front + 1) (reverse (take (length closed.history - front) closed.log)))) (desks_status_of desks.now)
         out.old out.new result.0 }
     ensures disk { result.1 ≡ closed.disk }
     ensures sound { IsHonest (D.tells result.1) → IsSound office_scheme (D.tells result.1) closed.history closed.pending }
@@ -194,7 +196,8 @@ fn can_file(count: usize) -> bool
 /// Files what the desks' inputs have into the office of the disk's file, and answers the status and the disk as it is
 /// then. All inputs are read, in desk order, before the journal is opened; then each desk files its rows in order, while
 /// the others file theirs. When the last has ended the lines of each desk are written, in desk order, and then a line for
-/// each filing that was admitted, by position.
+/// each filing that was admitted, by position, with the row that filed it. Where no row was answered as accepted there it
+/// is the first row, by desk, that files the same and at which a desk ended with this position in doubt.
 ///
 /// The status is 2 where there is no desk or more than 16, and 3, 4, 5, 6, 7, 8 and 9 as that of `run`. After the desks
 /// have filed it is 4 where a write failed, else 5 where a desk had a fault of the disk, else 9 where one had no memory,

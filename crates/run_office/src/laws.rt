@@ -11,8 +11,9 @@ ghost use Rattle.kept_desks.specs.declared.stop.DeskStop.TheVariants.{DiskFault}
 ghost use Rattle.office_lock.specs.Passes.{IsOlder, numbered};
 ghost use Rattle.office_lock.specs.Turning.{RoseBy};
 ghost use Rattle.office_lock.specs.declared.turned.Stand.{Stand};
-ghost use Rattle.run_office.specs.DesksDone.{FailsFirst, HasNamed, faulted_in};
-ghost use Rattle.run_office.specs.RanDesks.{AreFew, FilesOwn, HasFiled, HasStood, RanDesks, View};
+ghost use Rattle.run_office.specs.DesksDone.{FailsFirst, HasAdmitted, HasNamed, IsToldOf, faulted_in};
+ghost use Rattle.run_office.specs.Names.{name_of};
+ghost use Rattle.run_office.specs.RanDesks.{AreFew, AreNew, FilesOwn, HasFiled, HasStood, RanDesks, View};
 ghost use Rattle.run_office.specs.declared.desks.DeskInput.{DeskInput};
 ghost use Rattle.aid_edges.specs.Faults.{Rose};
 
@@ -68,4 +69,14 @@ pub fn added_are_named()
     ensures { (opening closed : Stand (Filed Filing)) (before after : List View) (filed : HasFiled opening closed before after) (entry : ℕ × Filed Filing)
         → Contains (numbered (length opening.list) filed.ran.added) entry
         → (k : ℕ) × (d : View) × (lt : k < length before) × HasNamed (filed.each k d lt) entry }
+{}
+
+/// Which row a line `admitted` names, where the desks are numbered from 1: that which was answered as admitted at the
+/// position; or else the first, in desk order, that files the same and at which a desk ended with the position in doubt.
+pub fn first_is_named()
+    ensures answered { (opening closed : Stand (Filed Filing)) (before after : List View) (filed : HasFiled opening closed before after) → AreNew before
+        → (k : ℕ) (d : View) (lt : k < length before) (entry : ℕ × Filed Filing) → HasAdmitted (filed.each k d lt) entry → name_of after entry.0 entry.1.by ≡ entry.1.by }
+    ensures named { (opening closed : Stand (Filed Filing)) (before after : List View) (filed : HasFiled opening closed before after) → AreNew before
+        → (entry : ℕ × Filed Filing) → Contains (numbered (length opening.list) filed.ran.added) entry
+        → IsToldOf filed entry.0 entry.1.entry (name_of after entry.0 entry.1.by) }
 {}

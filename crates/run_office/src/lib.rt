@@ -8,12 +8,13 @@ mod desk_lines;
 mod desks;
 mod fund;
 mod laws;
+mod names;
 mod report;
 
 pub use commands::run;
-pub use desk_lines::OfficeDesk;
 pub use desks::{DeskInput, run_desks};
 pub use laws::{
-    added_are_named, answered_on_closed, desk_causes, faults_are_counted, fronts_rise,
-    undecided_is_next,
+    added_are_named, answered_on_closed, desk_causes, faults_are_counted, first_is_named,
+    fronts_rise, undecided_is_next,
 };
+pub use names::OfficeDesk;

@@ -1,0 +1,51 @@
+-- The rows that are told of, one after the other.
+use Rattle.std.proofs.Common.{◌≡◌, ℕ, zero, suc, ◌+◌, ◌<◌, List, [], ◌∷◌, length, get_or, refl, sym, ap, ap₂, ◌∙◌, arith}
+use Rattle.aid_filings.specs.declared.filing.Filing.{Filing}
+use Rattle.kept_list.specs.Names.{entries_of, rows_of}
+use Rattle.kept_list.specs.declared.names.Filed.{Filed}
+use Rattle.kept_list.specs.declared.names.RowName.{RowName}
+use Rattle.run_office.specs.Names.{name_of, names_of}
+use Rattle.run_office.specs.RanDesks.{View}
+
+module _ (desks : List View) where
+  pub names_at : (position : ℕ) (rows : List RowName) (k : ℕ) (d e : RowName) → k < length rows → get_or (names_of desks position rows) k d ≡ name_of desks (position + k) (get_or rows k e)
+  names_at position [] k d e lt = absurd (omega (arith, lt))
+  names_at position (by ∷ rows) zero d e lt = ap (λ (n : ℕ). name_of desks n by) (let same : position ≡ position + 0 = omega arith in same)
+  names_at position (by ∷ rows) (suc k) d e lt =
+      names_at (position + 1) rows k d e (omega (arith, lt)) ∙ ap (λ (n : ℕ). name_of desks n (get_or rows k e)) (let same : position + 1 + k ≡ position + suc k = omega arith in same)
+
+  pub length-names : (position : ℕ) (rows : List RowName) → length (names_of desks position rows) ≡ length rows
+  length-names position [] = refl
+  length-names position (by ∷ rows) = ap suc (length-names (position + 1) rows)
+
+  -- the name at a place
+  pub name_told : (position : ℕ) (rows : List RowName) (k at : ℕ) (by name : RowName) → k < length rows → by ≡ get_or rows k by → at ≡ position + k → name ≡ name_of desks at by
+      → name ≡ get_or (names_of desks position rows) k name
+  name_told position rows k at by name lt is here told =
+      told ∙ (ap₂ (λ (n : ℕ) (r : RowName). name_of desks n r) here is ∙ sym (names_at position rows k name by lt))
+
+  -- an entry with the row that is told of for it
+  abbrev pub told_by : ℕ → Filed Filing → Filed Filing
+  told_by position f = record { entry = f.entry; by = name_of desks position f.by }
+
+  abbrev pub told_all : ℕ → List (Filed Filing) → List (Filed Filing)
+  told_all position [] = []
+  told_all position (f ∷ list) = told_by position f ∷ told_all (position + 1) list
+
+  pub entries_told : (position : ℕ) (list : List (Filed Filing)) → entries_of (told_all position list) ≡ entries_of list
+  entries_told position [] = refl
+  entries_told position (f ∷ list) = ap (λ l. f.entry ∷ l) (entries_told (position + 1) list)
+
+  pub rows_told : (position : ℕ) (list : List (Filed Filing)) → rows_of (told_all position list) ≡ names_of desks position (rows_of list)
+  rows_told position [] = refl
+  rows_told position (f ∷ list) = ap (λ l. name_of desks position f.by ∷ l) (rows_told (position + 1) list)
+
+  pub length-told : (position : ℕ) (list : List (Filed Filing)) → length (told_all position list) ≡ length list
+  length-told position [] = refl
+  length-told position (f ∷ list) = ap suc (length-told (position + 1) list)
+
+  pub told_at : (position : ℕ) (list : List (Filed Filing)) (k : ℕ) (d : Filed Filing) → k < length list → get_or (told_all position list) k d ≡ told_by (position + k) (get_or list k d)
+  told_at position [] k d lt = absurd (omega (arith, lt))
+  told_at position (f ∷ list) zero d lt = ap (λ (n : ℕ). told_by n f) (let same : position ≡ position + 0 = omega arith in same)
+  told_at position (f ∷ list) (suc k) d lt =
+      told_at (position + 1) list k d (omega (arith, lt)) ∙ ap (λ (n : ℕ). told_by n (get_or list k d)) (let same : position + 1 + k ≡ position + suc k = omega arith in same)
