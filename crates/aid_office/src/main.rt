@@ -7,7 +7,6 @@ use filing_journal::OpenError;
 use fund_policy::{Rule, level, quarter, standard};
 use kept_runs::{RunStop, end};
 use kept_session::ReadStop;
-use kept_web::WebDesk;
 use run_office::{DeskInput, run, run_desks};
 use run_web::run_web;
 use run_words::{MainRow, needs_journal, row_of};
@@ -169,7 +168,7 @@ fn run_alone<K: Sink>(
     Ok(run(alloc, words, disk, &mut input, out, &policies).0)
 }
 
-// Serves on a port of this machine alone. The desks of all workers take their connections from one listener.
+// Serves on a port of this machine alone. All workers take their connections from one listener.
 fn serve<H: Net<Listener = TcpListener, Stream = TcpStream> + Threads + Wait + Sync, K: Sink>(
     rt: &H,
     alloc: Global,
@@ -182,13 +181,13 @@ fn serve<H: Net<Listener = TcpListener, Stream = TcpStream> + Threads + Wait + S
     let Ok(listener) = TcpListener::bind(rt, (Ipv4Addr::LOCALHOST, port)) else {
         return end(Err(RunStop::Socket), out);
     };
-    let mut desks = Vec::new(alloc);
+    let mut ports = Vec::new(alloc);
     for _ in 0..workers {
-        if desks.push(WebDesk::new(PortEdge::new(&listener))).is_err() {
+        if ports.push(PortEdge::new(&listener)).is_err() {
             return end(Err(RunStop::File(ReadStop::NoMemory.into())), out);
         }
     }
-    run_web(rt, alloc, &mut desks, sessions, disk, out).0
+    run_web(rt, alloc, &mut ports, sessions, disk, out).0
 }
 
 fn main(rt: HostRuntime) -> ExitCode {

@@ -1,4 +1,4 @@
--- What the desks did, from the opening of the lock to its end.
+-- What the workers did, from the opening of the lock to its end.
 use Rattle.std.proofs.Common.{◌≡◌, ◌≢◌, ℕ, ◌+◌, ◌<◌, ◌≤◌, List, Option, Some, length, get_or, slice_index_or, sym, ap, ◌∙◌, subst, arith}
 use Rattle.std.specs.List.{All}
 use Rattle.atomic_table.specs.Seated.{TableId}
@@ -11,11 +11,11 @@ use Rattle.kept_list.specs.declared.names.Filed.{Filed}
 use Rattle.web_desk.specs.Asks.{Scheme}
 use Rattle.web_edges.specs.Ports.{PortTelling}
 use Rattle.kept_web.specs.Sessions.{Served}
-use Rattle.kept_web.specs.Workers.{AreReady, HasEnded, HasServed, HasStopped, HoldsPass, IsReady, Ran, ServesOwn, WebView, Works, all_shown}
+use Rattle.kept_web.specs.Workers.{AreReady, HasEnded, HasServed, HasStopped, HoldsPass, IsReady, Ran, ServesOwn, WorkerView, Works, all_shown}
 use Rattle.kept_web.specs.declared.stop.WebEnd.{WebEnd}
 use Rattle.kept_web.specs.declared.stop.WebEnd.TheVariants.{Open, Done, PortFault}
 
--- a desk that stopped isn't open
+-- a worker that stopped isn't open
 not_open : (ended : WebEnd) (served limit old new : ℕ) → HasStopped ended served limit old new → ended ≢ Open
 not_open Open served limit old new stopped is = absurd stopped
 not_open Done served limit old new stopped is = cc
@@ -25,17 +25,17 @@ same_pass : {E : Type 0} {a b : Known (Filed E)} → Some a ≡ Some b → a ≡
 same_pass e = cc
 
 module _ {Entry P : Type 0} (lock : TableId) (opening : Stand (Filed Entry)) where
-  holds : (number : ℕ) (old now : WebView Entry P) → IsReady lock opening number old now → HoldsPass lock now
-  holds number old now ready = (ready.pass, ap (λ (d : WebView Entry P). d.pass) ready.is, ready.fresh.lock_is)
+  holds : (number : ℕ) (old now : WorkerView Entry P) → IsReady lock opening number old now → HoldsPass lock now
+  holds number old now ready = (ready.pass, ap (λ (d : WorkerView Entry P). d.pass) ready.is, ready.fresh.lock_is)
 
-  pub all_hold : (before opened : List (WebView Entry P)) → length opened ≡ length before → AreReady lock opening (length before) before opened → (k : ℕ) (d : WebView Entry P) → k < length opened → HoldsPass lock (slice_index_or opened k d)
+  pub all_hold : (before opened : List (WorkerView Entry P)) → length opened ≡ length before → AreReady lock opening (length before) before opened → (k : ℕ) (d : WorkerView Entry P) → k < length opened → HoldsPass lock (slice_index_or opened k d)
   all_hold before opened one ready k d lt = holds (k + 1) (get_or before k d) (get_or opened k d) (ready k d (omega (arith, lt, one)))
 
 module _ {Entry Ask Verdict P : Type 0} (judging : Judging Entry Ask Verdict) (own : Ask → Option Entry) (scheme : Scheme Ask (ListReply Verdict)) (tells : P → PortTelling) (faults : P → ℕ) (lock : TableId) (opening : Stand (Filed Entry)) (limit : ℕ) where
-  module _ (number : ℕ) (old now new : WebView Entry P) (ready : IsReady lock opening number old now) (works : Works judging own scheme tells faults lock limit now new) where
+  module _ (number : ℕ) (old now new : WorkerView Entry P) (ready : IsReady lock opening number old now) (works : Works judging own scheme tells faults lock limit now new) where
     ended : HasEnded lock opening new
     ended =
-        let ends = works.ends ready.pass (ap (λ (d : WebView Entry P). d.pass) ready.is) in
+        let ends = works.ends ready.pass (ap (λ (d : WorkerView Entry P). d.pass) ready.is) in
         record {
           pass = works.after;
           has = works.has;
@@ -47,9 +47,9 @@ module _ {Entry Ask Verdict P : Type 0} (judging : Judging Entry Ask Verdict) (o
 
     serves_own : ServesOwn judging own scheme tells faults opening number limit old new
     serves_own =
-        let ends = works.ends ready.pass (ap (λ (d : WebView Entry P). d.pass) ready.is) in
-        let port : now.port ≡ old.port = ap (λ (d : WebView Entry P). d.port) ready.is in
-        let numbered : now.number ≡ number = ap (λ (d : WebView Entry P). d.number) ready.is in
+        let ends = works.ends ready.pass (ap (λ (d : WorkerView Entry P). d.pass) ready.is) in
+        let port : now.port ≡ old.port = ap (λ (d : WorkerView Entry P). d.port) ready.is in
+        let numbered : now.number ≡ number = ap (λ (d : WorkerView Entry P). d.number) ready.is in
         record {
           numbered = works.number ∙ numbered;
           first = ready.pass;
@@ -62,14 +62,14 @@ module _ {Entry Ask Verdict P : Type 0} (judging : Judging Entry Ask Verdict) (o
           later = subst (λ p. faults p ≤ faults new.port) port works.later;
         }
 
-  module _ (before opened worked : List (WebView Entry P)) (one : length opened ≡ length before) (other : length worked ≡ length opened) (ready : AreReady lock opening (length before) before opened) (works : (k : ℕ) (d : WebView Entry P) → k < length opened → Works judging own scheme tells faults lock limit (slice_index_or opened k d) (slice_index_or worked k d)) where
+  module _ (before opened worked : List (WorkerView Entry P)) (one : length opened ≡ length before) (other : length worked ≡ length opened) (ready : AreReady lock opening (length before) before opened) (works : (k : ℕ) (d : WorkerView Entry P) → k < length opened → Works judging own scheme tells faults lock limit (slice_index_or opened k d) (slice_index_or worked k d)) where
     pub all_ended : All (HasEnded lock opening) worked
     all_ended k d lt = ended (k + 1) (get_or before k d) (get_or opened k d) (get_or worked k d) (ready k d (omega (arith, lt, one, other))) (works k d (omega (arith, lt, other)))
 
-    pub has_served : (stand closed : Stand (Filed Entry)) (after : List (WebView Entry P)) → opening ≡ stand → Ran opening closed worked → all_shown after ≡ all_shown worked → HasServed judging own scheme tells faults limit stand closed before after
+    pub has_served : (stand closed : Stand (Filed Entry)) (after : List (WorkerView Entry P)) → opening ≡ stand → Ran opening closed worked → all_shown after ≡ all_shown worked → HasServed judging own scheme tells faults limit stand closed before after
     has_served stand closed after is ran shown =
         subst (λ o. HasServed judging own scheme tells faults limit o closed before after) is (record {
-          desks = worked;
+          workers = worked;
           count = other ∙ one;
           each = λ k d lt. serves_own (k + 1) (get_or before k d) (get_or opened k d) (get_or worked k d) (ready k d lt) (works k d (omega (arith, lt, one)));
           ran = ran;

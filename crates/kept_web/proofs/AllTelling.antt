@@ -1,4 +1,4 @@
--- What the connections of all desks were told, of the list at the end.
+-- What the connections of all workers were told, of the list at the end.
 use Rattle.std.proofs.Common.{◌≡◌, ◌⊎◌, inl, inr, ⊎_elim, ℕ, zero, suc, ◌+◌, ◌<◌, ◌≤◌, IsTrue, List, [], ◌∷◌, ◌++◌, Option, Some, length, get_or, sym, subst, arith, zero-lt-suc}
 use Rattle.std.specs.Prelude.{Contains}
 use Rattle.std.specs.List.{flat_map, sum_by}
@@ -20,7 +20,7 @@ use Rattle.web_desk.specs.declared.status.Status.TheVariants.{Unavailable}
 use Rattle.kept_web.specs.AllTold.{AllHonest, AreCounted, EachIsBrought, EachIsTold, all_unavailable, below_suc, sum_below}
 use Rattle.kept_web.specs.Closed.{IsBroughtBy, times_unavailable}
 use Rattle.web_edges.specs.Ports.{PortTelling}
-use Rattle.kept_web.specs.Workers.{HasServed, WebView}
+use Rattle.kept_web.specs.Workers.{HasServed, WorkerView}
 use Rattle.kept_web.proofs.Closing.{told_sessions}
 
 -- what is in a list of lists is in one of them
@@ -49,61 +49,61 @@ rose_less : (m n old new : ℕ) → m ≤ n → RoseBy n old new → RoseBy m ol
 rose_less m n old new le (inl rose) = inl (omega (arith, le, rose))
 rose_less m n old new le (inr last) = inr last
 
-module _ {Entry Ask Verdict P : Type 0} (judging : Judging Entry Ask Verdict) (own : Ask → Option Entry) (scheme : Scheme Ask (ListReply Verdict)) (own_added : (past : List Entry) (ask : Ask) (entry : Entry) → judging.added past ask ≡ Some entry → own ask ≡ Some entry) (unavailable : (said : ListReply Verdict) → scheme.status said ≡ Unavailable → IsTrue (is_fault said)) (tells : P → PortTelling) (faults : P → ℕ) (limit : ℕ) (opening closed : Stand (Filed Entry)) (before after : List (WebView Entry P)) (served : HasServed judging own scheme tells faults limit opening closed before after) where
+module _ {Entry Ask Verdict P : Type 0} (judging : Judging Entry Ask Verdict) (own : Ask → Option Entry) (scheme : Scheme Ask (ListReply Verdict)) (own_added : (past : List Entry) (ask : Ask) (entry : Entry) → judging.added past ask ≡ Some entry → own ask ≡ Some entry) (unavailable : (said : ListReply Verdict) → scheme.status said ≡ Unavailable → IsTrue (is_fault said)) (tells : P → PortTelling) (faults : P → ℕ) (limit : ℕ) (opening closed : Stand (Filed Entry)) (before after : List (WorkerView Entry P)) (served : HasServed judging own scheme tells faults limit opening closed before after) where
   pub each_told : EachIsTold judging own scheme tells faults limit opening closed before after served
   each_told k d inside honest =
       let one = served.each k d inside in
-      let seen : IsOlder (seen_in (get_or served.desks k d).pass) closed.list = served.ran.seen k d (omega (arith, inside, served.count)) in
+      let seen : IsOlder (seen_in (get_or served.workers k d).pass) closed.list = served.ran.seen k d (omega (arith, inside, served.count)) in
       let older : IsOlder one.last.seen closed.list = subst (λ p. IsOlder (seen_in p) closed.list) one.has seen in
       (told_sessions judging own scheme own_added unavailable (k + 1) _ honest (entries_of closed.list) 1 one.first one.served.sessions one.last (entries_older one.last.seen closed.list older) one.served.each).have
 
   module _ (told : EachIsTold judging own scheme tells faults limit opening closed before after served) (honest : AllHonest tells before) (entry : ℕ × Filed Entry) where
     abbrev IsBrought : Type 0
-    IsBrought = (k : ℕ) × (d : WebView Entry P) × (inside : k < length before)
+    IsBrought = (k : ℕ) × (d : WorkerView Entry P) × (inside : k < length before)
         × IsBroughtBy judging own scheme (k + 1) (entries_of closed.list) (served.each k d inside).last.mine 1 (served.each k d inside).served.sessions (told k d inside (honest k d inside)).told entry.1
 
-    -- the desks are some, since one of them has the entry
-    first_of : (k : ℕ) (desks : List (WebView Entry P)) → k < length desks → WebView Entry P
+    -- the workers are some, since one of them has the entry
+    first_of : (k : ℕ) (workers : List (WorkerView Entry P)) → k < length workers → WorkerView Entry P
     first_of k [] lt = absurd (omega (arith, lt))
-    first_of k (d ∷ desks) lt = d
+    first_of k (d ∷ workers) lt = d
 
-    of_mine : Contains (flat_map (λ (d : WebView Entry P). mine_in d.pass) served.desks) entry → IsBrought
+    of_mine : Contains (flat_map (λ (d : WorkerView Entry P). mine_in d.pass) served.workers) entry → IsBrought
     of_mine has =
-        let (k, lt, is) = in_one (λ (d : WebView Entry P). mine_in d.pass) served.desks entry has in
-        let d = first_of k served.desks lt in
+        let (k, lt, is) = in_one (λ (d : WorkerView Entry P). mine_in d.pass) served.workers entry has in
+        let d = first_of k served.workers lt in
         let inside : k < length before = omega (arith, lt, served.count) in
         let one = served.each k d inside in
         let there : Contains one.last.mine entry = subst (λ p. Contains (mine_in p) entry) one.has (is d) in
         (k, d, inside, ⊎_elim (λ old. absurd (none_in one.first.mine entry one.fresh.mine old)) (λ new. new) ((told k d inside (honest k d inside)).mine entry there))
 
-    of_left : Contains (flat_map (λ (d : WebView Entry P). left_in d.pass) served.desks) entry → IsBrought
+    of_left : Contains (flat_map (λ (d : WorkerView Entry P). left_in d.pass) served.workers) entry → IsBrought
     of_left has =
-        let (k, lt, is) = in_one (λ (d : WebView Entry P). left_in d.pass) served.desks entry has in
-        let d = first_of k served.desks lt in
+        let (k, lt, is) = in_one (λ (d : WorkerView Entry P). left_in d.pass) served.workers entry has in
+        let d = first_of k served.workers lt in
         let inside : k < length before = omega (arith, lt, served.count) in
         let one = served.each k d inside in
         let there : Contains one.last.left entry = subst (λ p. Contains (left_in p) entry) one.has (is d) in
         (k, d, inside, ⊎_elim (λ old. absurd (none_in one.first.left entry one.fresh.left old)) (λ new. new) ((told k d inside (honest k d inside)).left entry there))
 
-    of_either : Contains (flat_map (λ (d : WebView Entry P). mine_in d.pass) served.desks) entry ⊎ Contains (flat_map (λ (d : WebView Entry P). settled_in d.pass) served.desks) entry → IsBrought
+    of_either : Contains (flat_map (λ (d : WorkerView Entry P). mine_in d.pass) served.workers) entry ⊎ Contains (flat_map (λ (d : WorkerView Entry P). settled_in d.pass) served.workers) entry → IsBrought
     of_either (inl mine) = of_mine mine
     of_either (inr settled) = of_left (served.ran.settled entry settled)
 
   pub each_brought : (told : EachIsTold judging own scheme tells faults limit opening closed before after served) → EachIsBrought judging own scheme tells faults limit opening closed before after served told
   each_brought told honest entry has =
       of_either told honest entry
-      (Contains-append_cases (flat_map (λ (d : WebView Entry P). mine_in d.pass) served.desks) (flat_map (λ (d : WebView Entry P). settled_in d.pass) served.desks) entry
-      (Contains-permutation (numbered (length opening.list) served.ran.added) (flat_map (λ (d : WebView Entry P). mine_in d.pass) served.desks ++ flat_map (λ (d : WebView Entry P). settled_in d.pass) served.desks) entry served.ran.once has))
+      (Contains-append_cases (flat_map (λ (d : WorkerView Entry P). mine_in d.pass) served.workers) (flat_map (λ (d : WorkerView Entry P). settled_in d.pass) served.workers) entry
+      (Contains-permutation (numbered (length opening.list) served.ran.added) (flat_map (λ (d : WorkerView Entry P). mine_in d.pass) served.workers ++ flat_map (λ (d : WorkerView Entry P). settled_in d.pass) served.workers) entry served.ran.once has))
 
   -- the disk's count of faults rose by all 503
   pub are_counted : (told : EachIsTold judging own scheme tells faults limit opening closed before after served) → AreCounted judging own scheme tells faults limit opening closed before after served told
   are_counted told honest d =
-      rose_less (all_unavailable judging own scheme tells faults limit opening closed before after served told honest d) (sum_by (λ (d : WebView Entry P). faults_in d.pass) served.desks) opening.faults closed.faults
-      (sum_below-le (λ (d : WebView Entry P). faults_in d.pass) d (length before) served.desks _ served.count at_most)
+      rose_less (all_unavailable judging own scheme tells faults limit opening closed before after served told honest d) (sum_by (λ (d : WorkerView Entry P). faults_in d.pass) served.workers) opening.faults closed.faults
+      (sum_below-le (λ (d : WorkerView Entry P). faults_in d.pass) d (length before) served.workers _ served.count at_most)
       served.ran.faults
     where
       at_most : (k : ℕ) (inside : k < length before)
-          → times_unavailable judging own scheme (k + 1) (entries_of closed.list) (served.each k d inside).last.mine 1 (served.each k d inside).served.sessions (told k d inside (honest k d inside)).told ≤ faults_in (get_or served.desks k d).pass
+          → times_unavailable judging own scheme (k + 1) (entries_of closed.list) (served.each k d inside).last.mine 1 (served.each k d inside).served.sessions (told k d inside (honest k d inside)).told ≤ faults_in (get_or served.workers k d).pass
       at_most k inside =
           let one = served.each k d inside in
           let times = times_unavailable judging own scheme (k + 1) (entries_of closed.list) one.last.mine 1 one.served.sessions (told k d inside (honest k d inside)).told in

@@ -23,9 +23,9 @@ use Rattle.kept_web.specs.AllTold.{AreCreated, CreatedStand, EachCreated, EachIs
 use Rattle.kept_web.specs.Closed.{AreToldOf}
 use Rattle.web_edges.specs.Ports.{PortTelling}
 use Rattle.kept_web.specs.Sessions.{Session}
-use Rattle.kept_web.specs.Texts.{is_added}
+use Rattle.kept_web.specs.Added.{is_added}
 use Rattle.kept_web.specs.Told.{AreAnswersTo, IsAnswerTo, IsAnsweredIn, IsSaidOf, ask_in, refusal_of}
-use Rattle.kept_web.specs.Workers.{HasServed, WebView}
+use Rattle.kept_web.specs.Workers.{HasServed, WorkerView}
 use Rattle.kept_web.proofs.Rejections.{IsUncreated, done_uncreated}
 
 -- entries that were added stand at their positions
@@ -97,15 +97,15 @@ module _ {Entry Ask Verdict : Type 0} (judging : Judging Entry Ask Verdict) (own
       are_created port (number + 1) sessions told.1,
     )
 
-  module _ {P : Type 0} (tells : P → PortTelling) (faults : P → ℕ) (limit : ℕ) (opening closed : Stand (Filed Entry)) (before after : List (WebView Entry P)) (served : HasServed judging own scheme tells faults limit opening closed before after) where
-    -- what a desk admitted of its own stands in the list at the end
-    mine_stands : (k : ℕ) (d : WebView Entry P) (inside : k < length before) (entry : ℕ × Filed Entry) → Contains (served.each k d inside).last.mine entry → StandsAt closed.list entry
+  module _ {P : Type 0} (tells : P → PortTelling) (faults : P → ℕ) (limit : ℕ) (opening closed : Stand (Filed Entry)) (before after : List (WorkerView Entry P)) (served : HasServed judging own scheme tells faults limit opening closed before after) where
+    -- what a worker admitted of its own stands in the list at the end
+    mine_stands : (k : ℕ) (d : WorkerView Entry P) (inside : k < length before) (entry : ℕ × Filed Entry) → Contains (served.each k d inside).last.mine entry → StandsAt closed.list entry
     mine_stands k d inside entry has =
         let ran = served.ran in
-        let mine = flat_map (λ (d : WebView Entry P). mine_in d.pass) served.desks in
-        let settled = flat_map (λ (d : WebView Entry P). settled_in d.pass) served.desks in
+        let mine = flat_map (λ (d : WorkerView Entry P). mine_in d.pass) served.workers in
+        let settled = flat_map (λ (d : WorkerView Entry P). settled_in d.pass) served.workers in
         let all = All-permutation (StandsAt (ran.added ++ opening.list)) (numbered (length opening.list) ran.added) (mine ++ settled) ran.once (numbered_stand opening.list ran.added) in
-        let there : Contains mine entry = of_one (λ (d : WebView Entry P). mine_in d.pass) served.desks k d entry (omega (arith, inside, served.count)) (subst (λ p. Contains (mine_in p) entry) (sym (served.each k d inside).has) has) in
+        let there : Contains mine entry = of_one (λ (d : WorkerView Entry P). mine_in d.pass) served.workers k d entry (omega (arith, inside, served.count)) (subst (λ p. Contains (mine_in p) entry) (sym (served.each k d inside).has) has) in
         subst (λ l. StandsAt l entry) (sym ran.list) (All-contains (StandsAt (ran.added ++ opening.list)) (mine ++ settled) entry all (Contains-append_left mine settled entry there))
 
     pub created_stand : (told : EachIsTold judging own scheme tells faults limit opening closed before after served) → CreatedStand judging own scheme tells faults limit opening closed before after served told

@@ -5,7 +5,7 @@ use native.Mathlib.Decide.{ℕ_discrete}
 use Rattle.atomic_table.specs.Seated.{TableId}
 use Rattle.office_lock.specs.declared.turned.Stand.{Stand}
 use Rattle.kept_list.specs.declared.names.Filed.{Filed}
-use Rattle.kept_web.specs.Workers.{AreReady, IsReady, WebView}
+use Rattle.kept_web.specs.Workers.{AreReady, IsReady, WorkerView}
 
 -- what stands at a place doesn't hang on what stands in for those past the end
 pub get_or_any : {X : Type 0} (xs : List X) (i : ℕ) (d e : X) → i < length xs → get_or xs i d ≡ get_or xs i e
@@ -13,9 +13,9 @@ get_or_any [] i d e lt = absurd (omega (arith, lt))
 get_or_any (x ∷ xs) zero d e lt = refl
 get_or_any (x ∷ xs) (suc i) d e lt = get_or_any xs i d e (omega (arith, lt))
 
-module _ {Entry P : Type 0} (lock : TableId) (opening : Stand (Filed Entry)) (was now : List (WebView Entry P)) (i : ℕ) (old new : WebView Entry P) where
-  -- one desk more
-  pub ready_more : i < length now → AreReady lock opening i was now → ((d : WebView Entry P) → get_or was i d ≡ old) → IsReady lock opening (i + 1) old new → AreReady lock opening (i + 1) was (set now i new)
+module _ {Entry P : Type 0} (lock : TableId) (opening : Stand (Filed Entry)) (was now : List (WorkerView Entry P)) (i : ℕ) (old new : WorkerView Entry P) where
+  -- one worker more
+  pub ready_more : i < length now → AreReady lock opening i was now → ((d : WorkerView Entry P) → get_or was i d ≡ old) → IsReady lock opening (i + 1) old new → AreReady lock opening (i + 1) was (set now i new)
   ready_more lt ready here is k d below =
       dite (ℕ_discrete k i)
       (λ (e : k ≡ i).

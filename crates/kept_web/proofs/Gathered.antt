@@ -13,7 +13,7 @@ use Rattle.office_lock.specs.Passes.{Known, IsOlder, Closes, numbered}
 use Rattle.office_lock.proofs.Lists.{older_trans}
 use Rattle.kept_list.specs.declared.names.Filed.{Filed}
 use Rattle.kept_desks.specs.Desks.{IsFresh, IsJoined, mine_in, settled_in, left_in, faults_in, seen_in}
-use Rattle.kept_web.specs.Workers.{WebView, Gathers, Ran}
+use Rattle.kept_web.specs.Workers.{WorkerView, Gathers, Ran}
 
 flat_push : {X A : Type 0} (f : X → List A) (xs : List X) (y : X) (all more : List A) → all ≡ flat_map f xs → more ≡ all ++ f y → more ≡ flat_map f (xs ++ y ∷ [])
 flat_push f xs y all more is then = then ∙ (ap (λ l. l ++ f y) is ∙ (ap (λ l. flat_map f xs ++ l) (sym (append-nil (f y))) ∙ sym (flat_map-append f xs (y ∷ []))))
@@ -22,7 +22,7 @@ sum_push : {X : Type 0} (f : X → ℕ) (xs : List X) (y : X) (all more : ℕ) �
 sum_push f xs y all more is then = then ∙ (ap (λ n. n + f y) is ∙ (let one : sum_by f xs + f y ≡ sum_by f xs + sum_by f (y ∷ []) = ap (λ n. sum_by f xs + n) (let same : f y ≡ 0 + f y = omega arith in same) in one ∙ sym (sum_by-append f xs (y ∷ []))))
 
 module _ {Entry P : Type 0} (lock : TableId) (opening : Stand (Filed Entry)) where
-  -- before the first desk
+  -- before the first worker
   pub gathers_none : (pass : Known (Filed Entry)) → IsFresh lock opening pass → Gathers {P = P} lock opening pass []
   gathers_none pass fresh = record {
     lock_is = fresh.lock_is;
@@ -31,38 +31,38 @@ module _ {Entry P : Type 0} (lock : TableId) (opening : Stand (Filed Entry)) whe
     settled = fresh.settled;
     left = fresh.left;
     faults = fresh.faults;
-    seen = All-nil (λ (d : WebView Entry P). IsOlder (seen_in d.pass) pass.seen);
+    seen = All-nil (λ (d : WorkerView Entry P). IsOlder (seen_in d.pass) pass.seen);
   }
 
-  pub gathers_push : (pass after : Known (Filed Entry)) (desks : List (WebView Entry P)) (desk : WebView Entry P) → Gathers lock opening pass desks → IsJoined pass after desk.pass → Gathers lock opening after (desks ++ desk ∷ [])
-  gathers_push pass after desks desk g j =
-      let newer : WebView Entry P → Type 0 = λ (d : WebView Entry P). IsOlder (seen_in d.pass) after.seen in
+  pub gathers_push : (pass after : Known (Filed Entry)) (workers : List (WorkerView Entry P)) (worker : WorkerView Entry P) → Gathers lock opening pass workers → IsJoined pass after worker.pass → Gathers lock opening after (workers ++ worker ∷ [])
+  gathers_push pass after workers worker g j =
+      let newer : WorkerView Entry P → Type 0 = λ (d : WorkerView Entry P). IsOlder (seen_in d.pass) after.seen in
       record {
         lock_is = j.lock_is ∙ g.lock_is;
         opening_is = j.opening_is ∙ g.opening_is;
-        mine = flat_push (λ (d : WebView Entry P). mine_in d.pass) desks desk pass.mine after.mine g.mine j.mine;
-        settled = flat_push (λ (d : WebView Entry P). settled_in d.pass) desks desk pass.settled after.settled g.settled j.settled;
-        left = flat_push (λ (d : WebView Entry P). left_in d.pass) desks desk pass.left after.left g.left j.left;
-        faults = sum_push (λ (d : WebView Entry P). faults_in d.pass) desks desk pass.faults after.faults g.faults j.faults;
-        seen = All-append newer desks (desk ∷ []) (All-weaker (λ (d : WebView Entry P). IsOlder (seen_in d.pass) pass.seen) newer (λ d older. older_trans (seen_in d.pass) pass.seen after.seen older j.earlier) desks g.seen)
-            (All-cons newer desk [] j.seen (All-nil newer));
+        mine = flat_push (λ (d : WorkerView Entry P). mine_in d.pass) workers worker pass.mine after.mine g.mine j.mine;
+        settled = flat_push (λ (d : WorkerView Entry P). settled_in d.pass) workers worker pass.settled after.settled g.settled j.settled;
+        left = flat_push (λ (d : WorkerView Entry P). left_in d.pass) workers worker pass.left after.left g.left j.left;
+        faults = sum_push (λ (d : WorkerView Entry P). faults_in d.pass) workers worker pass.faults after.faults g.faults j.faults;
+        seen = All-append newer workers (worker ∷ []) (All-weaker (λ (d : WorkerView Entry P). IsOlder (seen_in d.pass) pass.seen) newer (λ d older. older_trans (seen_in d.pass) pass.seen after.seen older j.earlier) workers g.seen)
+            (All-cons newer worker [] j.seen (All-nil newer));
       }
 
-  pub gathers_more : (pass after : Known (Filed Entry)) (desks : List (WebView Entry P)) (i : ℕ) (desk : WebView Entry P) → i < length desks → get_or desks i desk ≡ desk → Gathers lock opening pass (take i desks) → IsJoined pass after desk.pass
-      → Gathers lock opening after (take (i + 1) desks)
-  gathers_more pass after desks i desk lt is g j =
-      subst (Gathers lock opening after) (sym (take_more desks i desk lt ∙ ap (λ (d : WebView Entry P). take i desks ++ d ∷ []) is)) (gathers_push pass after (take i desks) desk g j)
+  pub gathers_more : (pass after : Known (Filed Entry)) (workers : List (WorkerView Entry P)) (i : ℕ) (worker : WorkerView Entry P) → i < length workers → get_or workers i worker ≡ worker → Gathers lock opening pass (take i workers) → IsJoined pass after worker.pass
+      → Gathers lock opening after (take (i + 1) workers)
+  gathers_more pass after workers i worker lt is g j =
+      subst (Gathers lock opening after) (sym (take_more workers i worker lt ∙ ap (λ (d : WorkerView Entry P). take i workers ++ d ∷ []) is)) (gathers_push pass after (take i workers) worker g j)
 
   -- the lock was closed by the pass that has all
-  pub ran : (pass : Known (Filed Entry)) (desks : List (WebView Entry P)) (closed : Stand (Filed Entry)) → Gathers lock opening pass desks → Closes pass closed → Ran opening closed desks
-  ran pass desks closed g c = record {
+  pub ran : (pass : Known (Filed Entry)) (workers : List (WorkerView Entry P)) (closed : Stand (Filed Entry)) → Gathers lock opening pass workers → Closes pass closed → Ran opening closed workers
+  ran pass workers closed g c = record {
     added = c.added;
     list = c.list ∙ ap (λ (s : Stand (Filed Entry)). c.added ++ s.list) g.opening_is;
     once = subst (λ l. IsPermutation (numbered (length opening.list) c.added) l) (ap₂ (λ l m. l ++ m) g.mine g.settled)
         (subst (λ (s : Stand (Filed Entry)). IsPermutation (numbered (length s.list) c.added) (pass.mine ++ pass.settled)) g.opening_is c.once);
     settled = λ entry has. subst (λ l. Contains l entry) g.left (c.settled entry (subst (λ l. Contains l entry) (sym g.settled) has));
     pending = λ entry is. subst (λ l. Contains l (length closed.list + 1, entry)) g.left (c.pending entry is);
-    seen = All-weaker (λ (d : WebView Entry P). IsOlder (seen_in d.pass) pass.seen) (λ (d : WebView Entry P). IsOlder (seen_in d.pass) closed.list) (λ d older. older_trans (seen_in d.pass) pass.seen closed.list older c.seen) desks g.seen;
+    seen = All-weaker (λ (d : WorkerView Entry P). IsOlder (seen_in d.pass) pass.seen) (λ (d : WorkerView Entry P). IsOlder (seen_in d.pass) closed.list) (λ d older. older_trans (seen_in d.pass) pass.seen closed.list older c.seen) workers g.seen;
     faults = subst (λ n. RoseBy n opening.faults closed.faults) g.faults (subst (λ (s : Stand (Filed Entry)). RoseBy pass.faults s.faults closed.faults) g.opening_is c.faults);
     fixed = c.fixed ∙ ap (λ (s : Stand (Filed Entry)). s.fixed) g.opening_is;
   }

@@ -1,4 +1,4 @@
--- What the connections of all desks were told, of the list at the end.
+-- What the connections of all workers were told, of the list at the end.
 use Rattle.std.specs.Prelude.{◌≡◌, ◌+◌, ◌<◌, ℕ, List, [], ◌∷◌, Option, Some, length, get_or, Contains, IsTrue, zero, suc}
 use Rattle.std.proofs.Common.{arith, zero-lt-suc}
 use Rattle.kept_list.specs.Scheme.{Judging}
@@ -17,7 +17,7 @@ use Rattle.kept_web.specs.Closed.{AreToldOf, HaveTold, IsBroughtBy, times_unavai
 use Rattle.web_edges.specs.Ports.{PortTelling}
 use Rattle.kept_web.specs.Sessions.{Session}
 use Rattle.kept_web.specs.Told.{ask_in}
-use Rattle.kept_web.specs.Workers.{HasServed, WebView}
+use Rattle.kept_web.specs.Workers.{HasServed, WorkerView}
 
 pub below_suc : (k n : ℕ) → k < n → suc k < suc n
 below_suc k n below = omega arith
@@ -51,32 +51,32 @@ module _ {Entry Ask Verdict : Type 0} (judging : Judging Entry Ask Verdict) (own
   AreCreated port seen mine number (s ∷ sessions) told = EachCreated (record { desk = port; row = number }) told.0.done told.0.answers × AreCreated port seen mine (number + 1) sessions told.1
 
 -- all ports are honest
-abbrev pub AllHonest : {Entry P : Type 0} → (P → PortTelling) → List (WebView Entry P) → Type 0
-AllHonest {Entry} {P} tells desks = (k : ℕ) (d : WebView Entry P) → k < length desks → IsTrue (tells (get_or desks k d).port).honest
+abbrev pub AllHonest : {Entry P : Type 0} → (P → PortTelling) → List (WorkerView Entry P) → Type 0
+AllHonest {Entry} {P} tells workers = (k : ℕ) (d : WorkerView Entry P) → k < length workers → IsTrue (tells (get_or workers k d).port).honest
 
-module _ {Entry Ask Verdict P : Type 0} (judging : Judging Entry Ask Verdict) (own : Ask → Option Entry) (scheme : Scheme Ask (ListReply Verdict)) (tells : P → PortTelling) (faults : P → ℕ) (limit : ℕ) (opening closed : Stand (Filed Entry)) (before after : List (WebView Entry P)) (served : HasServed judging own scheme tells faults limit opening closed before after) where
+module _ {Entry Ask Verdict P : Type 0} (judging : Judging Entry Ask Verdict) (own : Ask → Option Entry) (scheme : Scheme Ask (ListReply Verdict)) (tells : P → PortTelling) (faults : P → ℕ) (limit : ℕ) (opening closed : Stand (Filed Entry)) (before after : List (WorkerView Entry P)) (served : HasServed judging own scheme tells faults limit opening closed before after) where
   -- each answer on an honest port is of the list at the end
   abbrev pub EachIsTold : Type 0
-  EachIsTold = (k : ℕ) (d : WebView Entry P) (inside : k < length before) → IsTrue (tells (get_or before k d).port).honest
+  EachIsTold = (k : ℕ) (d : WorkerView Entry P) (inside : k < length before) → IsTrue (tells (get_or before k d).port).honest
       → HaveTold judging own scheme (k + 1) (entries_of closed.list) 1 (served.each k d inside).served.sessions (served.each k d inside).first (served.each k d inside).last
 
   module _ (told : EachIsTold) where
     -- each entry past the opening list is the own one of a request that one of the connections brought, where all ports are honest
     abbrev pub EachIsBrought : Type 0
     EachIsBrought = (honest : AllHonest tells before) (entry : ℕ × Filed Entry) → Contains (numbered (length opening.list) served.ran.added) entry
-        → (k : ℕ) × (d : WebView Entry P) × (inside : k < length before)
+        → (k : ℕ) × (d : WorkerView Entry P) × (inside : k < length before)
         × IsBroughtBy judging own scheme (k + 1) (entries_of closed.list) (served.each k d inside).last.mine 1 (served.each k d inside).served.sessions (told k d inside (honest k d inside)).told entry.1
 
     -- how many answers were 503 on all ports
-    abbrev pub all_unavailable : AllHonest tells before → WebView Entry P → ℕ
+    abbrev pub all_unavailable : AllHonest tells before → WorkerView Entry P → ℕ
     all_unavailable honest d =
         sum_below (length before) (λ k inside. times_unavailable judging own scheme (k + 1) (entries_of closed.list) (served.each k d inside).last.mine 1 (served.each k d inside).served.sessions (told k d inside (honest k d inside)).told)
 
     -- the disk's count of faults rose by all of them, where all ports are honest
     abbrev pub AreCounted : Type 0
-    AreCounted = (honest : AllHonest tells before) (d : WebView Entry P) → RoseBy (all_unavailable honest d) opening.faults closed.faults
+    AreCounted = (honest : AllHonest tells before) (d : WorkerView Entry P) → RoseBy (all_unavailable honest d) opening.faults closed.faults
 
     -- where an honest port answered 201, the request's own entry stands in the list at the end
     abbrev pub CreatedStand : Type 0
-    CreatedStand = (k : ℕ) (d : WebView Entry P) (inside : k < length before) (honest : IsTrue (tells (get_or before k d).port).honest)
+    CreatedStand = (k : ℕ) (d : WorkerView Entry P) (inside : k < length before) (honest : IsTrue (tells (get_or before k d).port).honest)
         → AreCreated judging own scheme closed.list (k + 1) (entries_of closed.list) (served.each k d inside).last.mine 1 (served.each k d inside).served.sessions (told k d inside honest).told

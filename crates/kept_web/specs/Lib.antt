@@ -1,7 +1,7 @@
 pub use Rattle.kept_list.specs.Names
 pub use Rattle.kept_list.specs.Turns
 pub use Rattle.office_lock.specs.Passes
-pub mod Texts
+pub mod Added
 pub mod Clerks
 pub mod Told
 pub mod Sessions

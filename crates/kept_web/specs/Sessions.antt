@@ -1,4 +1,4 @@
--- The connections that one desk served, one after the other, by the turns of its pass.
+-- The connections that one worker served, one after the other, by the turns of its pass.
 use Rattle.std.specs.Prelude.{◌≡◌, ◌+◌, ℕ, Bool, true, false, List, [], ◌∷◌, ◌++◌, length, map, IsTrue, Option}
 use Rattle.std.specs.List.{list_any}
 use Rattle.aid_edges.specs.Faults.{Rose}
@@ -49,7 +49,7 @@ AreSessions judging own scheme honest port number before [] after = after ≡ be
 AreSessions judging own scheme honest port number before (s ∷ sessions) after =
     IsSession judging own scheme honest (record { desk = port; row = number }) before s × AreSessions judging own scheme honest port (number + 1) s.after sessions after
 
--- What a port's desk did: the connections that came, in order, each of which was taken back.
+-- What a port's worker did: the connections that came, in order, each of which was taken back.
 pub record Served {Entry Ask Verdict : Type 0} (judging : Judging Entry Ask Verdict) (own : Ask → Option Entry) (scheme : Scheme Ask (ListReply Verdict)) (port : ℕ) (before after : Known (Filed Entry)) (old new : PortTelling) (served : ℕ) (starved : Bool) : Type 0 where
   pub sessions : List (Session Entry)
   pub each : AreSessions judging own scheme old.honest port 1 before sessions after

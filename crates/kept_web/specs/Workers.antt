@@ -1,5 +1,5 @@
--- The desks behind ports, and the lock that they take turns of.
-use Rattle.std.specs.Prelude.{◌≡◌, ◌≢◌, ◌+◌, ◌<◌, ◌≤◌, ℕ, Bool, false, List, ◌++◌, Option, Some, Contains, IsPermutation, get_or, length, map, flat_map, sum_by}
+-- The workers behind ports, and the lock that they take turns of.
+use Rattle.std.specs.Prelude.{◌≡◌, ◌≢◌, ◌+◌, ◌<◌, ◌≤◌, ℕ, Bool, false, List, ◌++◌, Option, None, Some, Contains, IsPermutation, get_or, length, map, flat_map, sum_by}
 use Rattle.std.specs.List.{All}
 use Rattle.aid_edges.specs.Faults.{Rose}
 use Rattle.atomic_table.specs.Seated.{TableId}
@@ -16,8 +16,8 @@ use Rattle.kept_web.specs.Sessions.{Served}
 use Rattle.kept_web.specs.declared.stop.WebEnd.{WebEnd}
 use Rattle.kept_web.specs.declared.stop.WebEnd.TheVariants.{Open, Done, PortFault}
 
--- what a contract sees of a desk behind a port
-pub record WebView (Entry P : Type 0) : Type 0 where
+-- what a contract sees of a worker behind a port
+pub record WorkerView (Entry P : Type 0) : Type 0 where
   pub number : ℕ
   pub port : P
   -- how many connections it served, and whether a session of them ended for want of memory
@@ -27,38 +27,46 @@ pub record WebView (Entry P : Type 0) : Type 0 where
   -- its pass of the lock, while it has one
   pub pass : Option (Known (Filed Entry))
 
--- the desk has a number and a pass that knows nothing but the opening list, with one part of the lock's passes, and hasn't begun
-pub record IsReady {Entry P : Type 0} (lock : TableId) (opening : Stand (Filed Entry)) (number : ℕ) (before desk : WebView Entry P) : Type 0 where
+-- a worker behind this port, before it has a number and a pass
+abbrev pub worker_of : {Entry P : Type 0} → P → WorkerView Entry P
+worker_of port = record { number = 0; port = port; served = 0; starved = false; ended = Open; pass = None }
+
+-- the ports of these workers
+abbrev pub ports_of : {Entry P : Type 0} → List (WorkerView Entry P) → List P
+ports_of {Entry} {P} workers = map (λ (d : WorkerView Entry P). d.port) workers
+
+-- the worker has a number and a pass that knows nothing but the opening list, with one part of the lock's passes, and hasn't begun
+pub record IsReady {Entry P : Type 0} (lock : TableId) (opening : Stand (Filed Entry)) (number : ℕ) (before worker : WorkerView Entry P) : Type 0 where
   pub pass : Known (Filed Entry)
   pub fresh : IsFresh lock opening pass
   pub share : pass.allowance ≡ 1
-  pub is : desk ≡ record { number = number; port = before.port; served = 0; starved = false; ended = Open; pass = Some pass }
+  pub is : worker ≡ record { number = number; port = before.port; served = 0; starved = false; ended = Open; pass = Some pass }
 
--- each of the first n desks has, numbered from 1
-abbrev pub AreReady : {Entry P : Type 0} → TableId → Stand (Filed Entry) → ℕ → List (WebView Entry P) → List (WebView Entry P) → Type 0
-AreReady {Entry} {P} lock opening n before desks = (k : ℕ) (d : WebView Entry P) → k < n → IsReady lock opening (k + 1) (get_or before k d) (get_or desks k d)
+-- each of the first n workers has, numbered from 1
+abbrev pub AreReady : {Entry P : Type 0} → TableId → Stand (Filed Entry) → ℕ → List (WorkerView Entry P) → List (WorkerView Entry P) → Type 0
+AreReady {Entry} {P} lock opening n before workers = (k : ℕ) (d : WorkerView Entry P) → k < n → IsReady lock opening (k + 1) (get_or before k d) (get_or workers k d)
 
--- the desk has a pass of this lock
-abbrev pub HoldsPass : {Entry P : Type 0} → TableId → WebView Entry P → Type 0
-HoldsPass {Entry} lock desk = (pass : Known (Filed Entry)) × (desk.pass ≡ Some pass) × (pass.lock ≡ lock)
+-- the worker has a pass of this lock
+abbrev pub HoldsPass : {Entry P : Type 0} → TableId → WorkerView Entry P → Type 0
+HoldsPass {Entry} lock worker = (pass : Known (Filed Entry)) × (worker.pass ≡ Some pass) × (pass.lock ≡ lock)
 
--- the desk has ended, and still has its pass
-pub record HasEnded {Entry P : Type 0} (lock : TableId) (opening : Stand (Filed Entry)) (desk : WebView Entry P) : Type 0 where
+-- the worker has ended, and still has its pass
+pub record HasEnded {Entry P : Type 0} (lock : TableId) (opening : Stand (Filed Entry)) (worker : WorkerView Entry P) : Type 0 where
   pub pass : Known (Filed Entry)
-  pub has : desk.pass ≡ Some pass
+  pub has : worker.pass ≡ Some pass
   pub lock_is : pass.lock ≡ lock
   pub share : pass.allowance ≡ 1
   pub opening_is : pass.opening ≡ opening
-  pub ended : desk.ended ≢ Open
+  pub ended : worker.ended ≢ Open
 
--- how far the desk came: it served as many connections as it was to, or its port failed
+-- how far the worker came: it served as many connections as it was to, or its port failed
 abbrev pub HasStopped : WebEnd → ℕ → ℕ → ℕ → ℕ → Type 0
 HasStopped Open served sessions old new = ⊥
 HasStopped Done served sessions old new = served ≡ sessions
 HasStopped PortFault served sessions old new = served < sessions × Rose old new
 
--- A desk that has a pass serves the connections of its port by it, one after the other.
-pub record Works {Entry Ask Verdict P : Type 0} (judging : Judging Entry Ask Verdict) (own : Ask → Option Entry) (scheme : Scheme Ask (ListReply Verdict)) (tells : P → PortTelling) (faults : P → ℕ) (lock : TableId) (sessions : ℕ) (old new : WebView Entry P) : Type 0 where
+-- A worker that has a pass serves the connections of its port by it, one after the other.
+pub record Works {Entry Ask Verdict P : Type 0} (judging : Judging Entry Ask Verdict) (own : Ask → Option Entry) (scheme : Scheme Ask (ListReply Verdict)) (tells : P → PortTelling) (faults : P → ℕ) (lock : TableId) (sessions : ℕ) (old new : WorkerView Entry P) : Type 0 where
   pub number : new.number ≡ old.number
   pub after : Known (Filed Entry)
   pub has : new.pass ≡ Some after
@@ -68,40 +76,40 @@ pub record Works {Entry Ask Verdict P : Type 0} (judging : Judging Entry Ask Ver
   pub stopped : HasStopped new.ended new.served sessions (faults old.port) (faults new.port)
   pub later : faults old.port ≤ faults new.port
 
--- all of a desk but its pass
-abbrev pub shown_of : {Entry P : Type 0} → WebView Entry P → ℕ × P × ℕ × Bool × WebEnd
-shown_of desk = (desk.number, desk.port, desk.served, desk.starved, desk.ended)
+-- all of a worker but its pass
+abbrev pub shown_of : {Entry P : Type 0} → WorkerView Entry P → ℕ × P × ℕ × Bool × WebEnd
+shown_of worker = (worker.number, worker.port, worker.served, worker.starved, worker.ended)
 
--- all of these desks but their passes
-abbrev pub all_shown : {Entry P : Type 0} → List (WebView Entry P) → List (ℕ × P × ℕ × Bool × WebEnd)
-all_shown desks = map shown_of desks
+-- all of these workers but their passes
+abbrev pub all_shown : {Entry P : Type 0} → List (WorkerView Entry P) → List (ℕ × P × ℕ × Bool × WebEnd)
+all_shown workers = map shown_of workers
 
--- the pass has all that the passes of these desks had
-pub record Gathers {Entry P : Type 0} (lock : TableId) (opening : Stand (Filed Entry)) (pass : Known (Filed Entry)) (desks : List (WebView Entry P)) : Type 0 where
+-- the pass has all that the passes of these workers had
+pub record Gathers {Entry P : Type 0} (lock : TableId) (opening : Stand (Filed Entry)) (pass : Known (Filed Entry)) (workers : List (WorkerView Entry P)) : Type 0 where
   pub lock_is : pass.lock ≡ lock
   pub opening_is : pass.opening ≡ opening
-  pub mine : pass.mine ≡ flat_map (λ (d : WebView Entry P). mine_in d.pass) desks
-  pub settled : pass.settled ≡ flat_map (λ (d : WebView Entry P). settled_in d.pass) desks
-  pub left : pass.left ≡ flat_map (λ (d : WebView Entry P). left_in d.pass) desks
-  pub faults : pass.faults ≡ sum_by (λ (d : WebView Entry P). faults_in d.pass) desks
-  pub seen : All (λ (d : WebView Entry P). IsOlder (seen_in d.pass) pass.seen) desks
+  pub mine : pass.mine ≡ flat_map (λ (d : WorkerView Entry P). mine_in d.pass) workers
+  pub settled : pass.settled ≡ flat_map (λ (d : WorkerView Entry P). settled_in d.pass) workers
+  pub left : pass.left ≡ flat_map (λ (d : WorkerView Entry P). left_in d.pass) workers
+  pub faults : pass.faults ≡ sum_by (λ (d : WorkerView Entry P). faults_in d.pass) workers
+  pub seen : All (λ (d : WorkerView Entry P). IsOlder (seen_in d.pass) pass.seen) workers
 
--- What the list is at the end of what these desks' turns did: the list before, and past it just what the turns admitted of
+-- What the list is at the end of what these workers' turns did: the list before, and past it just what the turns admitted of
 -- their own and settled, each entry once and at its position.
-pub record Ran {Entry P : Type 0} (opening closed : Stand (Filed Entry)) (desks : List (WebView Entry P)) : Type 0 where
+pub record Ran {Entry P : Type 0} (opening closed : Stand (Filed Entry)) (workers : List (WorkerView Entry P)) : Type 0 where
   pub added : List (Filed Entry)
   pub list : closed.list ≡ added ++ opening.list
-  pub once : IsPermutation (numbered (length opening.list) added) (flat_map (λ (d : WebView Entry P). mine_in d.pass) desks ++ flat_map (λ (d : WebView Entry P). settled_in d.pass) desks)
-  -- what was settled, and what is undecided still, a desk's turn had left so
-  pub settled : (entry : ℕ × Filed Entry) → Contains (flat_map (λ (d : WebView Entry P). settled_in d.pass) desks) entry → Contains (flat_map (λ (d : WebView Entry P). left_in d.pass) desks) entry
-  pub pending : (entry : Filed Entry) → closed.pending ≡ Some entry → Contains (flat_map (λ (d : WebView Entry P). left_in d.pass) desks) (length closed.list + 1, entry)
-  -- the list that a desk saw last is the older part of the closed one
-  pub seen : All (λ (d : WebView Entry P). IsOlder (seen_in d.pass) closed.list) desks
-  pub faults : RoseBy (sum_by (λ (d : WebView Entry P). faults_in d.pass) desks) opening.faults closed.faults
+  pub once : IsPermutation (numbered (length opening.list) added) (flat_map (λ (d : WorkerView Entry P). mine_in d.pass) workers ++ flat_map (λ (d : WorkerView Entry P). settled_in d.pass) workers)
+  -- what was settled, and what is undecided still, a worker's turn had left so
+  pub settled : (entry : ℕ × Filed Entry) → Contains (flat_map (λ (d : WorkerView Entry P). settled_in d.pass) workers) entry → Contains (flat_map (λ (d : WorkerView Entry P). left_in d.pass) workers) entry
+  pub pending : (entry : Filed Entry) → closed.pending ≡ Some entry → Contains (flat_map (λ (d : WorkerView Entry P). left_in d.pass) workers) (length closed.list + 1, entry)
+  -- the list that a worker saw last is the older part of the closed one
+  pub seen : All (λ (d : WorkerView Entry P). IsOlder (seen_in d.pass) closed.list) workers
+  pub faults : RoseBy (sum_by (λ (d : WorkerView Entry P). faults_in d.pass) workers) opening.faults closed.faults
   pub fixed : closed.fixed ≡ opening.fixed
 
--- What a desk did, with a pass that knew nothing but the opening list.
-pub record ServesOwn {Entry Ask Verdict P : Type 0} (judging : Judging Entry Ask Verdict) (own : Ask → Option Entry) (scheme : Scheme Ask (ListReply Verdict)) (tells : P → PortTelling) (faults : P → ℕ) (opening : Stand (Filed Entry)) (number limit : ℕ) (old new : WebView Entry P) : Type 0 where
+-- What a worker did, with a pass that knew nothing but the opening list.
+pub record ServesOwn {Entry Ask Verdict P : Type 0} (judging : Judging Entry Ask Verdict) (own : Ask → Option Entry) (scheme : Scheme Ask (ListReply Verdict)) (tells : P → PortTelling) (faults : P → ℕ) (opening : Stand (Filed Entry)) (number limit : ℕ) (old new : WorkerView Entry P) : Type 0 where
   pub numbered : new.number ≡ number
   pub first : Known (Filed Entry)
   pub last : Known (Filed Entry)
@@ -111,10 +119,10 @@ pub record ServesOwn {Entry Ask Verdict P : Type 0} (judging : Judging Entry Ask
   pub stopped : HasStopped new.ended new.served limit (faults old.port) (faults new.port)
   pub later : faults old.port ≤ faults new.port
 
--- What the desks did. `desks` are they as they were before they gave their passes back.
-pub record HasServed {Entry Ask Verdict P : Type 0} (judging : Judging Entry Ask Verdict) (own : Ask → Option Entry) (scheme : Scheme Ask (ListReply Verdict)) (tells : P → PortTelling) (faults : P → ℕ) (limit : ℕ) (opening closed : Stand (Filed Entry)) (before after : List (WebView Entry P)) : Type 0 where
-  pub desks : List (WebView Entry P)
-  pub count : length desks ≡ length before
-  pub each : (k : ℕ) (d : WebView Entry P) → k < length before → ServesOwn judging own scheme tells faults opening (k + 1) limit (get_or before k d) (get_or desks k d)
-  pub ran : Ran opening closed desks
-  pub shown : all_shown after ≡ all_shown desks
+-- What the workers did. `workers` are they as they were before they gave their passes back.
+pub record HasServed {Entry Ask Verdict P : Type 0} (judging : Judging Entry Ask Verdict) (own : Ask → Option Entry) (scheme : Scheme Ask (ListReply Verdict)) (tells : P → PortTelling) (faults : P → ℕ) (limit : ℕ) (opening closed : Stand (Filed Entry)) (before after : List (WorkerView Entry P)) : Type 0 where
+  pub workers : List (WorkerView Entry P)
+  pub count : length workers ≡ length before
+  pub each : (k : ℕ) (d : WorkerView Entry P) → k < length before → ServesOwn judging own scheme tells faults opening (k + 1) limit (get_or before k d) (get_or workers k d)
+  pub ran : Ran opening closed workers
+  pub shown : all_shown after ≡ all_shown workers

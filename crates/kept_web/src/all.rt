@@ -1,9 +1,9 @@
 //! All ports at once.
 ghost use Rattle.std.specs.Prelude.{◌≡◌, ◌≤◌, ◌<◌, ℕ, [], None, IfOk, IfErr, slice_index_or, length};
-ghost use Rattle.kept_web.specs.Workers.{WebView, HasServed, HoldsPass, Works};
+ghost use Rattle.kept_web.specs.Workers.{WorkerView, HasServed, HoldsPass, Works};
 ghost use Rattle.kept_desks.specs.Shares.{stand_of};
 
-use crate::{WebDesk, WebTexts, close_web, open_web};
+use crate::{DocketForms, Worker, close_workers, open_workers};
 use disk_model::Disk;
 use kept_desks::SharedList;
 use kept_list::{Docket, KeptList, OwnDocket};
@@ -13,14 +13,14 @@ use std::sync::Wait;
 use std::thread::{Threads, for_each_mut};
 use web_edges::Port;
 
-/// At most so many desks serve at once.
-const MOST_DESKS: usize = 16;
+/// At most so many workers serve at once.
+const MOST_WORKERS: usize = 16;
 
-// Each desk serves the connections of its port, each in a thread of its own where one can be made.
+// Each worker serves the connections of its port, each in a thread of its own where one can be made.
 fn work_all<
     D: Disk + Send,
     R: OwnDocket + Send,
-    T: WebTexts<R> + Send,
+    T: DocketForms<R> + Send,
     P: Port + Send,
     H: Threads + Wait + Sync,
 >(
@@ -28,7 +28,7 @@ fn work_all<
     alloc: Global,
     turns: &Turns<SharedList<D, R>>,
     sessions: u32,
-    desks: &mut [WebDesk<R, P>],
+    workers: &mut [Worker<R, P>],
 )
 where
     R::Entry: Send,
@@ -36,15 +36,15 @@ where
     R::Verdict: Send,
     R::Ruling: Send,
     P::Link: Send,
-    requires { (k : ℕ) (d : WebView R.Entry P) → k < length desks.old → HoldsPass turns.now.id (slice_index_or desks.old k d) }
-    ensures works { (k : ℕ) (d : WebView R.Entry P) → k < length desks.old → Works R.judging R.own T.scheme P.tells P.faults turns.now.id sessions (slice_index_or desks.old k d) (slice_index_or desks.new k d) }
-    ensures desks { length desks.new ≡ length desks.old }
+    requires { (k : ℕ) (d : WorkerView R.Entry P) → k < length workers.old → HoldsPass turns.now.id (slice_index_or workers.old k d) }
+    ensures works { (k : ℕ) (d : WorkerView R.Entry P) → k < length workers.old → Works R.judging R.own T.scheme P.tells P.faults turns.now.id sessions (slice_index_or workers.old k d) (slice_index_or workers.new k d) }
+    ensures workers { length workers.new ≡ length workers.old }
 {
-    let each = move |_place: usize, desk: &mut WebDesk<R, P>|
-        requires { HoldsPass turns.now.id desk.now }
-        ensures { Works R.judging R.own T.scheme P.tells P.faults turns.entry.now.id sessions desk.entry.now desk.exit.now }
-    { desk.work::<D, T, H>(rt, alloc, turns, sessions) };
-    for_each_mut(rt, desks, MOST_DESKS, &each);
+    let each = move |_place: usize, worker: &mut Worker<R, P>|
+        requires { HoldsPass turns.now.id worker.now }
+        ensures { Works R.judging R.own T.scheme P.tells P.faults turns.entry.now.id sessions worker.entry.now worker.exit.now }
+    { worker.work::<D, T, H>(rt, alloc, turns, sessions) };
+    for_each_mut(rt, workers, MOST_WORKERS, &each);
 }
 
 /// Serves so many connections of each port, by turns of one lock over the list: the ports at once, where threads can be
@@ -52,7 +52,7 @@ where
 pub fn serve_ports<
     D: Disk + Send,
     R: OwnDocket + Send,
-    T: WebTexts<R> + Send,
+    T: DocketForms<R> + Send,
     P: Port + Send,
     H: Threads + Wait + Sync,
 >(
@@ -60,7 +60,7 @@ pub fn serve_ports<
     alloc: Global,
     kept: KeptList<D, R>,
     sessions: u32,
-    desks: &mut [WebDesk<R, P>],
+    workers: &mut [Worker<R, P>],
 ) -> Result<SharedList<D, R>, KeptList<D, R>>
 where
     R::Entry: Send,
@@ -68,17 +68,18 @@ where
     R::Verdict: Send,
     R::Ruling: Send,
     P::Link: Send,
-    requires few { length desks.old < 64 }
+    requires few { length workers.old < 64 }
     requires decided { kept.pending ≡ None }
     ensures served { IfOk result (λ closed. HasServed R.judging R.own T.scheme P.tells P.faults sessions (stand_of kept.history None [] None (D.faults kept.disk) (D.tells kept.disk).honest)
-        (stand_of closed.history closed.pending closed.log closed.waiting (D.faults closed.disk) (D.tells closed.disk).honest) desks.old desks.new) }
-    ensures same { IfErr result (λ back. desks.new ≡ desks.old) }
+        (stand_of closed.history closed.pending closed.log closed.waiting (D.faults closed.disk) (D.tells closed.disk).honest) workers.old workers.new) }
+    ensures workers { length workers.new ≡ length workers.old }
+    ensures same { IfErr result (λ back. workers.new ≡ workers.old) }
     ensures disk { IfErr result (λ back. back.disk ≡ kept.disk) }
 {
-    match open_web(alloc, kept, desks) {
+    match open_workers(alloc, kept, workers) {
         Ok((turns, rest)) => {
-            work_all::<D, R, T, P, H>(rt, alloc, &turns, sessions, desks);
-            Ok(close_web(turns, rest, desks))
+            work_all::<D, R, T, P, H>(rt, alloc, &turns, sessions, workers);
+            Ok(close_workers(turns, rest, workers))
         }
         Err(kept) => Err(kept),
     }

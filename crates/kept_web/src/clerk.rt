@@ -5,7 +5,7 @@ ghost use Rattle.web_desk.specs.Exchange.{ServesNear};
 ghost use Rattle.web_edges.specs.LinkTelling.{IsHonest};
 ghost use Rattle.kept_web.specs.Clerks.{PassAnswers, PassReaches};
 
-use crate::{DocketForms, WebTexts};
+use crate::{DocketForms, FormsOf};
 use disk_model::Disk;
 use kept_desks::SharedList;
 use kept_list::{Docket, Filed, ListReply, OwnDocket, RowAsk, RowName};
@@ -45,7 +45,7 @@ impl<'a, D: Disk, R: OwnDocket, H> PassClerk<'a, D, R, H> {
     }
 }
 
-impl<'a, D: Disk, R: OwnDocket, T: WebTexts<R>, H: Wait> Clerk<DocketForms<R, T>>
+impl<'a, D: Disk, R: OwnDocket, T: DocketForms<R>, H: Wait> Clerk<FormsOf<R, T>>
     for PassClerk<'a, D, R, H> {
     ghost use Rattle.kept_web.specs.Clerks.{AsksTurn, clerk_faults};
 
@@ -61,7 +61,7 @@ impl<'a, D: Disk, R: OwnDocket, T: WebTexts<R>, H: Wait> Clerk<DocketForms<R, T>
 
 /// Serves a connection: each ask is a turn of the lock by this pass, under this name. It gives the pass back, and says how
 /// the session ended.
-pub fn serve_desk<D: Disk, R: OwnDocket, T: WebTexts<R>, L: Link, H: Wait>(
+pub fn serve_desk<D: Disk, R: OwnDocket, T: DocketForms<R>, L: Link, H: Wait>(
     rt: &H,
     alloc: Global,
     turns: &Turns<SharedList<D, R>>,
@@ -85,6 +85,6 @@ pub fn serve_desk<D: Disk, R: OwnDocket, T: WebTexts<R>, L: Link, H: Wait>(
         pass,
         by,
     };
-    let end = serve::<DocketForms<R, T>, PassClerk<D, R, H>, L>(alloc, &mut clerk, link);
+    let end = serve::<FormsOf<R, T>, PassClerk<D, R, H>, L>(alloc, &mut clerk, link);
     (clerk.into_pass(), end)
 }

@@ -10,16 +10,16 @@ ghost use Rattle.kept_web.specs.AllTold.{AreCounted, CreatedStand, EachIsBrought
 ghost use Rattle.kept_web.specs.Clerks.{Clerking, PassAnswers};
 ghost use Rattle.kept_web.specs.Closed.{IsBegunBy, IsPart};
 ghost use Rattle.kept_web.specs.Told.{HasTold, IsAvailable};
-ghost use Rattle.kept_web.specs.Workers.{HasServed, WebView};
+ghost use Rattle.kept_web.specs.Workers.{HasServed, WorkerView};
 
-use crate::WebTexts;
+use crate::DocketForms;
 use kept_list::{Docket, OwnDocket};
 use web_edges::Port;
 
 /// What the requests of one connection are told by the turns of a pass, and what they make of what the pass knows: each
 /// answer with a front is the answer on that many entries of what the pass then has seen, and what the pass admits besides is
 /// of these requests alone.
-pub fn told<R: OwnDocket, T: WebTexts<R>>()
+pub fn told<R: OwnDocket, T: DocketForms<R>>()
     ensures { (requests : List Request) (answers : List Answer) (before after : Clerking R.Entry) → Run (PassAnswers R.judging R.own T.scheme) before requests answers after
         → HasTold R.judging R.own T.scheme before.by requests answers before.pass after.pass }
 {}
@@ -36,25 +36,25 @@ pub fn part_begins()
         → IsBegunBy text done answers requests ending }
 {}
 
-/// What the connections of all desks were told is of the list at the end, and each entry past the opening list is of a
+/// What the connections of all workers were told is of the list at the end, and each entry past the opening list is of a
 /// request that one of them brought.
-pub fn all_told<R: OwnDocket, T: WebTexts<R>, P: Port>()
-    ensures told { (limit : ℕ) (opening closed : Stand (Filed R.Entry)) (before after : List (WebView R.Entry P)) (served : HasServed R.judging R.own T.scheme P.tells P.faults limit opening closed before after)
+pub fn all_told<R: OwnDocket, T: DocketForms<R>, P: Port>()
+    ensures told { (limit : ℕ) (opening closed : Stand (Filed R.Entry)) (before after : List (WorkerView R.Entry P)) (served : HasServed R.judging R.own T.scheme P.tells P.faults limit opening closed before after)
         → EachIsTold R.judging R.own T.scheme P.tells P.faults limit opening closed before after served }
-    ensures brought { (limit : ℕ) (opening closed : Stand (Filed R.Entry)) (before after : List (WebView R.Entry P)) (served : HasServed R.judging R.own T.scheme P.tells P.faults limit opening closed before after)
+    ensures brought { (limit : ℕ) (opening closed : Stand (Filed R.Entry)) (before after : List (WorkerView R.Entry P)) (served : HasServed R.judging R.own T.scheme P.tells P.faults limit opening closed before after)
         (told : EachIsTold R.judging R.own T.scheme P.tells P.faults limit opening closed before after served) → EachIsBrought R.judging R.own T.scheme P.tells P.faults limit opening closed before after served told }
 {}
 
 /// Over honest ports the disk's count of faults rose by at least the number of all 503 that were answered, or stands at its
 /// last value.
-pub fn faults_are_counted<R: OwnDocket, T: WebTexts<R>, P: Port>()
-    ensures { (limit : ℕ) (opening closed : Stand (Filed R.Entry)) (before after : List (WebView R.Entry P)) (served : HasServed R.judging R.own T.scheme P.tells P.faults limit opening closed before after)
+pub fn faults_are_counted<R: OwnDocket, T: DocketForms<R>, P: Port>()
+    ensures { (limit : ℕ) (opening closed : Stand (Filed R.Entry)) (before after : List (WorkerView R.Entry P)) (served : HasServed R.judging R.own T.scheme P.tells P.faults limit opening closed before after)
         (told : EachIsTold R.judging R.own T.scheme P.tells P.faults limit opening closed before after served) → AreCounted R.judging R.own T.scheme P.tells P.faults limit opening closed before after served told }
 {}
 
 /// Where 201 was answered on an honest port with a front, the request's own entry stands in the list at the end behind so
 /// many others, under the name of its connection.
-pub fn created_stand<R: OwnDocket, T: WebTexts<R>, P: Port>()
-    ensures { (limit : ℕ) (opening closed : Stand (Filed R.Entry)) (before after : List (WebView R.Entry P)) (served : HasServed R.judging R.own T.scheme P.tells P.faults limit opening closed before after)
+pub fn created_stand<R: OwnDocket, T: DocketForms<R>, P: Port>()
+    ensures { (limit : ℕ) (opening closed : Stand (Filed R.Entry)) (before after : List (WorkerView R.Entry P)) (served : HasServed R.judging R.own T.scheme P.tells P.faults limit opening closed before after)
         (told : EachIsTold R.judging R.own T.scheme P.tells P.faults limit opening closed before after served) → CreatedStand R.judging R.own T.scheme P.tells P.faults limit opening closed before after served told }
 {}

@@ -4,16 +4,16 @@
 mod all;
 mod clerk;
 mod crew;
+mod forms;
 mod laws;
 mod serving;
 mod stop;
-mod texts;
 mod worker;
 
 pub use all::serve_ports;
 pub use clerk::serve_desk;
-pub use crew::{close_web, open_web};
+pub use crew::{close_workers, open_workers};
+pub use forms::{DocketForms, FormsOf};
 pub use laws::{all_told, available, created_stand, faults_are_counted, part_begins, told};
 pub use stop::WebEnd;
-pub use texts::{DocketForms, WebTexts};
-pub use worker::WebDesk;
+pub use worker::Worker;

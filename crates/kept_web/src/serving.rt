@@ -4,7 +4,7 @@ ghost use Rattle.aid_edges.specs.Faults.{Rose};
 ghost use Rattle.kept_web.specs.Sessions.{FailsNext, Served, ServesNext, is_starved_end};
 ghost use Rattle.kept_web.specs.Workers.{HasStopped};
 
-use crate::{WebEnd, WebTexts, serve_desk};
+use crate::{DocketForms, WebEnd, serve_desk};
 use disk_model::Disk;
 use kept_desks::SharedList;
 use kept_list::{Docket, Filed, OwnDocket, RowName};
@@ -16,7 +16,7 @@ use web_edges::Port;
 
 // How many connections were served, whether a session of them ended for want of memory, and how that ended.
 #[derive(Clone, Copy)]
-pub struct Tally {
+pub struct ServedCount {
     pub served: u32,
     pub starved: bool,
     pub ended: WebEnd,
@@ -30,7 +30,7 @@ fn is_starved(before: bool, end: End) -> bool
 }
 
 // Serves the next connection of the port, and hands it back. `None`: the port failed.
-fn serve_next<D: Disk, R: OwnDocket, T: WebTexts<R>, P: Port, H: Wait>(
+fn serve_next<D: Disk, R: OwnDocket, T: DocketForms<R>, P: Port, H: Wait>(
     rt: &H,
     alloc: Global,
     turns: &Turns<SharedList<D, R>>,
@@ -56,7 +56,7 @@ fn serve_next<D: Disk, R: OwnDocket, T: WebTexts<R>, P: Port, H: Wait>(
 }
 
 // Serves so many connections of the port, or as many as come.
-pub fn serve_all<D: Disk, R: OwnDocket, T: WebTexts<R>, P: Port, H: Wait>(
+pub fn serve_all<D: Disk, R: OwnDocket, T: DocketForms<R>, P: Port, H: Wait>(
     rt: &H,
     alloc: Global,
     turns: &Turns<SharedList<D, R>>,
@@ -64,7 +64,7 @@ pub fn serve_all<D: Disk, R: OwnDocket, T: WebTexts<R>, P: Port, H: Wait>(
     number: u32,
     port: &mut P,
     sessions: u32,
-) -> (Pass<Filed<R::Entry>>, Tally)
+) -> (Pass<Filed<R::Entry>>, ServedCount)
     requires { pass.lock ≡ turns.now.id }
     ensures served { Served R.judging R.own T.scheme number pass result.0 (P.tells port.old) (P.tells port.new) result.1.served result.1.starved }
     ensures stopped { HasStopped result.1.ended result.1.served sessions (P.faults port.old) (P.faults port.new) }
@@ -84,20 +84,20 @@ pub fn serve_all<D: Disk, R: OwnDocket, T: WebTexts<R>, P: Port, H: Wait>(
         let (back, ended) = serve_next::<D, R, T, P, H>(rt, alloc, turns, pass, by, port);
         pass = back;
         let Some(end) = ended else {
-            let tally = Tally {
+            let count = ServedCount {
                 served,
                 starved,
                 ended: WebEnd::PortFault,
             };
-            return (pass, tally);
+            return (pass, count);
         };
         starved = is_starved(starved, end);
         served += 1;
     }
-    let tally = Tally {
+    let count = ServedCount {
         served,
         starved,
         ended: WebEnd::Done,
     };
-    (pass, tally)
+    (pass, count)
 }

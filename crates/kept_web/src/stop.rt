@@ -1,6 +1,6 @@
-// How a desk behind a port ends.
+// How a worker behind a port ends.
 
-/// How far a desk behind a port is.
+/// How far a worker behind a port is.
 #[derive(Clone, Copy, Debug, PartialEq, Eq)]
 pub enum WebEnd {
     /// It hasn't begun.

@@ -1,9 +1,9 @@
-//! A desk behind a port: it serves the connections of the port one after the other.
+//! A worker behind a port: it serves the connections of the port one after the other.
 ghost use Rattle.std.specs.Prelude.{◌≡◌, ◌+◌, ◌≤◌, ◌<◌, ◌^◌, [], ℕ, None, Some, false};
-ghost use Rattle.kept_web.specs.Workers.{HoldsPass, Works};
+ghost use Rattle.kept_web.specs.Workers.{HoldsPass, Works, worker_of};
 
 use crate::serving::serve_all;
-use crate::{WebEnd, WebTexts};
+use crate::{DocketForms, WebEnd};
 use disk_model::Disk;
 use kept_desks::SharedList;
 use kept_list::{Docket, Filed, OwnDocket};
@@ -13,9 +13,9 @@ use std::marker::Model;
 use std::sync::Wait;
 use web_edges::Port;
 
-/// A desk behind a port. It has a number and a pass of the lock while the lock is open.
+/// A worker behind a port. It has a number and a pass of the lock while the lock is open.
 #[derive(Drop)]
-pub struct WebDesk<R: OwnDocket, P: Port> {
+pub struct Worker<R: OwnDocket, P: Port> {
     number: u32,
     port: P,
     served: u32,
@@ -24,10 +24,10 @@ pub struct WebDesk<R: OwnDocket, P: Port> {
     pass: Option<Pass<Filed<R::Entry>>>,
 }
 
-impl<R: OwnDocket, P: Port> Model for WebDesk<R, P> {
-    ghost use Rattle.kept_web.specs.Workers.{WebView};
+impl<R: OwnDocket, P: Port> Model for Worker<R, P> {
+    ghost use Rattle.kept_web.specs.Workers.{WorkerView};
 
-    ghost Value = { WebView R.Entry P };
+    ghost Value = { WorkerView R.Entry P };
 
     ghost view = { λ d. record {
       number = d.number;
@@ -39,12 +39,12 @@ impl<R: OwnDocket, P: Port> Model for WebDesk<R, P> {
     } };
 }
 
-impl<R: OwnDocket, P: Port> WebDesk<R, P> {
-    /// A desk behind this port.
-    pub fn new(port: P) -> WebDesk<R, P>
-        ensures { result ≡ record { number = 0; port = port; served = 0; starved = false; ended = WebEnd.Open; pass = None } }
+impl<R: OwnDocket, P: Port> Worker<R, P> {
+    /// A worker behind this port.
+    pub fn new(port: P) -> Worker<R, P>
+        ensures { result ≡ worker_of port }
     {
-        WebDesk {
+        Worker {
             number: 0,
             port,
             served: 0,
@@ -73,6 +73,13 @@ impl<R: OwnDocket, P: Port> WebDesk<R, P> {
         self.pass.take()
     }
 
+    /// Its port alone.
+    pub fn into_port(self) -> P
+        ensures { result ≡ self.port }
+    {
+        self.port
+    }
+
     /// Its port.
     pub fn port(&self) -> &P
         ensures { result.now ≡ self.now.port }
@@ -96,7 +103,7 @@ impl<R: OwnDocket, P: Port> WebDesk<R, P> {
 
     /// Serves so many connections of the port, one after the other, each by turns of the lock. It ends early only where
     /// the port fails.
-    pub fn work<D: Disk, T: WebTexts<R>, H: Wait>(
+    pub fn work<D: Disk, T: DocketForms<R>, H: Wait>(
         &mut self,
         rt: &H,
         alloc: Global,
@@ -109,7 +116,7 @@ impl<R: OwnDocket, P: Port> WebDesk<R, P> {
         let Some(pass) = self.pass.take() else {
             return;
         };
-        let (pass, tally) = serve_all::<D, R, T, P, H>(
+        let (pass, count) = serve_all::<D, R, T, P, H>(
             rt,
             alloc,
             turns,
@@ -118,9 +125,9 @@ impl<R: OwnDocket, P: Port> WebDesk<R, P> {
             &mut self.port,
             sessions,
         );
-        self.served = tally.served;
-        self.starved = tally.starved;
-        self.ended = tally.ended;
+        self.served = count.served;
+        self.starved = count.starved;
+        self.ended = count.ended;
         self.pass = Some(pass);
     }
 }

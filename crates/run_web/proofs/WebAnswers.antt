@@ -1,5 +1,5 @@
 -- What a run of the web desk shows of what it answered.
-use Rattle.std.proofs.Common.{◌≡◌, ◌⊎◌, inl, inr, ℕ, List, [], Option, None, sym, subst}
+use Rattle.std.proofs.Common.{◌≡◌, ◌⊎◌, inl, inr, ℕ, List, [], Option, None, map, sym, subst}
 use Rattle.aid_edges.specs.declared.sink.Sink.{Ghosts as SinkGhosts}
 use Rattle.aid_filings.specs.declared.filing.Filing.{Filing}
 use Rattle.disk_model.specs.Telling.{IsHonest}
@@ -17,28 +17,30 @@ use Rattle.kept_web.proofs.AllTelling.{are_counted, each_told}
 use Rattle.kept_web.proofs.Creating.{created_stand}
 use Rattle.kept_web.specs.AllTold.{EachIsTold}
 use Rattle.web_edges.specs.Ports.{PortTelling}
-use Rattle.kept_web.specs.Workers.{HasServed, WebView}
+use Rattle.kept_web.specs.Workers.{HasServed, WorkerView, ports_of, worker_of}
 use Rattle.office_history.specs.Answer.{is_admit}
 use Rattle.office_lock.specs.declared.turned.Stand.{Stand}
 use Rattle.run_web.specs.RanWeb.{RanWeb, served, starved, unasked, unopened}
 use Rattle.run_web.specs.WebAnswers.{CountsFaults, HasAnswered, KeepsCreated}
 use Rattle.run_web.specs.WebLaws.{created as created_adds, unavailable}
-use Rattle.run_web.specs.WebTexts.{office_web}
+use Rattle.run_web.specs.OfficeForms.{office_web}
 
-module _ {D K P : Type 0} (disk : Ghosts D) (sink : SinkGhosts K) (tells : P → PortTelling) (faults : P → ℕ) (sessions : ℕ) (old new : D) (before after : List (WebView Filing P)) (out out' : K) (status : ℕ) where
-  module _ (past history : List Filing) (pending : Option Filing) (log : List RowName) (waiting : Option RowName) (at : D) where
+module _ {D K P : Type 0} (disk : Ghosts D) (sink : SinkGhosts K) (tells : P → PortTelling) (faults : P → ℕ) (sessions : ℕ) (old new : D) (before after : List P) (out out' : K) (status : ℕ) where
+  module _ (past history : List Filing) (pending : Option Filing) (log : List RowName) (waiting : Option RowName) (at : D) (workers : List (WorkerView Filing P)) where
     abbrev opening : Stand (Filed Filing)
     opening = stand_of past None [] None (disk.faults old) (disk.tells at).honest
 
     abbrev closed : Stand (Filed Filing)
     closed = stand_of history pending log waiting (disk.faults new) (disk.tells new).honest
 
-    module _ (has : HasServed office_judging filing_asked office_web tells faults sessions opening closed before after) (sound : IsHonest (disk.tells new) → IsSound office_scheme (disk.tells new) history pending) where
-      abbrev told : EachIsTold office_judging filing_asked office_web tells faults sessions opening closed before after has
-      told = each_told office_judging filing_asked office_web own_added unavailable tells faults sessions opening closed before after has
+    module _ (has : HasServed office_judging filing_asked office_web tells faults sessions opening closed (map worker_of before) workers) (ports : after ≡ ports_of workers) (sound : IsHonest (disk.tells new) → IsSound office_scheme (disk.tells new) history pending) where
+      abbrev told : EachIsTold office_judging filing_asked office_web tells faults sessions opening closed (map worker_of before) workers has
+      told = each_told office_judging filing_asked office_web own_added unavailable tells faults sessions opening closed (map worker_of before) workers has
 
       abbrev answered : HasAnswered disk tells faults sessions new before after
       answered = record {
+        workers = workers;
+        ports = ports;
         opening = opening;
         closed = closed;
         served = has;
@@ -50,23 +52,23 @@ module _ {D K P : Type 0} (disk : Ghosts D) (sink : SinkGhosts K) (tells : P →
       counts_faults : CountsFaults disk tells faults sessions old new before after
       counts_faults = record {
         answered = answered;
-        counted = are_counted office_judging filing_asked office_web own_added unavailable tells faults sessions opening closed before after has told;
+        counted = are_counted office_judging filing_asked office_web own_added unavailable tells faults sessions opening closed (map worker_of before) workers has told;
       }
 
       keeps_created : KeepsCreated disk tells faults sessions new before after
       keeps_created = record {
         answered = answered;
-        created = created_stand office_judging filing_asked office_web own_added is_admit adds_added created_adds tells faults sessions opening closed before after has told;
+        created = created_stand office_judging filing_asked office_web own_added is_admit adds_added created_adds tells faults sessions opening closed (map worker_of before) workers has told;
       }
 
   pub counted : RanWeb disk sink tells faults sessions old new before after out out' status → (after ≡ before) ⊎ CountsFaults disk tells faults sessions old new before after
-  counted (unasked _ cannot same desks ends) = inl desks
-  counted (unopened error _ can opened cause desks ends) = inl desks
-  counted (starved past _ can opened desks ends) = inl desks
-  counted (served past history pending log waiting at _ can opened has sound ends) = inr (counts_faults past history pending log waiting at has sound)
+  counted (unasked _ cannot same same_ports ends) = inl same_ports
+  counted (unopened error _ can opened cause same_ports ends) = inl same_ports
+  counted (starved past _ can opened same_ports ends) = inl same_ports
+  counted (served past history pending log waiting at workers _ can opened has ports sound ends) = inr (counts_faults past history pending log waiting at workers has ports sound)
 
   pub created : RanWeb disk sink tells faults sessions old new before after out out' status → (after ≡ before) ⊎ KeepsCreated disk tells faults sessions new before after
-  created (unasked _ cannot same desks ends) = inl desks
-  created (unopened error _ can opened cause desks ends) = inl desks
-  created (starved past _ can opened desks ends) = inl desks
-  created (served past history pending log waiting at _ can opened has sound ends) = inr (keeps_created past history pending log waiting at has sound)
+  created (unasked _ cannot same same_ports ends) = inl same_ports
+  created (unopened error _ can opened cause same_ports ends) = inl same_ports
+  created (starved past _ can opened same_ports ends) = inl same_ports
+  created (served past history pending log waiting at workers _ can opened has ports sound ends) = inr (keeps_created past history pending log waiting at workers has ports sound)

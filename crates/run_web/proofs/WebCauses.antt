@@ -1,7 +1,8 @@
 -- What a run of the web desk shows of its causes.
-use Rattle.std.proofs.Common.{◌≡◌, ◌≢◌, ◌⊎◌, inl, inr, ℕ, zero, suc, ◌<◌, Bool, true, false, List, [], ◌∷◌, ◌++◌, Option, None, Result, Ok, Err, length, drop, map, get_or, refl, sym, ap, ◌∙◌, subst, arith}
+use Rattle.std.proofs.Common.{◌≡◌, ◌≢◌, ◌⊎◌, inl, inr, ℕ, zero, suc, ◌<◌, Bool, true, false, IsTrue, List, [], ◌∷◌, ◌++◌, Option, None, Result, Ok, Err, length, drop, map, get_or, refl, sym, ap, ◌∙◌, subst, arith}
 use Rattle.std.specs.Prelude.{◌||◌, if◌then◌else◌}
 use Rattle.std.specs.List.{list_any}
+use Rattle.std.proofs.Math.ListN.{get_or-map}
 use Rattle.aid_edges.specs.Faults.{Rose}
 use Rattle.aid_edges.specs.declared.sink.Sink.{Ghosts as SinkGhosts}
 use Rattle.aid_filings.specs.declared.filing.Filing.{Filing}
@@ -21,7 +22,7 @@ use Rattle.kept_session.specs.declared.stop.FileStop.TheVariants as filing
 use Rattle.kept_session.specs.declared.stop.SessionStop.TheVariants as session
 use Rattle.web_edges.specs.Ports.{PortTelling}
 use Rattle.kept_web.specs.Sessions.{closed_as}
-use Rattle.kept_web.specs.Workers.{HasServed, HasStopped, WebView, all_shown, shown_of}
+use Rattle.kept_web.specs.Workers.{HasServed, HasStopped, WorkerView, all_shown, ports_of, shown_of, worker_of}
 use Rattle.kept_web.specs.declared.stop.WebEnd.{WebEnd}
 use Rattle.kept_web.specs.declared.stop.WebEnd.TheVariants as ended
 use Rattle.office_lock.specs.declared.turned.Stand.{Stand}
@@ -29,24 +30,24 @@ use Rattle.kept_runs.specs.Ends.{Ends, stopped, well}
 use Rattle.kept_runs.proofs.EndLaws.{with_status}
 use Rattle.run_web.specs.RanWeb.{CanServe, HasPortFault, HasServedAll, IsUnrisen, RanWeb, has_failed, served, starved, unasked, unopened, web_end}
 use Rattle.kept_runs.specs.Statuses.{fault_line, open_status, status_of}
-use Rattle.run_web.specs.WebTexts.{office_web}
+use Rattle.run_web.specs.OfficeForms.{office_web}
 use Rattle.kept_runs.specs.declared.stop.RunStop.{RunStop}
 use Rattle.kept_runs.specs.declared.stop.RunStop.TheVariants.{Usage, File, Socket}
 
 -- the run over what the desks served
 module _ {D K P : Type 0} (disk : Ghosts D) (sink : SinkGhosts K) (tells : P → PortTelling) (faults : P → ℕ) (sessions : ℕ) where
-  pub web_served : (old at now new : D) (before after : List (WebView Filing P)) (past history : List Filing) (pending : Option Filing) (log : List RowName) (waiting : Option RowName) (out out' : K) (status : ℕ) (how : Result Unit RunStop)
+  pub web_served : (old at now new : D) (before after : List P) (workers : List (WorkerView Filing P)) (past history : List Filing) (pending : Option Filing) (log : List RowName) (waiting : Option RowName) (out out' : K) (status : ℕ) (how : Result Unit RunStop)
       → CanServe (length before) sessions → IsOpened disk office_scheme past old at → disk.faults at ≡ disk.faults old
-      → HasServed office_judging filing_asked office_web tells faults sessions (stand_of past None [] None (disk.faults at) (disk.tells at).honest) (stand_of history pending log waiting (disk.faults now) (disk.tells now).honest) before after
-      → new ≡ now → (IsHonest (disk.tells new) → IsSound office_scheme (disk.tells new) history pending) → how ≡ web_end after → Ends sink out out' how status
+      → HasServed office_judging filing_asked office_web tells faults sessions (stand_of past None [] None (disk.faults at) (disk.tells at).honest) (stand_of history pending log waiting (disk.faults now) (disk.tells now).honest) (map worker_of before) workers
+      → after ≡ ports_of workers → new ≡ now → (IsHonest (disk.tells new) → IsSound office_scheme (disk.tells new) history pending) → how ≡ web_end workers → Ends sink out out' how status
       → RanWeb disk sink tells faults sessions old new before after out out' status
-  web_served old at now new before after past history pending log waiting out out' status how can opened unmoved has same sound is ends =
-      served past history pending log waiting at status can opened
-      (subst (λ (d : D). HasServed office_judging filing_asked office_web tells faults sessions (stand_of past None [] None (disk.faults old) (disk.tells at).honest) (stand_of history pending log waiting (disk.faults d) (disk.tells d).honest) before after) (sym same)
-      (subst (λ n. HasServed office_judging filing_asked office_web tells faults sessions (stand_of past None [] None n (disk.tells at).honest) (stand_of history pending log waiting (disk.faults now) (disk.tells now).honest) before after) unmoved has))
-      sound (subst (λ h. Ends sink out out' h status) is ends)
+  web_served old at now new before after workers past history pending log waiting out out' status how can opened unmoved has ports same sound is ends =
+      served past history pending log waiting at workers status can opened
+      (subst (λ (d : D). HasServed office_judging filing_asked office_web tells faults sessions (stand_of past None [] None (disk.faults old) (disk.tells at).honest) (stand_of history pending log waiting (disk.faults d) (disk.tells d).honest) (map worker_of before) workers) (sym same)
+      (subst (λ n. HasServed office_judging filing_asked office_web tells faults sessions (stand_of past None [] None n (disk.tells at).honest) (stand_of history pending log waiting (disk.faults now) (disk.tells now).honest) (map worker_of before) workers) unmoved has))
+      ports sound (subst (λ h. Ends sink out out' h status) is ends)
 
--- ---- the desks
+-- ---- the workers
 -- where a test passes, and where it passes nowhere
 any_at : {X : Type 0} (p : X → Bool) (xs : List X) → list_any p xs ≡ true → (k : ℕ) × (d : X) × (k < length xs) × (p (get_or xs k d) ≡ true)
 any_at p [] is = absurd (let bad : ⊥ = cc in bad)
@@ -65,13 +66,13 @@ any_none {X} p (x ∷ xs) is k d lt = go (any_none p xs) (p x) refl k lt
     go more false here zero lt = here
     go more false here (suc k) lt = more (sym (ap (λ b. b || list_any p xs) here) ∙ is) k d (omega (arith, lt))
 
-shown_at : {P : Type 0} (xs ys : List (WebView Filing P)) → all_shown xs ≡ all_shown ys → (k : ℕ) (d : WebView Filing P) → k < length ys → shown_of (get_or xs k d) ≡ shown_of (get_or ys k d)
+shown_at : {P : Type 0} (xs ys : List (WorkerView Filing P)) → all_shown xs ≡ all_shown ys → (k : ℕ) (d : WorkerView Filing P) → k < length ys → shown_of (get_or xs k d) ≡ shown_of (get_or ys k d)
 shown_at xs [] same k d lt = absurd (omega (arith, lt))
 shown_at [] (y ∷ ys) same k d lt = absurd (let sizes : 0 ≡ suc (length (all_shown ys)) = ap length same in omega (arith, sizes))
 shown_at (x ∷ xs) (y ∷ ys) same zero d lt = ap (λ l. get_or l 0 (shown_of y)) same
 shown_at (x ∷ xs) (y ∷ ys) same (suc k) d lt = shown_at xs ys (ap (drop 1) same) k d (omega (arith, lt))
 
-shown_size : {P : Type 0} (xs ys : List (WebView Filing P)) → all_shown xs ≡ all_shown ys → length xs ≡ length ys
+shown_size : {P : Type 0} (xs ys : List (WorkerView Filing P)) → all_shown xs ≡ all_shown ys → length xs ≡ length ys
 shown_size [] [] same = refl
 shown_size [] (y ∷ ys) same = absurd (let sizes : 0 ≡ suc (length (all_shown ys)) = ap length same in omega (arith, sizes))
 shown_size (x ∷ xs) [] same = absurd (let sizes : suc (length (all_shown xs)) ≡ 0 = ap length same in omega (arith, sizes))
@@ -91,33 +92,53 @@ size_map : {A B : Type 0} (f : A → B) (xs : List A) → length (map f xs) ≡ 
 size_map f [] = refl
 size_map f (x ∷ xs) = ap (λ n. suc n) (size_map f xs)
 
-module _ {P : Type 0} (tells : P → PortTelling) (faults : P → ℕ) (sessions : ℕ) (opening closed : Stand (Filed Filing)) (before after : List (WebView Filing P)) (has : HasServed office_judging filing_asked office_web tells faults sessions opening closed before after) where
-  port_fault : list_any (λ (d : WebView Filing P). has_failed d.ended) after ≡ true → HasPortFault faults before after
-  port_fault is =
-      let (k, d, lt, failed) = any_at (λ (d : WebView Filing P). has_failed d.ended) after is in
-      let size = shown_size after has.desks has.shown in
-      let inside : k < length before = omega (arith, lt, size, has.count) in
-      let shown = shown_at after has.desks has.shown k d (omega (arith, lt, size)) in
-      let one = has.each k d inside in
-      let ended_is : (get_or after k d).ended ≡ (get_or has.desks k d).ended = ap (λ s. s.4) shown in
-      let port_is : (get_or after k d).port ≡ (get_or has.desks k d).port = ap (λ s. s.1) shown in
-      (k, d, inside, subst (λ p. Rose (faults (get_or before k d).port) (faults p)) (sym port_is) (failed_rose (get_or has.desks k d).ended _ _ _ _ (ap has_failed (sym ended_is) ∙ failed) one.stopped))
+-- the ports of the workers that these ports become
+pub ports_back : {P : Type 0} (ports : List P) → ports_of {Entry = Filing} (map worker_of ports) ≡ ports
+ports_back [] = refl
+ports_back (p ∷ ports) = ap (λ l. p ∷ l) (ports_back ports)
 
-  all_back : list_any (λ (d : WebView Filing P). has_failed d.ended) after ≡ false → (k : ℕ) (d : WebView Filing P) → k < length before → HasServedAll tells sessions (get_or before k d) (get_or after k d)
-  all_back none k d inside =
-      let size = shown_size after has.desks has.shown in
-      let lt : k < length has.desks = omega (arith, inside, has.count) in
-      let shown = shown_at after has.desks has.shown k d lt in
+module _ {P : Type 0} (tells : P → PortTelling) (faults : P → ℕ) (sessions : ℕ) (opening closed : Stand (Filed Filing)) (before after : List P) (workers : List (WorkerView Filing P)) (has : HasServed office_judging filing_asked office_web tells faults sessions opening closed (map worker_of before) workers) (ports : after ≡ ports_of workers) where
+  abbrev were : List (WorkerView Filing P)
+  were = map worker_of before
+
+  before_at : (k : ℕ) (d : WorkerView Filing P) → (get_or were k d).port ≡ get_or before k d.port
+  before_at k d = sym (get_or-map (λ (d : WorkerView Filing P). d.port) were k d) ∙ ap (λ l. get_or l k d.port) (ports_back before)
+
+  after_at : (k : ℕ) (d : WorkerView Filing P) → (get_or workers k d).port ≡ get_or after k d.port
+  after_at k d = sym (get_or-map (λ (d : WorkerView Filing P). d.port) workers k d) ∙ ap (λ l. get_or l k d.port) (sym ports)
+
+  port_fault : list_any (λ (d : WorkerView Filing P). has_failed d.ended) workers ≡ true → HasPortFault faults before after
+  port_fault is =
+      let (k, d, lt, failed) = any_at (λ (d : WorkerView Filing P). has_failed d.ended) workers is in
+      let size = shown_size workers has.workers has.shown in
+      let inside : k < length were = omega (arith, lt, size, has.count) in
+      let shown = shown_at workers has.workers has.shown k d (omega (arith, lt, size)) in
       let one = has.each k d inside in
-      let ended_is : (get_or after k d).ended ≡ (get_or has.desks k d).ended = ap (λ s. s.4) shown in
-      let port_is : (get_or after k d).port ≡ (get_or has.desks k d).port = ap (λ s. s.1) shown in
-      let served_is : (get_or after k d).served ≡ (get_or has.desks k d).served = ap (λ s. s.2) shown in
-      let all : (get_or has.desks k d).served ≡ sessions = done_served (get_or has.desks k d).ended _ _ _ _ (ap has_failed (sym ended_is) ∙ any_none (λ (d : WebView Filing P). has_failed d.ended) after none k d (omega (arith, lt, size))) one.stopped in
+      let ended_is : (get_or workers k d).ended ≡ (get_or has.workers k d).ended = ap (λ s. s.4) shown in
+      let port_is : (get_or workers k d).port ≡ (get_or has.workers k d).port = ap (λ s. s.1) shown in
+      let rose : Rose (faults (get_or were k d).port) (faults (get_or has.workers k d).port) = failed_rose (get_or has.workers k d).ended _ _ _ _ (ap has_failed (sym ended_is) ∙ failed) one.stopped in (
+        k,
+        d.port,
+        subst (λ n. k < n) (size_map worker_of before) inside,
+        subst (λ p. Rose (faults p) (faults (get_or after k d.port))) (before_at k d) (subst (λ p. Rose (faults (get_or were k d).port) (faults p)) (sym port_is ∙ after_at k d) rose),
+      )
+
+  all_back : list_any (λ (d : WorkerView Filing P). has_failed d.ended) workers ≡ false → (k : ℕ) (p : P) → k < length before → HasServedAll tells sessions (get_or before k p) (get_or after k p)
+  all_back none k p below =
+      let d : WorkerView Filing P = worker_of p in
+      let inside : k < length were = subst (λ n. k < n) (sym (size_map worker_of before)) below in
+      let size = shown_size workers has.workers has.shown in
+      let lt : k < length has.workers = omega (arith, inside, has.count) in
+      let shown = shown_at workers has.workers has.shown k d lt in
+      let one = has.each k d inside in
+      let ended_is : (get_or workers k d).ended ≡ (get_or has.workers k d).ended = ap (λ s. s.4) shown in
+      let port_is : (get_or workers k d).port ≡ (get_or has.workers k d).port = ap (λ s. s.1) shown in
+      let all : (get_or has.workers k d).served ≡ sessions = done_served (get_or has.workers k d).ended _ _ _ _ (ap has_failed (sym ended_is) ∙ any_none (λ (d : WorkerView Filing P). has_failed d.ended) workers none k d (omega (arith, lt, size))) one.stopped in
       record {
-        served = served_is ∙ all;
         back = map closed_as one.served.sessions;
         count = size_map closed_as one.served.sessions ∙ (sym one.served.count ∙ all);
-        closed = λ honest. subst (λ p. (tells p).closed ≡ (tells (get_or before k d).port).closed ++ map closed_as one.served.sessions) (sym port_is) (one.served.closed honest);
+        closed = subst (λ old. IsTrue (tells old).honest → (tells (get_or after k p)).closed ≡ (tells old).closed ++ map closed_as one.served.sessions) (before_at k d)
+            (subst (λ new. IsTrue (tells (get_or were k d).port).honest → (tells new).closed ≡ (tells (get_or were k d).port).closed ++ map closed_as one.served.sessions) (sym port_is ∙ after_at k d) one.served.closed);
       }
 
 -- ---- statuses
@@ -153,7 +174,7 @@ open_status_is (opening.Damaged place) = (λ e. omega (arith, e), (λ e. omega (
 open_status_is opening.DiskFault = (λ e. omega (arith, e), (λ e. omega (arith, e), λ e. omega (arith, e)))
 open_status_is opening.NoMemory = (λ e. omega (arith, e), (λ e. omega (arith, e), λ e. omega (arith, e)))
 
--- the status once the desks have served, by whether a session ended for want of memory and whether a port failed
+-- the status once the workers have served, by whether a session ended for want of memory and whether a port failed
 module _ {K : Type 0} (sink : SinkGhosts K) (out out' : K) (status : ℕ) where
   abbrev how : Bool → Bool → Result Unit RunStop
   how lacks fails = if lacks then Err (File (session.Filing filing.NoMemory)) else if fails then Err Socket else Ok tt
@@ -182,39 +203,39 @@ module _ {K : Type 0} (sink : SinkGhosts K) (out out' : K) (status : ℕ) where
   complete_by false false e unrisen none = inl (done_status sink out out' status e)
 
 -- ---- causes
-module _ {D K P : Type 0} (disk : Ghosts D) (sink : SinkGhosts K) (tells : P → PortTelling) (faults : P → ℕ) (sessions : ℕ) (old new : D) (before after : List (WebView Filing P)) (out out' : K) (status : ℕ) where
-  abbrev any_starved : Bool
-  any_starved = list_any (λ (d : WebView Filing P). d.starved) after
+module _ {D K P : Type 0} (disk : Ghosts D) (sink : SinkGhosts K) (tells : P → PortTelling) (faults : P → ℕ) (sessions : ℕ) (old new : D) (before after : List P) (out out' : K) (status : ℕ) where
+  abbrev any_starved : List (WorkerView Filing P) → Bool
+  any_starved workers = list_any (λ (d : WorkerView Filing P). d.starved) workers
 
-  abbrev any_failed : Bool
-  any_failed = list_any (λ (d : WebView Filing P). has_failed d.ended) after
+  abbrev any_failed : List (WorkerView Filing P) → Bool
+  any_failed workers = list_any (λ (d : WorkerView Filing P). has_failed d.ended) workers
 
   pub usage : RanWeb disk sink tells faults sessions old new before after out out' status → status ≡ 2 → CanServe (length before) sessions → ⊥
-  usage (unasked _ cannot same desks e) is can = cannot can
-  usage (unopened error _ could u cause desks e) is can = not_by status 2 (open_status error) is (early sink (File (session.Opening error)) out out' status e) (λ n. (open_status_is error).0 (sym n)) (λ n. omega (arith, n))
-  usage (starved past _ could opened desks e) is can = not_by status 2 9 is (early sink (File (session.Filing filing.NoMemory)) out out' status e) (λ n. omega (arith, n)) (λ n. omega (arith, n))
-  usage (served past history pending log waiting at _ could opened has sound e) is can = usage_by sink out out' status any_starved any_failed e is
+  usage (unasked _ cannot same still_ports e) is can = cannot can
+  usage (unopened error _ could u cause same_ports e) is can = not_by status 2 (open_status error) is (early sink (File (session.Opening error)) out out' status e) (λ n. (open_status_is error).0 (sym n)) (λ n. omega (arith, n))
+  usage (starved past _ could opened same_ports e) is can = not_by status 2 9 is (early sink (File (session.Filing filing.NoMemory)) out out' status e) (λ n. omega (arith, n)) (λ n. omega (arith, n))
+  usage (served past history pending log waiting at workers _ could opened has ports sound e) is can = usage_by sink out out' status (any_starved workers) (any_failed workers) e is
 
   pub socket : RanWeb disk sink tells faults sessions old new before after out out' status → status ≡ 10 → HasPortFault faults before after
-  socket (unasked _ cannot same desks e) is = absurd (not_by status 10 2 is (early sink Usage out out' status e) (λ n. omega (arith, n)) (λ n. omega (arith, n)))
-  socket (unopened error _ could u cause desks e) is = absurd (not_by status 10 (open_status error) is (early sink (File (session.Opening error)) out out' status e) (λ n. (open_status_is error).1.0 (sym n)) (λ n. omega (arith, n)))
-  socket (starved past _ could opened desks e) is = absurd (not_by status 10 9 is (early sink (File (session.Filing filing.NoMemory)) out out' status e) (λ n. omega (arith, n)) (λ n. omega (arith, n)))
-  socket (served past history pending log waiting at _ could opened has sound e) is = port_fault tells faults sessions _ _ before after has (socket_by sink out out' status any_starved any_failed e is)
+  socket (unasked _ cannot same still_ports e) is = absurd (not_by status 10 2 is (early sink Usage out out' status e) (λ n. omega (arith, n)) (λ n. omega (arith, n)))
+  socket (unopened error _ could u cause same_ports e) is = absurd (not_by status 10 (open_status error) is (early sink (File (session.Opening error)) out out' status e) (λ n. (open_status_is error).1.0 (sym n)) (λ n. omega (arith, n)))
+  socket (starved past _ could opened same_ports e) is = absurd (not_by status 10 9 is (early sink (File (session.Filing filing.NoMemory)) out out' status e) (λ n. omega (arith, n)) (λ n. omega (arith, n)))
+  socket (served past history pending log waiting at workers _ could opened has ports sound e) is = port_fault tells faults sessions _ _ before after workers has ports (socket_by sink out out' status (any_starved workers) (any_failed workers) e is)
 
-  pub all : RanWeb disk sink tells faults sessions old new before after out out' status → status ≡ 0 → (k : ℕ) (d : WebView Filing P) → k < length before → HasServedAll tells sessions (get_or before k d) (get_or after k d)
-  all (unasked _ cannot same desks e) is = absurd (not_by status 0 2 is (early sink Usage out out' status e) (λ n. omega (arith, n)) (λ n. omega (arith, n)))
-  all (unopened error _ could u cause desks e) is = absurd (not_by status 0 (open_status error) is (early sink (File (session.Opening error)) out out' status e) (λ n. (open_status_is error).1.1 (sym n)) (λ n. omega (arith, n)))
-  all (starved past _ could opened desks e) is = absurd (not_by status 0 9 is (early sink (File (session.Filing filing.NoMemory)) out out' status e) (λ n. omega (arith, n)) (λ n. omega (arith, n)))
-  all (served past history pending log waiting at _ could opened has sound e) is = all_back tells faults sessions _ _ before after has (zero_by sink out out' status any_starved any_failed e is)
+  pub all : RanWeb disk sink tells faults sessions old new before after out out' status → status ≡ 0 → (k : ℕ) (p : P) → k < length before → HasServedAll tells sessions (get_or before k p) (get_or after k p)
+  all (unasked _ cannot same still_ports e) is = absurd (not_by status 0 2 is (early sink Usage out out' status e) (λ n. omega (arith, n)) (λ n. omega (arith, n)))
+  all (unopened error _ could u cause same_ports e) is = absurd (not_by status 0 (open_status error) is (early sink (File (session.Opening error)) out out' status e) (λ n. (open_status_is error).1.1 (sym n)) (λ n. omega (arith, n)))
+  all (starved past _ could opened same_ports e) is = absurd (not_by status 0 9 is (early sink (File (session.Filing filing.NoMemory)) out out' status e) (λ n. omega (arith, n)) (λ n. omega (arith, n)))
+  all (served past history pending log waiting at workers _ could opened has ports sound e) is = all_back tells faults sessions _ _ before after workers has ports (zero_by sink out out' status (any_starved workers) (any_failed workers) e is)
 
   pub complete : RanWeb disk sink tells faults sessions old new before after out out' status → CanServe (length before) sessions → IsHonest (disk.tells old) → (past : List Filing) → Recovers office_scheme (disk.tells old).reads past
       → IsUnrisen (disk.faults old) (disk.faults new) → IsUnrisen (sink.faults out) (sink.faults out') → (HasPortFault faults before after → ⊥) → (status ≡ 0) ⊎ (status ≡ 9)
-  complete (unasked _ cannot same desks e) can honest past recovers still quiet ports = absurd (cannot can)
-  complete (unopened error _ could u cause desks e) can honest past recovers still quiet ports = inr (go (u.complete honest past recovers))
+  complete (unasked _ cannot same still_ports e) can honest past recovers still quiet ports = absurd (cannot can)
+  complete (unopened error _ could u cause same_ports e) can honest past recovers still quiet ports = inr (go (u.complete honest past recovers))
     where
       go : (error ≡ opening.NoMemory) ⊎ (error ≡ opening.DiskFault) → status ≡ 9
       go (inl is) = early_still sink (File (session.Opening error)) out out' status e quiet ∙ ap open_status is
       go (inr is) = absurd (still (cause is))
-  complete (starved past' _ could opened desks e) can honest past recovers still quiet ports = inr (early_still sink (File (session.Filing filing.NoMemory)) out out' status e quiet)
-  complete (served past' history pending log waiting at _ could opened has sound e) can honest past recovers still quiet ports =
-      complete_by sink out out' status any_starved any_failed e quiet (λ failed. ports (port_fault tells faults sessions _ _ before after has failed))
+  complete (starved past' _ could opened same_ports e) can honest past recovers still quiet ports = inr (early_still sink (File (session.Filing filing.NoMemory)) out out' status e quiet)
+  complete (served past' history pending log waiting at workers _ could opened has given sound e) can honest past recovers still quiet none =
+      complete_by sink out out' status (any_starved workers) (any_failed workers) e quiet (λ failed. none (port_fault tells faults sessions _ _ before after workers has given failed))

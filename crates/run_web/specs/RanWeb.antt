@@ -1,5 +1,6 @@
--- What a run of the web desk does: the journal, the connections of each port, and the status.
-use Rattle.std.specs.Prelude.{◌≡◌, ◌<◌, ◌≤◌, ℕ, Bool, true, false, if◌then◌else◌, IsTrue, List, [], ◌++◌, length, get_or, Option, None, Result, Ok, Err}
+-- What a run of the web desk does: the journal, the connections of each port, and the status. The workers that served the ports
+-- stay inside it.
+use Rattle.std.specs.Prelude.{◌≡◌, ◌<◌, ◌≤◌, ℕ, Bool, true, false, if◌then◌else◌, IsTrue, List, [], ◌++◌, length, map, get_or, Option, None, Result, Ok, Err}
 use Rattle.std.specs.List.{list_any}
 use Rattle.aid_edges.specs.Faults.{Rose}
 use Rattle.aid_edges.specs.declared.sink.Sink.{Ghosts as SinkGhosts}
@@ -18,25 +19,25 @@ use Rattle.kept_session.specs.Sessions.{IsUnopened}
 use Rattle.kept_session.specs.declared.stop.FileStop.TheVariants as filing
 use Rattle.kept_session.specs.declared.stop.SessionStop.TheVariants as session
 use Rattle.web_edges.specs.Ports.{Closed, PortTelling}
-use Rattle.kept_web.specs.Workers.{HasServed, WebView}
+use Rattle.kept_web.specs.Workers.{HasServed, WorkerView, ports_of, worker_of}
 use Rattle.kept_web.specs.declared.stop.WebEnd.{WebEnd}
 use Rattle.kept_web.specs.declared.stop.WebEnd.TheVariants as ended
 use Rattle.kept_runs.specs.Ends.{Ends}
-use Rattle.run_web.specs.WebTexts.{office_web}
+use Rattle.run_web.specs.OfficeForms.{office_web}
 use Rattle.kept_runs.specs.declared.stop.RunStop.{RunStop}
 use Rattle.kept_runs.specs.declared.stop.RunStop.TheVariants.{Usage, File, Socket}
 
--- the desk's port failed
+-- the worker's port failed
 abbrev pub has_failed : WebEnd → Bool
 has_failed ended.Open = false
 has_failed ended.Done = false
 has_failed ended.PortFault = true
 
--- how the run ends once the desks have served: for want of memory where a session ended so, else by a port that failed, where one did
-abbrev pub web_end : {P : Type 0} → List (WebView Filing P) → Result Unit RunStop
-web_end {P} desks =
-    if list_any (λ (d : WebView Filing P). d.starved) desks then Err (File (session.Filing filing.NoMemory))
-    else if list_any (λ (d : WebView Filing P). has_failed d.ended) desks then Err Socket
+-- how the run ends once the workers have served: for want of memory where a session ended so, else by a port that failed, where one did
+abbrev pub web_end : {P : Type 0} → List (WorkerView Filing P) → Result Unit RunStop
+web_end {P} workers =
+    if list_any (λ (d : WorkerView Filing P). d.starved) workers then Err (File (session.Filing filing.NoMemory))
+    else if list_any (λ (d : WorkerView Filing P). has_failed d.ended) workers then Err Socket
     else Ok tt
 
 -- so many ports can be served, so many connections each
@@ -47,23 +48,24 @@ pub record CanServe (ports sessions : ℕ) : Type 0 where
   pub most : sessions ≤ 1000000
 
 -- A run of the web desk over these ports, by how it ended.
-pub data RanWeb {D K P : Type 0} (disk : Ghosts D) (sink : SinkGhosts K) (tells : P → PortTelling) (faults : P → ℕ) (sessions : ℕ) (old new : D) (before after : List (WebView Filing P)) (out out' : K) : ℕ → Type 0 where
+pub data RanWeb {D K P : Type 0} (disk : Ghosts D) (sink : SinkGhosts K) (tells : P → PortTelling) (faults : P → ℕ) (sessions : ℕ) (old new : D) (before after : List P) (out out' : K) : ℕ → Type 0 where
   -- there is no port, or more than 16, or the number of sessions is out of range: nothing is done
   unasked : (status : ℕ) → (CanServe (length before) sessions → ⊥) → new ≡ old → after ≡ before → Ends sink out out' (Err Usage) status
       → RanWeb disk sink tells faults sessions old new before after out out' status
   -- no office was opened: no call was made on a port
   unopened : (error : OpenError) (status : ℕ) → CanServe (length before) sessions → IsUnopened disk office_scheme error old new → (error ≡ opening.DiskFault → Rose (disk.faults old) (disk.faults new)) → after ≡ before → Ends sink out out' (Err (File (session.Opening error))) status
       → RanWeb disk sink tells faults sessions old new before after out out' status
-  -- there was no memory for the desks: no call was made on a port
+  -- there was no memory for the workers or their lock: no call was made on a port
   starved : (past : List Filing) (status : ℕ) → CanServe (length before) sessions → IsOpened disk office_scheme past old new → after ≡ before → Ends sink out out' (Err (File (session.Filing filing.NoMemory))) status
       → RanWeb disk sink tells faults sessions old new before after out out' status
-  -- The desks served. Each image of the disk then recovers the list at the end, with or without one undecided filing.
-  served : (past history : List Filing) (pending : Option Filing) (log : List RowName) (waiting : Option RowName) (at : D) (status : ℕ)
+  -- The workers of these ports served, and gave them back. Each image of the disk then recovers the list at the end, with or without one undecided filing.
+  served : (past history : List Filing) (pending : Option Filing) (log : List RowName) (waiting : Option RowName) (at : D) (workers : List (WorkerView Filing P)) (status : ℕ)
       → CanServe (length before) sessions
       → IsOpened disk office_scheme past old at
-      → HasServed office_judging filing_asked office_web tells faults sessions (stand_of past None [] None (disk.faults old) (disk.tells at).honest) (stand_of history pending log waiting (disk.faults new) (disk.tells new).honest) before after
+      → HasServed office_judging filing_asked office_web tells faults sessions (stand_of past None [] None (disk.faults old) (disk.tells at).honest) (stand_of history pending log waiting (disk.faults new) (disk.tells new).honest) (map worker_of before) workers
+      → after ≡ ports_of workers
       → (IsHonest (disk.tells new) → IsSound office_scheme (disk.tells new) history pending)
-      → Ends sink out out' (web_end after) status
+      → Ends sink out out' (web_end workers) status
       → RanWeb disk sink tells faults sessions old new before after out out' status
 
 -- ---- what a run shows of its causes
@@ -72,12 +74,11 @@ abbrev pub IsUnrisen : ℕ → ℕ → Type 0
 IsUnrisen old new = Rose old new → ⊥
 
 -- a port failed
-abbrev pub HasPortFault : {P : Type 0} → (P → ℕ) → List (WebView Filing P) → List (WebView Filing P) → Type 0
-HasPortFault {P} faults before after = (k : ℕ) × (d : WebView Filing P) × (k < length before) × Rose (faults (get_or before k d).port) (faults (get_or after k d).port)
+abbrev pub HasPortFault : {P : Type 0} → (P → ℕ) → List P → List P → Type 0
+HasPortFault {P} faults before after = (k : ℕ) × (p : P) × (k < length before) × Rose (faults (get_or before k p)) (faults (get_or after k p))
 
--- each desk served as many connections as it was to, and its port took as many back
-pub record HasServedAll {P : Type 0} (tells : P → PortTelling) (sessions : ℕ) (old new : WebView Filing P) : Type 0 where
-  pub served : new.served ≡ sessions
+-- the port took as many connections back as it was to hand out
+pub record HasServedAll {P : Type 0} (tells : P → PortTelling) (sessions : ℕ) (old new : P) : Type 0 where
   pub back : List Closed
   pub count : length back ≡ sessions
-  pub closed : IsTrue (tells old.port).honest → (tells new.port).closed ≡ (tells old.port).closed ++ back
+  pub closed : IsTrue (tells old).honest → (tells new).closed ≡ (tells old).closed ++ back

@@ -1,5 +1,5 @@
 -- What a run of the web desk shows of what it answered.
-use Rattle.std.specs.Prelude.{◌≡◌, ◌<◌, ℕ, List}
+use Rattle.std.specs.Prelude.{◌≡◌, ◌<◌, ℕ, List, map}
 use Rattle.aid_filings.specs.declared.filing.Filing.{Filing}
 use Rattle.disk_model.specs.Telling.{IsHonest}
 use Rattle.disk_model.specs.declared.disk.Disk.{Ghosts}
@@ -10,27 +10,29 @@ use Rattle.kept_office.specs.Scheme.{office_scheme}
 use Rattle.kept_office.specs.Turns.{asked as filing_asked, office_judging}
 use Rattle.kept_web.specs.AllTold.{AllHonest, CreatedStand, EachIsTold, all_unavailable}
 use Rattle.web_edges.specs.Ports.{PortTelling}
-use Rattle.kept_web.specs.Workers.{HasServed, WebView}
+use Rattle.kept_web.specs.Workers.{HasServed, WorkerView, ports_of, worker_of}
 use Rattle.office_lock.specs.Turning.{RoseBy}
 use Rattle.office_lock.specs.declared.turned.Stand.{Stand}
-use Rattle.run_web.specs.WebTexts.{office_web}
+use Rattle.run_web.specs.OfficeForms.{office_web}
 
--- The desks served, and what the connections of an honest port were told is of the list at the end. Each image of the disk then
+-- The workers of these ports served, and what the connections of an honest port were told is of the list at the end. Each image of the disk then
 -- recovers that list, with or without one undecided filing.
-pub record HasAnswered {D P : Type 0} (disk : Ghosts D) (tells : P → PortTelling) (faults : P → ℕ) (sessions : ℕ) (new : D) (before after : List (WebView Filing P)) : Type 0 where
+pub record HasAnswered {D P : Type 0} (disk : Ghosts D) (tells : P → PortTelling) (faults : P → ℕ) (sessions : ℕ) (new : D) (before after : List P) : Type 0 where
+  pub workers : List (WorkerView Filing P)
+  pub ports : after ≡ ports_of workers
   pub opening : Stand (Filed Filing)
   pub closed : Stand (Filed Filing)
-  pub served : HasServed office_judging filing_asked office_web tells faults sessions opening closed before after
-  pub told : EachIsTold office_judging filing_asked office_web tells faults sessions opening closed before after served
+  pub served : HasServed office_judging filing_asked office_web tells faults sessions opening closed (map worker_of before) workers
+  pub told : EachIsTold office_judging filing_asked office_web tells faults sessions opening closed (map worker_of before) workers served
   pub sound : IsHonest (disk.tells new) → IsSound office_scheme (disk.tells new) (entries_of closed.list) (entry_of closed.pending)
 
 -- and the disk's count of faults rose by all 503 that were answered, where all ports are honest
-pub record CountsFaults {D P : Type 0} (disk : Ghosts D) (tells : P → PortTelling) (faults : P → ℕ) (sessions : ℕ) (old new : D) (before after : List (WebView Filing P)) : Type 0 where
+pub record CountsFaults {D P : Type 0} (disk : Ghosts D) (tells : P → PortTelling) (faults : P → ℕ) (sessions : ℕ) (old new : D) (before after : List P) : Type 0 where
   pub answered : HasAnswered disk tells faults sessions new before after
-  pub counted : (honest : AllHonest tells before) (d : WebView Filing P)
-      → RoseBy (all_unavailable office_judging filing_asked office_web tells faults sessions answered.opening answered.closed before after answered.served answered.told honest d) (disk.faults old) (disk.faults new)
+  pub counted : (honest : AllHonest tells (map worker_of before)) (d : WorkerView Filing P)
+      → RoseBy (all_unavailable office_judging filing_asked office_web tells faults sessions answered.opening answered.closed (map worker_of before) answered.workers answered.served answered.told honest d) (disk.faults old) (disk.faults new)
 
 -- and where an honest port answered 201, the request's own filing stands in the list at the end
-pub record KeepsCreated {D P : Type 0} (disk : Ghosts D) (tells : P → PortTelling) (faults : P → ℕ) (sessions : ℕ) (new : D) (before after : List (WebView Filing P)) : Type 0 where
+pub record KeepsCreated {D P : Type 0} (disk : Ghosts D) (tells : P → PortTelling) (faults : P → ℕ) (sessions : ℕ) (new : D) (before after : List P) : Type 0 where
   pub answered : HasAnswered disk tells faults sessions new before after
-  pub created : CreatedStand office_judging filing_asked office_web tells faults sessions answered.opening answered.closed before after answered.served answered.told
+  pub created : CreatedStand office_judging filing_asked office_web tells faults sessions answered.opening answered.closed (map worker_of before) answered.workers answered.served answered.told

@@ -6,7 +6,7 @@ use Rattle.aid_filings.specs.declared.reply.Verdict.TheVariants.{Admit, Again, R
 use Rattle.kept_list.specs.Turns.{is_fault}
 use Rattle.kept_list.specs.declared.reply.ListReply.{ListReply}
 use Rattle.kept_list.specs.declared.reply.ListReply.TheVariants.{Answered, DiskFault, NoMemory}
-use Rattle.kept_web.specs.Texts.{is_added}
+use Rattle.kept_web.specs.Added.{is_added}
 use Rattle.office_history.specs.Answer.{is_admit}
 use Rattle.web_desk.specs.declared.status.Status.TheVariants.{Created, Unavailable}
 use Rattle.web_forms.specs.Forms.{status_for}

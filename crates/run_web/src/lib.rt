@@ -3,6 +3,7 @@
 
 mod web;
 mod web_laws;
+mod workers;
 
-pub use web::{OfficeTexts, OfficeWebDesk, run_web};
+pub use web::{OfficeForms, run_web};
 pub use web_laws::{created_stand, faults_are_counted, web_causes};

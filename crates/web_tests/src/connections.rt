@@ -11,7 +11,7 @@ use kept_list::{KeptList, RowName};
 use kept_office::FiledOffice;
 use kept_web::serve_desk;
 use office_lock::Turns;
-use run_web::OfficeTexts;
+use run_web::OfficeForms;
 use specimen::{NINE_LINES, NINE_ROWS, YEAR_LINES, YEAR_ROWS};
 use std::alloc::{AllocError, Global};
 use std::io;
@@ -64,7 +64,7 @@ fn serve<L: Link, H: Wait>(rt: &H, alloc: Global, disk: MemoryDisk, link: &mut L
         return None;
     };
     let by = RowName { desk: 1, row: 1 };
-    let (pass, end) = serve_desk::<MemoryDisk, FiledOffice, OfficeTexts, L, H>(
+    let (pass, end) = serve_desk::<MemoryDisk, FiledOffice, OfficeForms, L, H>(
         rt, alloc, &turns, pass, by, link,
     );
     turns.close(pass);

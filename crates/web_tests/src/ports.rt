@@ -6,8 +6,7 @@ use crate::connections::{AGAIN, CREATED, FILING};
 use crate::runs::with_school;
 use aid_edges::{HoldGate, MemorySink};
 use disk_model::MemoryDisk;
-use kept_web::WebDesk;
-use run_web::{OfficeWebDesk, run_web};
+use run_web::run_web;
 use std::alloc::{AllocError, Global};
 use std::process::Abort;
 use std::sync::Wait;
@@ -73,7 +72,7 @@ fn founded(alloc: Global) -> Result<MemoryDisk, AllocError> {
 fn serve<P: Port + Send, H: Threads + Wait + Abort + Sync>(
     rt: &H,
     alloc: Global,
-    desks: &mut [OfficeWebDesk<P>],
+    ports: &mut Vec<P>,
     sessions: u32,
     disk: MemoryDisk,
     ends: (u8, &str),
@@ -82,7 +81,7 @@ where
     P::Link: Send,
 {
     let mut sink = MemorySink::new(alloc, Vec::new(alloc));
-    let (status, _) = run_web(rt, alloc, desks, sessions, disk, &mut sink);
+    let (status, _) = run_web(rt, alloc, ports, sessions, disk, &mut sink);
     assert!(rt; status == ends.0);
     assert!(rt; sink.text() == ends.1.as_bytes());
 }
@@ -97,13 +96,13 @@ fn serve_two<H: Threads + Wait + Abort + Sync>(
     ends: (u8, &str),
 ) -> Result<(), Fail> {
     assert!(rt; piece > 0);
-    let mut desks = Vec::new(alloc);
-    desks.push(WebDesk::new(port_of_two(alloc, FILING.as_bytes(), piece, failing)?))?;
-    serve(rt, alloc, &mut desks, 2, with_school(rt, alloc)?, ends);
-    let [desk] = desks.as_slice() else {
-        return Err(Fail::new("not one desk"));
+    let mut ports = Vec::new(alloc);
+    ports.push(port_of_two(alloc, FILING.as_bytes(), piece, failing)?)?;
+    serve(rt, alloc, &mut ports, 2, with_school(rt, alloc)?, ends);
+    let [port] = ports.as_slice() else {
+        return Err(Fail::new("not one port"));
     };
-    let back = desk.port().back();
+    let back = port.back();
     assert!(rt; back.len() == texts.len());
     for i in 0..texts.len() {
         assert!(rt; back[i].text() == texts[i]);
@@ -160,15 +159,15 @@ fn serve_gated<H: Threads + Wait + Abort + Sync>(
     gate: &HoldGate,
     texts: (&[u8], &[u8]),
 ) -> Result<(), Fail> {
-    let mut desks = Vec::new(alloc);
-    desks.push(WebDesk::new(GatedPort::new(port_of_one(alloc, FILING.as_bytes())?, gate, 1)))?;
-    desks.push(WebDesk::new(GatedPort::new(port_of_one(alloc, OTHER)?, gate, 2)))?;
-    serve(rt, alloc, &mut desks, 1, founded(alloc)?, (0, ""));
-    let [one, other] = desks.as_slice() else {
-        return Err(Fail::new("not two desks"));
+    let mut ports = Vec::new(alloc);
+    ports.push(GatedPort::new(port_of_one(alloc, FILING.as_bytes())?, gate, 1))?;
+    ports.push(GatedPort::new(port_of_one(alloc, OTHER)?, gate, 2))?;
+    serve(rt, alloc, &mut ports, 1, founded(alloc)?, (0, ""));
+    let [one, other] = ports.as_slice() else {
+        return Err(Fail::new("not two ports"));
     };
-    is_back(rt, one.port().inner(), texts.0);
-    is_back(rt, other.port().inner(), texts.1);
+    is_back(rt, one.inner(), texts.0);
+    is_back(rt, other.inner(), texts.1);
     Ok(())
 }
 

@@ -3,16 +3,16 @@ use Rattle.kept_web.proofs.all.serve_ports.Goals as goal
 
 pub work_all-requires-after_bounds : goal.work_all-requires-after_bounds
 work_all-requires-after_bounds g c = λ κs bounds.
-    all_hold c.in-Ok.turns.id c.in-Ok.rest.opening c.args.desks.now c.open_web.new.desks c.open_web.ensures.desks c.in-Ok.ensures.ready
+    all_hold c.in-Ok.turns.id c.in-Ok.rest.opening c.args.workers.now c.open_workers.new.workers c.open_workers.ensures.workers c.in-Ok.ensures.ready
 
-pub close_web-requires-clause-ended : goal.close_web-requires-clause-ended
-close_web-requires-clause-ended g c =
+pub close_workers-requires-clause-ended : goal.close_workers-requires-clause-ended
+close_workers-requires-clause-ended g c =
     let e = c.in-Ok.ensures in
-    all_ended g.R.Docket.judging g.R.OwnDocket.own g.T.WebTexts.scheme g.P.Port.tells g.P.Port.faults c.in-Ok.turns.id c.in-Ok.rest.opening c.args.sessions c.args.desks.now c.open_web.new.desks c.work_all.new.desks
-    c.open_web.ensures.desks c.work_all.ensures.desks e.ready c.work_all.ensures.works
+    all_ended g.R.Docket.judging g.R.OwnDocket.own g.T.DocketForms.scheme g.P.Port.tells g.P.Port.faults c.in-Ok.turns.id c.in-Ok.rest.opening c.args.sessions c.args.workers.now c.open_workers.new.workers c.work_all.new.workers
+    c.open_workers.ensures.workers c.work_all.ensures.workers e.ready c.work_all.ensures.works
 
 pub returns-in-Ok-clause-served : goal.returns-in-Ok-clause-served
 returns-in-Ok-clause-served g c =
     let e = c.in-Ok.ensures in
-    has_served g.R.Docket.judging g.R.OwnDocket.own g.T.WebTexts.scheme g.P.Port.tells g.P.Port.faults c.in-Ok.turns.id c.in-Ok.rest.opening c.args.sessions c.args.desks.now c.open_web.new.desks c.work_all.new.desks
-    c.open_web.ensures.desks c.work_all.ensures.desks e.ready c.work_all.ensures.works _ _ c.close_web.new.desks e.opening c.close_web.ensures.ran c.close_web.ensures.same
+    has_served g.R.Docket.judging g.R.OwnDocket.own g.T.DocketForms.scheme g.P.Port.tells g.P.Port.faults c.in-Ok.turns.id c.in-Ok.rest.opening c.args.sessions c.args.workers.now c.open_workers.new.workers c.work_all.new.workers
+    c.open_workers.ensures.workers c.work_all.ensures.workers e.ready c.work_all.ensures.works _ _ c.close_workers.new.workers e.opening c.close_workers.ensures.ran c.close_workers.ensures.same

@@ -9,16 +9,16 @@ pub loop-i-preserved : goal.loop-i-preserved
 loop-i-preserved g c =
     let loop = c.loop-i.invariant in
     let lock = c.args.turns.now.id in
-    let was = c.args.desks.now in
-    let desk = c.take_back.new.desk in
-    let here = get_or c.loop-i.desks c.loop-i.i c.index-desks-i.result in
+    let was = c.args.workers.now in
+    let worker = c.take_back.new.worker in
+    let here = get_or c.loop-i.workers c.loop-i.i c.index-workers-i.result in
     let inside : c.loop-i.i < length was = search rules in
-    let same : get_or was c.loop-i.i here ≡ here = sym (loop.still c.loop-i.i here (omega arith)) ∙ get_or_self c.loop-i.desks c.loop-i.i c.index-desks-i.result (omega (arith, inside, loop.desks)) in
+    let same : get_or was c.loop-i.i here ≡ here = sym (loop.still c.loop-i.i here (omega arith)) ∙ get_or_self c.loop-i.workers c.loop-i.i c.index-workers-i.result (omega (arith, inside, loop.workers)) in
     record {
       gathers = gathers_more lock c.args.rest.opening c.loop-i.pass c.take_back.new.pass was c.loop-i.i here inside same loop.gathers c.take_back.ensures.joined;
       share = omega (arith, c.take_back.ensures.joined.share, loop.share);
-      ahead = fewer_ahead (HasEnded lock c.args.rest.opening) c.loop-i.desks c.loop-i.i desk loop.ahead;
-      still = still_ahead c.loop-i.desks was c.loop-i.i desk loop.still;
-      desks = length-set c.loop-i.desks c.loop-i.i desk ∙ loop.desks;
-      shown = map-set_same shown_of c.loop-i.desks c.loop-i.i desk c.index-desks-i.result (ap shown_of c.take_back.ensures.same) ∙ loop.shown;
+      ahead = fewer_ahead (HasEnded lock c.args.rest.opening) c.loop-i.workers c.loop-i.i worker loop.ahead;
+      still = still_ahead c.loop-i.workers was c.loop-i.i worker loop.still;
+      workers = length-set c.loop-i.workers c.loop-i.i worker ∙ loop.workers;
+      shown = map-set_same shown_of c.loop-i.workers c.loop-i.i worker c.index-workers-i.result (ap shown_of c.take_back.ensures.same) ∙ loop.shown;
     }

@@ -9,18 +9,18 @@ pub loop-i-preserved : goal.loop-i-preserved
 loop-i-preserved g c =
     let loop = c.loop-i.invariant in
     let lock = c.args.turns.now.id in
-    let was = c.args.desks.now in
-    let desk = c.hand_out-pass.new.desk in
+    let was = c.args.workers.now in
+    let worker = c.hand_out-pass.new.worker in
     let inside : c.loop-i.i < length was = search rules in
-    let within : c.loop-i.i < length c.loop-i.desks = omega (arith, inside, loop.desks) in
+    let within : c.loop-i.i < length c.loop-i.workers = omega (arith, inside, loop.workers) in
     let fresh : IsFresh lock c.args.first.opening c.hand_out-pass.result = subst (λ o. IsFresh lock o c.hand_out-pass.result) loop.opening c.hand_out-pass.ensures.fresh in
     record {
       fresh = fresh;
       opening = fresh.opening_is;
       share = omega (arith, c.hand_out-pass.ensures.share, loop.share);
-      ready = ready_more lock c.args.first.opening was c.loop-i.desks c.loop-i.i (get_or c.loop-i.desks c.loop-i.i c.index-desks-i.result) desk within loop.ready
-          (λ d. sym (loop.still c.loop-i.i d (omega arith)) ∙ get_or_any c.loop-i.desks c.loop-i.i d c.index-desks-i.result within)
-          (subst (λ o. IsReady lock o (c.loop-i.i + 1) (get_or c.loop-i.desks c.loop-i.i c.index-desks-i.result) desk) loop.opening c.hand_out-pass.ensures.ready);
-      still = still_ahead c.loop-i.desks was c.loop-i.i desk loop.still;
-      desks = length-set c.loop-i.desks c.loop-i.i desk ∙ loop.desks;
+      ready = ready_more lock c.args.first.opening was c.loop-i.workers c.loop-i.i (get_or c.loop-i.workers c.loop-i.i c.index-workers-i.result) worker within loop.ready
+          (λ d. sym (loop.still c.loop-i.i d (omega arith)) ∙ get_or_any c.loop-i.workers c.loop-i.i d c.index-workers-i.result within)
+          (subst (λ o. IsReady lock o (c.loop-i.i + 1) (get_or c.loop-i.workers c.loop-i.i c.index-workers-i.result) worker) loop.opening c.hand_out-pass.ensures.ready);
+      still = still_ahead c.loop-i.workers was c.loop-i.i worker loop.still;
+      workers = length-set c.loop-i.workers c.loop-i.i worker ∙ loop.workers;
     }

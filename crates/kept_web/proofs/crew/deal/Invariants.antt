@@ -1,6 +1,6 @@
 use Rattle.std.proofs.Common.{◌≡◌, ◌≤◌, ◌+◌, ℕ, length, get_or}
 use Rattle.kept_desks.specs.Desks.{IsFresh}
-use Rattle.kept_web.specs.Workers.{WebView, AreReady}
+use Rattle.kept_web.specs.Workers.{WorkerView, AreReady}
 use Rattle.kept_web.proofs.crew.deal.Given as goal
 
 abbrev pub invariant-loop-i : goal.invariant-loop-i
@@ -8,7 +8,7 @@ invariant-loop-i g l = record {
   fresh : IsFresh l.turns.id l.fn.first.opening l.pass;
   opening : l.pass.opening ≡ l.fn.first.opening;
   share : l.pass.allowance + l.i ≡ l.fn.first.allowance;
-  ready : AreReady l.turns.id l.fn.first.opening l.i l.fn.desks l.desks;
-  still : (k : ℕ) (d : WebView g.row.R-Entry.Denot g.row.P.Denot) → l.i ≤ k → get_or l.desks k d ≡ get_or l.fn.desks k d;
-  desks : length l.desks ≡ length l.fn.desks;
+  ready : AreReady l.turns.id l.fn.first.opening l.i l.fn.workers l.workers;
+  still : (k : ℕ) (d : WorkerView g.row.R-Entry.Denot g.row.P.Denot) → l.i ≤ k → get_or l.workers k d ≡ get_or l.fn.workers k d;
+  workers : length l.workers ≡ length l.fn.workers;
 }

@@ -4,7 +4,7 @@ use Rattle.kept_web.proofs.serving.serve_all.Given as goal
 
 abbrev pub invariant-loop-served : goal.invariant-loop-served
 invariant-loop-served g l = record {
-  served : Served g.R.Docket.judging g.R.OwnDocket.own g.T.WebTexts.scheme l.number l.fn.pass l.pass (g.P.Port.tells l.fn.port) (g.P.Port.tells l.port) l.served l.starved;
+  served : Served g.R.Docket.judging g.R.OwnDocket.own g.T.DocketForms.scheme l.number l.fn.pass l.pass (g.P.Port.tells l.fn.port) (g.P.Port.tells l.port) l.served l.starved;
   most : l.served ≤ l.sessions;
   later : g.P.Port.faults l.fn.port ≤ g.P.Port.faults l.port;
   lock : l.pass.lock ≡ l.fn.pass.lock;

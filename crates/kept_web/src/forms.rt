@@ -1,7 +1,7 @@
 //! How the asks of a docket are read from requests, and its replies written.
 ghost use Rattle.std.specs.Prelude.{◌≡◌, IfOk, IsTrue};
 ghost use Rattle.kept_list.specs.Turns.{is_fault};
-ghost use Rattle.kept_web.specs.Texts.{is_added};
+ghost use Rattle.kept_web.specs.Added.{is_added};
 ghost use Rattle.web_desk.specs.Asks.{Scheme};
 
 use kept_list::{Docket, ListReply, OwnDocket};
@@ -10,7 +10,7 @@ use std::marker::PhantomData;
 use web_desk::{Call, CallForms, Status};
 
 /// How the asks of a docket are read from requests, and its replies written.
-pub trait WebTexts<R: OwnDocket> {
+pub trait DocketForms<R: OwnDocket> {
     ghost use Rattle.kept_list.specs.declared.reply.ListReply.{ListReply};
     ghost use Rattle.web_desk.specs.declared.status.Status.TheVariants.{Created, Unavailable};
 
@@ -37,11 +37,11 @@ pub trait WebTexts<R: OwnDocket> {
 }
 
 /// The forms of a docket's asks and replies. No value of it is made.
-pub struct DocketForms<R, T> {
+pub struct FormsOf<R, T> {
     marker: PhantomData<(R, T)>,
 }
 
-impl<R: OwnDocket, T: WebTexts<R>> CallForms for DocketForms<R, T> {
+impl<R: OwnDocket, T: DocketForms<R>> CallForms for FormsOf<R, T> {
     type Ask = R::Ask;
 
     type Reply = ListReply<R::Verdict>;

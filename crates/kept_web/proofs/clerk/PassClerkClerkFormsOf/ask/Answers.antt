@@ -1,6 +1,6 @@
 use Rattle.std.proofs.Common.{refl}
 use Rattle.kept_desks.proofs.Turning.{replies}
-use Rattle.kept_web.proofs.clerk.PassClerkClerkDocketForms.ask.Goals as goal
+use Rattle.kept_web.proofs.clerk.PassClerkClerkFormsOf.ask.Goals as goal
 
 pub returns-clause-asked : goal.returns-clause-asked
 returns-clause-asked g c = rw (← c.self.view_is) (record {

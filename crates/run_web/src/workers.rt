@@ -1,0 +1,81 @@
+// Ports become workers of the office, and workers ports again.
+ghost use Rattle.std.specs.Prelude.{◌≡◌, ◌+◌, ◌≤◌, [], ◌++◌, IfOk, OnOk, OnErr, length, map, vec_capacity, vec_len};
+ghost use Rattle.std.specs.List.{list_any};
+ghost use Rattle.kept_web.specs.Workers.{ports_of, worker_of};
+ghost use Rattle.run_web.specs.RanWeb.{has_failed, web_end as web_end_of};
+
+use kept_office::FiledOffice;
+use kept_runs::RunStop;
+use kept_session::{FileStop, SessionStop};
+use kept_web::{WebEnd, Worker};
+use std::alloc::{AllocError, Global};
+use web_edges::Port;
+
+/// A worker of the office.
+type OfficeWorker<P> = Worker<FiledOffice, P>;
+
+/// Takes the ports out of the vector, and makes a worker of each. Where there is no memory they stay there.
+pub fn into_workers<P: Port>(
+    alloc: Global,
+    ports: &mut Vec<P>,
+) -> Result<Vec<OfficeWorker<P>>, AllocError>
+    ensures workers { IfOk result (λ workers. workers.items ≡ map worker_of ports.old.items) }
+    ensures count { IfOk result (λ workers. length workers.items ≡ length ports.old.items) }
+    ensures emptied { OnOk result (ports.new.items ≡ []) }
+    ensures room { OnOk result (length ports.old.items ≤ vec_capacity ports.new) }
+    ensures same { OnErr result (ports.new ≡ ports.old) }
+{
+    let mut workers = Vec::with_capacity(alloc, ports.len())?;
+    while let Some(port) = ports.pop() {
+        workers.push_reserved(Worker::new(port));
+    }
+    workers.reverse();
+    Ok(workers)
+}
+
+/// Puts the ports of these workers behind those in the vector, in order.
+pub fn give_back<P: Port>(workers: Vec<OfficeWorker<P>>, ports: &mut Vec<P>)
+    requires room { vec_len ports.old + length workers.items ≤ vec_capacity ports.old }
+    ensures { ports.new.items ≡ ports.old.items ++ ports_of workers.items }
+{
+    let mut rest = workers;
+    rest.reverse();
+    while let Some(worker) = rest.pop() {
+        ports.push_reserved(worker.into_port());
+    }
+    rest.destroy_empty();
+}
+
+// Whether the worker's port failed.
+fn is_failed<P: Port>(worker: &OfficeWorker<P>) -> bool
+    ensures { result ≡ has_failed worker.now.ended }
+{
+    matches!(worker.ended(), WebEnd::PortFault)
+}
+
+// Whether a session of a worker ended for want of memory.
+fn any_starved<P: Port>(workers: &[OfficeWorker<P>]) -> bool
+    ensures { result ≡ list_any (λ d. d.starved) workers.now }
+{
+    workers.iter().any(|worker| worker.is_starved())
+}
+
+// Whether the port of a worker failed.
+fn any_failed<P: Port>(workers: &[OfficeWorker<P>]) -> bool
+    ensures { result ≡ list_any (λ d. has_failed d.ended) workers.now }
+{
+    workers.iter().any(|worker| is_failed(worker))
+}
+
+/// How the run ends once the workers have served.
+pub fn web_end<P: Port>(workers: &[OfficeWorker<P>]) -> Result<(), RunStop>
+    ensures { result ≡ web_end_of workers.now }
+{
+    if any_starved(workers) {
+        return Err(RunStop::File(SessionStop::Filing(FileStop::NoMemory)));
+    }
+    if any_failed(workers) {
+        return Err(RunStop::Socket);
+    }
+    Ok(())
+}
