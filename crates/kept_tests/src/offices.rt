@@ -1,9 +1,12 @@
-// Offices whose disk stops or fails in the middle of a turn, what they answer then, and that room is kept for a turn.
+// Offices whose disk stops or fails in the middle of a turn, what they answer then, that room is kept for a turn, and an office
+// under a lock.
 use aid_filings::{Ask, Filing, Outcome, PriorFacts, Reply, SchoolFacts, What};
 use aid_types::{Key, School, Student};
+use desk_forms::put_line;
 use disk_model::{Disk, DiskStop, Fill, MemoryDisk};
-use filing_codec::{TakeError, take};
+use filing_codec::{Room, TakeError, put, take};
 use kept_office::{FoundFault, KeptOffice, OpenError};
+use office_lock::Turns;
 use std::alloc::Global;
 use std::process::Abort;
 use std::test::Fail;
@@ -21,7 +24,16 @@ enum Filed {
 
 const SCHOOL: (u32, Filed) = (1, Filed::School);
 
+const SECOND: (u32, Filed) = (2, Filed::Prior(5001, 550_000));
+
 const THIRD: (u32, Filed) = (3, Filed::Prior(5002, 1));
+
+// The school again, under a number of its own.
+const SCHOOL_ANEW: (u32, Filed) = (4, Filed::School);
+
+// What answers the two worked filings, the first again, and the school under another number.
+const LINES: &[u8] =
+    b"1 0 accepted 1 noted\n2 1 accepted 2 noted\n3 2 again 1 noted\n4 2 refused 13 1 110\n";
 
 // The ask to file a row under its number.
 fn ask(rt: &impl Abort, row: (u32, Filed)) -> Ask {
@@ -190,4 +202,40 @@ fn settles_at_last(rt: HostRuntime) -> Result<(), Fail> {
 fn a_short_payload(rt: HostRuntime) {
     let error = take(rt.alloc(), &BOTH[45..69]).err();
     assert_eq!(rt; error, Some(TakeError::NotFiling(21)));
+}
+
+// A filing's one spelling, in the room of a payload.
+#[test]
+fn a_filing_is_spelled(rt: HostRuntime) -> Result<(), Fail> {
+    let Ask::File(filing) = ask(&rt, SECOND) else {
+        return Err(Fail::new("no filing"));
+    };
+    let mut room = Room::new(rt.alloc())?;
+    put(&filing, &mut room);
+    assert_eq!(rt; room.bytes(), &BOTH[45..70]);
+    Ok(())
+}
+
+// An office under a lock, and the lines of its replies.
+#[test]
+fn an_office_takes_turns(rt: HostRuntime) -> Result<(), Fail> {
+    let empty = disk(rt.alloc(), b"", &[], None)?;
+    let Ok(kept) = KeptOffice::found(rt.alloc(), empty) else {
+        return Err(Fail::new("no office"));
+    };
+    let Ok((turns, mut pass)) = Turns::new(rt.alloc(), kept, 1) else {
+        return Err(Fail::new("no memory"));
+    };
+    let one = turns.turn(&rt, &mut pass, ask(&rt, SCHOOL));
+    let two = turns.turn(&rt, &mut pass, ask(&rt, SECOND));
+    let three = turns.turn(&rt, &mut pass, ask(&rt, SCHOOL));
+    let four = turns.turn(&rt, &mut pass, ask(&rt, SCHOOL_ANEW));
+    let disk = turns.close(pass).into_disk();
+    let mut text = Vec::new(rt.alloc());
+    for (number, reply) in [(1, one), (2, two), (3, three), (4, four)] {
+        put_line(number, &reply, &mut text)?;
+    }
+    assert_eq!(rt; text.as_slice(), LINES);
+    assert_eq!(rt; disk.image(), BOTH.as_slice());
+    Ok(())
 }
