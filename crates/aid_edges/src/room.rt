@@ -1,5 +1,5 @@
 //! A buffer that is taken once.
-ghost use Rattle.std.specs.Prelude.{◌≡◌, ◌+◌, ◌≤◌, [], ◌++◌, length, IfOk};
+ghost use Rattle.std.specs.Prelude.{◌≡◌, ◌+◌, ◌≤◌, [], ◌++◌, length, take, IfOk};
 
 use std::alloc::{AllocError, Global};
 use std::marker::Model;
@@ -22,6 +22,16 @@ impl Model for Room {
     ghost view = { λ room. take room.used room.block.value };
 
     ghost invariant = { λ room. room.used ≤ 8192 };
+}
+
+// Puts bytes before the first `used` ones of a block.
+fn put_before(block: &mut [u8], used: usize, bytes: &[u8])
+    requires fits { used + length bytes.now ≤ length block.old }
+    ensures put { take (used + length bytes.now) block.new ≡ bytes.now ++ take used block.old }
+{
+    let count = bytes.len();
+    block.copy_within(..used, count);
+    block[..count].copy_from_slice(bytes);
 }
 
 impl Room {
@@ -56,5 +66,15 @@ impl Room {
         let end = self.used + bytes.len();
         self.block[self.used..end].copy_from_slice(bytes);
         self.used = end;
+    }
+
+    /// Puts bytes before all that it holds.
+    pub fn put_front(&mut self, bytes: &[u8])
+        requires fits { length self.old + length bytes.now ≤ CAPACITY }
+        ensures put { self.new ≡ bytes.now ++ self.old }
+    {
+        let used = self.used;
+        put_before(&mut self.block[..], used, bytes);
+        self.used = used + bytes.len();
     }
 }

@@ -7,7 +7,7 @@ ghost use Rattle.stamps.specs.declared.stamp.Stamp.{Stamp};
 
 use crate::ClerkName;
 use crate::day::{bytes_of, day_at};
-use aid_edges::{CAPACITY, Room};
+use aid_edges::Room;
 use aid_types::Day;
 
 /// When an entry was made, and by whom.
@@ -57,15 +57,10 @@ impl Stamp {
         ensures put { room.new ≡ stamp_bytes self ++ room.old }
         ensures in_range { IsStamp self }
     {
-        let mut held = [0; CAPACITY];
-        let count = room.bytes().len();
-        held[..count].copy_from_slice(room.bytes());
         let name = self.clerk.as_bytes();
-        room.clear();
-        room.append(&bytes_of(self.day));
-        room.append(&[name.len() as u8]);
-        room.append(name);
-        room.append(&held[..count]);
+        room.put_front(name);
+        room.put_front(&[name.len() as u8]);
+        room.put_front(&bytes_of(self.day));
     }
 
     /// The stamp at the front of the bytes, and what stands behind it; or the place of the first byte of the first field that is
