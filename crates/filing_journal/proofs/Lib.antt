@@ -5,6 +5,7 @@ pub mod Fills
 pub mod Gates
 pub mod Gathered
 pub mod Headers
+pub mod Heads
 pub mod Pieces
 pub mod States
 pub mod Steps

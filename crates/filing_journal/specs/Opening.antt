@@ -5,7 +5,7 @@ use Rattle.filing_journal.specs.Stands.{Payloads, StandsFor, front_of, gate_plac
 use Rattle.filing_journal.specs.Record.{IsNoRecord}
 use Rattle.filing_journal.specs.declared.header.Header.{Header}
 use Rattle.filing_journal.specs.declared.opening.OpenError.{OpenError}
-use Rattle.filing_journal.specs.declared.opening.OpenError.TheVariants.{NoOffice, NotJournal, Damaged, DiskFault}
+use Rattle.filing_journal.specs.declared.opening.OpenError.TheVariants.{NoOffice, NotJournal, OldVersion, Damaged, DiskFault}
 use Rattle.filing_journal.specs.declared.opening.Opening.{Opening}
 
 -- its disk
@@ -51,6 +51,7 @@ pub record IsDamagedAt (header : Header) (at : ℕ) (file : List ℕ) (payloads 
 abbrev pub IsHeadRefusal : OpenError → Type 0
 IsHeadRefusal NoOffice = Unit {0}
 IsHeadRefusal NotJournal = Unit {0}
+IsHeadRefusal OldVersion = Unit {0}
 IsHeadRefusal DiskFault = Unit {0}
 IsHeadRefusal other = ⊥
 

@@ -4,7 +4,7 @@ ghost use Rattle.disk_model.specs.Faults.{Rose};
 ghost use Rattle.disk_model.specs.Telling.{IsHonest, EachMoment, EachImage, IsKept, IsQuiet, IsRead};
 ghost use Rattle.filing_journal.specs.Header.{header_bytes};
 ghost use Rattle.filing_journal.specs.Stands.{IsUnborn};
-ghost use Rattle.filing_journal.specs.Head.{HasHead, IsBorn, IsForeign};
+ghost use Rattle.filing_journal.specs.Head.{HasHead, IsBorn, IsForeign, IsOld};
 ghost use Rattle.filing_journal.specs.Founded.{UnbornOrEmpty, IsStarted};
 ghost use Rattle.filing_journal.specs.Journal.{Keeps, IsDecided, journal_disk, journal_count};
 
@@ -15,9 +15,9 @@ use disk_model::{Disk, Failed, sync_kept, write_kept};
 /// Why no journal was founded.
 #[derive(Clone, Copy, Debug, PartialEq, Eq)]
 pub enum FoundError {
-    /// This header stands there already.
+    /// This header stands there already, or the version that it names as the one before.
     Exists,
-    /// The file is neither a journal with this header nor one in which a journal may be founded.
+    /// The file is neither a journal of one of these versions nor a file in which one may be founded.
     NotJournal,
     /// The disk refused a call.
     DiskFault,
@@ -97,7 +97,8 @@ pub fn found<D: Disk>(disk: D, header: Header) -> Result<Journal<D>, (FoundError
     // Each answer comes by the bytes. A refusal by them writes nothing.
     ensures unborn { IsHonest (D.tells disk) → OnOk result (IsUnborn (D.tells disk).reads) }
     ensures exists { IsHonest (D.tells disk)
-        → IfErr result (λ e. e.0 ≡ FoundError.Exists → IsBorn header (D.tells disk).reads × IsRead (D.tells disk) (D.tells e.1)) }
+        → IfErr result (λ e. e.0 ≡ FoundError.Exists → (IsBorn header (D.tells disk).reads ⊎ IsOld header (D.tells disk).reads)
+        × IsRead (D.tells disk) (D.tells e.1)) }
     ensures foreign { IsHonest (D.tells disk)
         → IfErr result (λ e. e.0 ≡ FoundError.NotJournal → IsForeign header (D.tells disk).reads × IsRead (D.tells disk) (D.tells e.1)) }
 
@@ -131,7 +132,7 @@ pub fn found<D: Disk>(disk: D, header: Header) -> Result<Journal<D>, (FoundError
         Err(Failed) => return Err((FoundError::DiskFault, disk)),
     };
     match head {
-        FileHead::Born => return Err((FoundError::Exists, disk)),
+        FileHead::Born | FileHead::Old => return Err((FoundError::Exists, disk)),
         FileHead::Foreign => return Err((FoundError::NotJournal, disk)),
         FileHead::Short | FileHead::Unfinished => {}
     }

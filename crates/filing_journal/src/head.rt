@@ -1,8 +1,10 @@
 // What stands at the front of a file.
-ghost use Rattle.std.specs.Prelude.{◌≡◌, ◌≤◌, IfOk, OnOk, OnErr};
+ghost use Rattle.std.specs.Prelude.{◌≡◌, ◌≤◌, length, take, IfOk, OnOk, OnErr};
+ghost use Rattle.std.specs.Bool.{Decides};
 ghost use Rattle.disk_model.specs.Faults.{Rose};
 ghost use Rattle.disk_model.specs.Telling.{IsHonest, IsRead};
-ghost use Rattle.filing_journal.specs.Head.{HasHead};
+ghost use Rattle.filing_journal.specs.Head.{HasHead, StartsOld};
+ghost use Rattle.filing_journal.specs.Header.{header_bytes};
 
 use crate::Header;
 use disk_model::{Disk, Failed};
@@ -16,15 +18,40 @@ pub(crate) enum FileHead {
     Unfinished,
     /// A journal with this header.
     Born,
+    /// A journal of the version that the header names as the one before.
+    Old,
     /// Something else.
     Foreign,
+}
+
+// Whether bytes begin with this header.
+fn has_header(front: &[u8], header: Header) -> bool
+    requires long { 16 ≤ length front.now }
+    ensures { Decides result (take 16 front.now ≡ header_bytes header) }
+{
+    let empty = header.empty_file();
+    front[..16] == empty[..16]
+}
+
+// Whether bytes begin with the version before.
+fn has_old_header(front: &[u8], header: Header) -> bool
+    requires long { 16 ≤ length front.now }
+    ensures { Decides result (StartsOld header front.now) }
+{
+    match header.old {
+        Some(version) => {
+            let mut before = header;
+            before.version = version;
+            has_header(front, before)
+        }
+        None => false,
+    }
 }
 
 // What the first 18 bytes of a file say, or all of them where there are fewer.
 fn head_of(front: &[u8], header: Header) -> FileHead
     ensures { HasHead header front.now result }
 {
-    let empty = header.empty_file();
     if front.len() < 17 {
         FileHead::Short
     } else if front[0] != 1 {
@@ -33,8 +60,10 @@ fn head_of(front: &[u8], header: Header) -> FileHead
         } else {
             FileHead::Foreign
         }
-    } else if front[..16] == empty[..16] {
+    } else if has_header(front, header) {
         FileHead::Born
+    } else if has_old_header(front, header) {
+        FileHead::Old
     } else {
         FileHead::Foreign
     }

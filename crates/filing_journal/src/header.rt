@@ -8,6 +8,8 @@ pub struct Header {
     pub name: [u8; 8],
     /// The version of that form.
     pub version: u32,
+    /// The version before, which is told apart: a file of it isn't opened, and has an answer of its own.
+    pub old: Option<u32>,
     ghost name_size: { length name ≡ 8 },
 }
 

@@ -19,6 +19,8 @@ pub enum OpenError {
     NoOffice,
     /// The file is no journal with the header that was asked for.
     NotJournal,
+    /// The file is a journal of the version that the header names as the one before.
+    OldVersion,
     /// What stands at this place is no record and no closed gate.
     Damaged(u64),
     /// The disk refused a call.

@@ -3,7 +3,7 @@ ghost use Rattle.std.specs.Prelude.{◌≡◌, ◌⊎◌, ◌≤◌, [], None, O
 ghost use Rattle.disk_model.specs.Faults.{Rose};
 ghost use Rattle.disk_model.specs.Telling.{IsHonest, IsRead};
 ghost use Rattle.filing_journal.specs.Stands.{IsUnborn};
-ghost use Rattle.filing_journal.specs.Head.{IsBorn, IsForeign};
+ghost use Rattle.filing_journal.specs.Head.{IsBorn, IsForeign, IsOld};
 ghost use Rattle.filing_journal.specs.Opening.{HasGiven, IsHeadRefusal, opening_disk, opening_count, opening_refusal};
 
 use crate::head::{FileHead, look};
@@ -22,6 +22,8 @@ pub fn recover<D: Disk>(disk: D, header: Header) -> Result<Opening<D>, (OpenErro
         → IfErr result (λ e. e.0 ≡ OpenError.NoOffice → IsUnborn (D.tells disk).reads) }
     ensures foreign { IsHonest (D.tells disk)
         → IfErr result (λ e. e.0 ≡ OpenError.NotJournal → IsForeign header (D.tells disk).reads) }
+    ensures old { IsHonest (D.tells disk)
+        → IfErr result (λ e. e.0 ≡ OpenError.OldVersion → IsOld header (D.tells disk).reads) }
 
     // Nothing is written.
     ensures told { IsHonest (D.tells disk) → IfOk result (λ opening. IsRead (D.tells disk) (D.tells (opening_disk opening))) }
@@ -43,6 +45,7 @@ pub fn recover<D: Disk>(disk: D, header: Header) -> Result<Opening<D>, (OpenErro
         Ok(FileHead::Born) => Ok(Opening::new(disk)),
         Ok(FileHead::Short) => Err((OpenError::NoOffice, disk)),
         Ok(FileHead::Unfinished) => Err((OpenError::NoOffice, disk)),
+        Ok(FileHead::Old) => Err((OpenError::OldVersion, disk)),
         Ok(FileHead::Foreign) => Err((OpenError::NotJournal, disk)),
         Err(Failed) => Err((OpenError::DiskFault, disk)),
     }
