@@ -2,7 +2,7 @@
 use Rattle.std.proofs.Common.{◌≡◌, inl, inr, ℕ, List, [], ◌∷◌, length, take, refl, sym, ◌∙◌, subst, arith}
 use Rattle.std.specs.Prelude.{slice_index, min}
 use Rattle.std.proofs.lemmas.List.{length-take, take-take}
-use Rattle.filing_journal.specs.Head.{IsBorn, IsForeign, IsOld, StartsOld, HasHead}
+use Rattle.filing_journal.specs.Head.{IsBorn, IsOld, StartsOld, HasHead}
 use Rattle.filing_journal.specs.Stands.{IsUnborn}
 use Rattle.filing_journal.specs.declared.header.Header.{Header}
 use Rattle.filing_journal.specs.declared.head.FileHead.{FileHead}

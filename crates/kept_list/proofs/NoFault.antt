@@ -2,10 +2,10 @@
 use Rattle.std.proofs.Common.{◌≡◌, ◌⊎◌, inl, inr, ℕ, List, [], ◌∷◌, ◌++◌, length, refl, sym, ◌∙◌, ap, subst, append_assoc, arith, length-append}
 use Rattle.std.proofs.lemmas.List.{append-nil}
 use Rattle.filing_journal.specs.Stands.{Payloads, IsUnborn}
-use Rattle.filing_journal.specs.Head.{IsForeign}
+use Rattle.filing_journal.specs.Head.{IsForeign, IsOld}
 use Rattle.filing_journal.specs.Opening.{IsHeadRefusal}
 use Rattle.filing_journal.specs.declared.opening.OpenError.{OpenError}
-use Rattle.filing_journal.specs.declared.opening.OpenError.TheVariants.{NoOffice, NotJournal, Damaged, DiskFault, NoMemory}
+use Rattle.filing_journal.specs.declared.opening.OpenError.TheVariants.{NoOffice, NotJournal, OldVersion, Damaged, DiskFault, NoMemory}
 use Rattle.filing_journal.proofs.Unique.{begins, undamaged, born, not_unborn}
 use Rattle.kept_list.specs.Scheme.{Scheme}
 use Rattle.kept_list.specs.Recovers.{payloads_of, AreEntries, Recovers}
@@ -85,15 +85,17 @@ module _ {Entry : Type 0} (scheme : Scheme Entry) (alone : AreAlone scheme) wher
       → ((place : ℕ) → e ≡ Damaged place → IsFaultyAt scheme file place) → IsReadRefusal e → (e ≡ NoMemory) ⊎ (e ≡ DiskFault)
   read_refusal law file k NoOffice r faulty is = absurd is
   read_refusal law file k NotJournal r faulty is = absurd is
+  read_refusal law file k OldVersion r faulty is = absurd is
   read_refusal law file k (Damaged place) r faulty is = absurd (unfaulty law file k place r (faulty place refl))
   read_refusal law file k DiskFault r faulty is = inr refl
   read_refusal law file k NoMemory r faulty is = inl refl
 
 -- nor by its front
 pub head_refusal : {Entry : Type 0} (scheme : Scheme Entry) (file : List ℕ) (k : List Entry) (e : OpenError) → Recovers scheme file k
-    → (e ≡ NoOffice → IsUnborn file) → (e ≡ NotJournal → IsForeign scheme.header file) → IsHeadRefusal e → (e ≡ NoMemory) ⊎ (e ≡ DiskFault)
-head_refusal scheme file k NoOffice r unborn foreign is = absurd (not_unborn scheme.header file (born scheme.header file (payloads_of scheme.spelling k) r.stands) (unborn refl))
-head_refusal scheme file k NotJournal r unborn foreign is = absurd ((foreign refl).not_born (born scheme.header file (payloads_of scheme.spelling k) r.stands))
-head_refusal scheme file k (Damaged place) r unborn foreign is = absurd is
-head_refusal scheme file k DiskFault r unborn foreign is = inr refl
-head_refusal scheme file k NoMemory r unborn foreign is = inl refl
+    → (e ≡ NoOffice → IsUnborn file) → (e ≡ NotJournal → IsForeign scheme.header file) → (e ≡ OldVersion → IsOld scheme.header file) → IsHeadRefusal e → (e ≡ NoMemory) ⊎ (e ≡ DiskFault)
+head_refusal scheme file k NoOffice r unborn foreign old is = absurd (not_unborn scheme.header file (born scheme.header file (payloads_of scheme.spelling k) r.stands) (unborn refl))
+head_refusal scheme file k NotJournal r unborn foreign old is = absurd ((foreign refl).not_born (born scheme.header file (payloads_of scheme.spelling k) r.stands))
+head_refusal scheme file k OldVersion r unborn foreign old is = absurd ((old refl).not_born (born scheme.header file (payloads_of scheme.spelling k) r.stands))
+head_refusal scheme file k (Damaged place) r unborn foreign old is = absurd is
+head_refusal scheme file k DiskFault r unborn foreign old is = inr refl
+head_refusal scheme file k NoMemory r unborn foreign old is = inl refl

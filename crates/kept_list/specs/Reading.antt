@@ -3,7 +3,7 @@ use Rattle.std.specs.Prelude.{List}
 use Rattle.disk_model.specs.declared.disk.Disk.{Ghosts}
 use Rattle.filing_journal.specs.Opening.{HasGiven}
 use Rattle.filing_journal.specs.declared.opening.OpenError.{OpenError}
-use Rattle.filing_journal.specs.declared.opening.OpenError.TheVariants.{NoOffice, NotJournal, Damaged, DiskFault, NoMemory}
+use Rattle.filing_journal.specs.declared.opening.OpenError.TheVariants.{NoOffice, NotJournal, OldVersion, Damaged, DiskFault, NoMemory}
 use Rattle.filing_journal.specs.declared.opening.Opening.{Opening}
 use Rattle.kept_list.specs.Scheme.{Scheme}
 use Rattle.kept_list.specs.Recovers.{payloads_of, AreEntries}
@@ -17,6 +17,7 @@ pub record HasRead {D Entry : Type 0} (disk : Ghosts D) (scheme : Scheme Entry) 
 abbrev pub IsReadRefusal : OpenError → Type 0
 IsReadRefusal NoOffice = ⊥
 IsReadRefusal NotJournal = ⊥
+IsReadRefusal OldVersion = ⊥
 IsReadRefusal (Damaged place) = Unit {0}
 IsReadRefusal DiskFault = Unit {0}
 IsReadRefusal NoMemory = Unit {0}

@@ -2,11 +2,11 @@
 ghost use Rattle.std.specs.Prelude.{◌≡◌, ◌⊎◌, ◌+◌, ◌≤◌, ◌<◌, ◌^◌, ◌∷◌, [], ℕ, List, false, length, None, Some, IsSome, IsTrue, IsOk, IfOk, IfErr, OnOk, OnErr};
 ghost use Rattle.aid_edges.specs.Faults.{Rose};
 ghost use Rattle.disk_model.specs.Telling.{IsHonest, EachMoment, EachImage, IsQuiet, IsRead};
-ghost use Rattle.filing_journal.specs.Head.{IsBorn, IsForeign};
+ghost use Rattle.filing_journal.specs.Head.{IsBorn, IsForeign, IsOld};
 ghost use Rattle.filing_journal.specs.Stands.{IsUnborn};
 ghost use Rattle.filing_journal.specs.Founded.{UnbornOrEmpty};
 
-use crate::reading::read_all;
+use crate::reading::read_opening;
 use crate::writing::lengthen_and_put;
 use crate::{Added, Docket, Judged, ListReply};
 use aid_edges::Room;
@@ -18,9 +18,9 @@ use std::marker::Model;
 /// Why no list was founded.
 #[derive(Clone, Copy, Debug, PartialEq, Eq)]
 pub enum FoundFault {
-    /// A journal's header stands there already.
+    /// A journal stands there already, of this version or of the one before.
     Exists,
-    /// The file is neither a journal nor one in which a journal may be founded.
+    /// The file is neither a journal of one of these versions nor a file in which one may be founded.
     NotJournal,
     /// The disk refused a call.
     DiskFault,
@@ -75,7 +75,8 @@ impl<D: Disk, R: Docket> KeptList<D, R> {
         // Each answer comes by the bytes. A refusal by them, and one for want of memory, writes nothing.
         ensures unborn { IsHonest (D.tells disk) → OnOk result (IsUnborn (D.tells disk).reads) }
         ensures exists { IsHonest (D.tells disk)
-            → IfErr result (λ e. e.0 ≡ FoundFault.Exists → IsBorn R.scheme.header (D.tells disk).reads × IsRead (D.tells disk) (D.tells e.1)) }
+            → IfErr result (λ e. e.0 ≡ FoundFault.Exists → (IsBorn R.scheme.header (D.tells disk).reads ⊎ IsOld R.scheme.header (D.tells disk).reads)
+            × IsRead (D.tells disk) (D.tells e.1)) }
         ensures foreign { IsHonest (D.tells disk)
             → IfErr result (λ e. e.0 ≡ FoundFault.NotJournal → IsForeign R.scheme.header (D.tells disk).reads × IsRead (D.tells disk) (D.tells e.1)) }
         ensures no_memory { IfErr result (λ e. e.0 ≡ FoundFault.NoMemory → e.1 ≡ disk) }
@@ -142,6 +143,8 @@ impl<D: Disk, R: Docket> KeptList<D, R> {
             → IfErr result (λ e. e.0 ≡ OpenError.NoOffice → IsUnborn (D.tells disk).reads) }
         ensures foreign { IsHonest (D.tells disk)
             → IfErr result (λ e. e.0 ≡ OpenError.NotJournal → IsForeign R.scheme.header (D.tells disk).reads) }
+        ensures old { IsHonest (D.tells disk)
+            → IfErr result (λ e. e.0 ≡ OpenError.OldVersion → IsOld R.scheme.header (D.tells disk).reads) }
         ensures damaged { IsHonest (D.tells disk)
             → IfErr result (λ e. (place : ℕ) → e.0 ≡ OpenError.Damaged place
             → IsBorn R.scheme.header (D.tells disk).reads × IsFaultyAt R.scheme (D.tells disk).reads place) }
@@ -175,11 +178,7 @@ impl<D: Disk, R: Docket> KeptList<D, R> {
         let Ok(ahead) = Room::new(alloc) else {
             return Err((OpenError::NoMemory, disk));
         };
-        let mut opening = filing_journal::recover(disk, R::header())?;
-        let mut docket = R::new(alloc);
-        if let Err(error) = read_all(alloc, &mut opening, &mut docket, &mut room) {
-            return Err((error, opening.into_disk()));
-        }
+        let (docket, opening) = read_opening::<D, R>(alloc, disk, &mut room)?;
         let journal = opening.ready()?;
         Ok(KeptList {
             docket,

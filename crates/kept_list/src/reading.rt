@@ -3,8 +3,9 @@ ghost use Rattle.std.specs.Prelude.{◌≡◌, ◌⊎◌, ◌+◌, ◌≤◌, �
 ghost use Rattle.aid_edges.specs.Faults.{Rose};
 ghost use Rattle.disk_model.specs.Telling.{IsHonest, IsRead};
 ghost use Rattle.filing_journal.specs.Opening.{HasGiven, HasAll, HasEnded, opening_disk, opening_count, opening_refusal};
-ghost use Rattle.filing_journal.specs.Stands.{gate_place};
-ghost use Rattle.kept_list.specs.Recovers.{payloads_of, AreEntries};
+ghost use Rattle.filing_journal.specs.Head.{IsBorn, IsForeign, IsOld};
+ghost use Rattle.filing_journal.specs.Stands.{IsUnborn, gate_place};
+ghost use Rattle.kept_list.specs.Recovers.{Recovers, payloads_of, AreEntries};
 ghost use Rattle.kept_list.specs.Faulty.{IsFaultyAt};
 ghost use Rattle.kept_list.specs.Reading.{HasRead, IsReadRefusal};
 
@@ -141,4 +142,88 @@ pub(crate) fn read_all<D: Disk, R: Docket>(
 {
     while admit_next(alloc, opening, docket, room)? {}
     Ok(())
+}
+
+/// Reads the list of a journal whole, up to the first gate that isn't open, and writes nothing.
+pub(crate) fn read_opening<D: Disk, R: Docket>(
+    alloc: Global,
+    disk: D,
+    room: &mut Room,
+) -> Result<(R, Opening<D>), (OpenError, D)>
+    ensures honest { IfOk result (λ r. (D.tells (opening_disk r.1)).honest ≡ (D.tells disk).honest) }
+    ensures honest_err { IfErr result (λ e. (D.tells e.1).honest ≡ (D.tells disk).honest) }
+    ensures told { IsHonest (D.tells disk) → IfOk result (λ r. IsRead (D.tells disk) (D.tells (opening_disk r.1))) }
+    ensures told_err { IsHonest (D.tells disk) → IfErr result (λ e. IsRead (D.tells disk) (D.tells e.1)) }
+    ensures all { IsHonest (D.tells disk)
+        → IfOk result (λ r. HasAll D.Disk R.scheme.header r.1 (payloads_of R.scheme.spelling (R.history r.0))) }
+    ensures recovers { IsHonest (D.tells disk) → IfOk result (λ r. Recovers R.scheme (D.tells disk).reads (R.history r.0)) }
+    ensures legal { IfOk result (λ r. R.scheme.IsLegal (R.history r.0)) }
+    ensures no_office { IsHonest (D.tells disk)
+        → IfErr result (λ e. e.0 ≡ OpenError.NoOffice → IsUnborn (D.tells disk).reads) }
+    ensures foreign { IsHonest (D.tells disk)
+        → IfErr result (λ e. e.0 ≡ OpenError.NotJournal → IsForeign R.scheme.header (D.tells disk).reads) }
+    ensures old { IsHonest (D.tells disk)
+        → IfErr result (λ e. e.0 ≡ OpenError.OldVersion → IsOld R.scheme.header (D.tells disk).reads) }
+    ensures damaged { IsHonest (D.tells disk)
+        → IfErr result (λ e. (place : ℕ) → e.0 ≡ OpenError.Damaged place
+        → IsBorn R.scheme.header (D.tells disk).reads × IsFaultyAt R.scheme (D.tells disk).reads place) }
+    ensures complete { IsHonest (D.tells disk) → (history : List R.Entry) → Recovers R.scheme (D.tells disk).reads history
+        → IfErr result (λ e. (e.0 ≡ OpenError.NoMemory) ⊎ (e.0 ≡ OpenError.DiskFault)) }
+    ensures ended { IfOk result (λ r. HasEnded r.1) }
+    ensures count { IfOk result (λ r. opening_count r.1 ≡ length (R.history r.0)) }
+    ensures range { IfOk result (λ r. R.spare r.0 < 2 ^ 32) }
+    ensures later { IfOk result (λ r. D.faults disk ≤ D.faults (opening_disk r.1)) }
+    ensures later_err { IfErr result (λ e. D.faults disk ≤ D.faults e.1) }
+    ensures cause { IfErr result (λ e. e.0 ≡ OpenError.DiskFault → Rose (D.faults disk) (D.faults e.1)) }
+    ensures unmoved { IfOk result (λ r. D.faults (opening_disk r.1) ≡ D.faults disk) }
+    ensures unmoved_err { IfErr result (λ e. (e.0 ≡ OpenError.DiskFault) ⊎ (D.faults e.1 ≡ D.faults disk)) }
+{
+    let mut opening = filing_journal::recover(disk, R::header())?;
+    let mut docket = R::new(alloc);
+    if let Err(error) = read_all(alloc, &mut opening, &mut docket, room) {
+        return Err((error, opening.into_disk()));
+    }
+    Ok((docket, opening))
+}
+
+/// Reads the list of a journal whole, each entry judged, and writes nothing. The entries are judged as `KeptList::recover`
+/// judges them, with the same refusals.
+pub fn read<D: Disk, R: Docket>(alloc: Global, disk: D) -> Result<(R, D), (OpenError, D)>
+    ensures honest { IfOk result (λ r. (D.tells r.1).honest ≡ (D.tells disk).honest) }
+    ensures honest_err { IfErr result (λ e. (D.tells e.1).honest ≡ (D.tells disk).honest) }
+
+    // The list is what the bytes stand for.
+    ensures recovers { IsHonest (D.tells disk) → IfOk result (λ r. Recovers R.scheme (D.tells disk).reads (R.history r.0)) }
+    ensures legal { IfOk result (λ r. R.scheme.IsLegal (R.history r.0)) }
+
+    // Each refusal but for the disk and for memory comes by the bytes.
+    ensures no_office { IsHonest (D.tells disk)
+        → IfErr result (λ e. e.0 ≡ OpenError.NoOffice → IsUnborn (D.tells disk).reads) }
+    ensures foreign { IsHonest (D.tells disk)
+        → IfErr result (λ e. e.0 ≡ OpenError.NotJournal → IsForeign R.scheme.header (D.tells disk).reads) }
+    ensures old { IsHonest (D.tells disk)
+        → IfErr result (λ e. e.0 ≡ OpenError.OldVersion → IsOld R.scheme.header (D.tells disk).reads) }
+    ensures damaged { IsHonest (D.tells disk)
+        → IfErr result (λ e. (place : ℕ) → e.0 ≡ OpenError.Damaged place
+        → IsBorn R.scheme.header (D.tells disk).reads × IsFaultyAt R.scheme (D.tells disk).reads place) }
+    ensures complete { IsHonest (D.tells disk) → (history : List R.Entry) → Recovers R.scheme (D.tells disk).reads history
+        → IfErr result (λ e. (e.0 ≡ OpenError.NoMemory) ⊎ (e.0 ≡ OpenError.DiskFault)) }
+
+    // Nothing is written, whatever the answer.
+    ensures told { IsHonest (D.tells disk) → IfOk result (λ r. IsRead (D.tells disk) (D.tells r.1)) }
+    ensures told_err { IsHonest (D.tells disk) → IfErr result (λ e. IsRead (D.tells disk) (D.tells e.1)) }
+
+    ensures later { IfOk result (λ r. D.faults disk ≤ D.faults r.1) }
+    ensures later_err { IfErr result (λ e. D.faults disk ≤ D.faults e.1) }
+    ensures cause { IfErr result (λ e. e.0 ≡ OpenError.DiskFault → Rose (D.faults disk) (D.faults e.1)) }
+
+    // Every other answer comes without a fault.
+    ensures unmoved { IfOk result (λ r. D.faults r.1 ≡ D.faults disk) }
+    ensures unmoved_err { IfErr result (λ e. (e.0 ≡ OpenError.DiskFault) ⊎ (D.faults e.1 ≡ D.faults disk)) }
+{
+    let Ok(mut room) = Room::new(alloc) else {
+        return Err((OpenError::NoMemory, disk));
+    };
+    let (docket, opening) = read_opening::<D, R>(alloc, disk, &mut room)?;
+    Ok((docket, opening.into_disk()))
 }
