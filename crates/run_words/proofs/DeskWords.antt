@@ -2,6 +2,7 @@
 use Rattle.std.proofs.Common.{◌≡◌, ◌↔◌, ℕ, ◌<◌, ◌≤◌, Bool, not, List, [], ◌∷◌, map, length, refl, sym, ap, ◌∙◌, subst, arith, codes}
 use Rattle.std.specs.Prelude.{IsTrue}
 use Rattle.std.specs.List.{list_all}
+use Rattle.stamps.specs.declared.stamp.Stamp.{Stamp}
 use Rattle.run_words.specs.Words.{AreDesks, begins_with_hyphen}
 use Rattle.run_words.specs.declared.command.MainRow.{MainRow}
 use Rattle.run_words.specs.declared.command.MainRow.TheVariants.{Run, Desks}
@@ -19,27 +20,29 @@ abbrev plain : List ℕ → Bool
 plain word = not (begins_with_hyphen word)
 
 -- the words are such a row, and so their count is what was read
-pub row_is : {S : Type 0} (text : S → List ℕ) (first : List ℕ) (files : List S) → first ≡ codes "desks" → 0 < length files → length files ≤ 16
-    → IsTrue (list_all (λ w. not (begins_with_hyphen (text w))) files) → (count : ℕ) → (Desks (length files) ≡ Desks count) ↔ AreDesks (first ∷ map text files) count
-row_is text first files is some few all count = (
+pub row_is : {S : Type 0} (text : S → List ℕ) (stamp : Stamp) (first : List ℕ) (files : List S) → first ≡ codes "desks" → 0 < length files → length files ≤ 16
+    → IsTrue (list_all (λ w. not (begins_with_hyphen (text w))) files) → (count : ℕ) (s : Stamp) → (Desks (length files) stamp ≡ Desks count s) ↔ ((stamp ≡ s) × AreDesks (first ∷ map text files) count)
+row_is text stamp first files is some few all count s = (
   λ same. let one : length files ≡ count = cc in
-      (is, sym one ∙ sym (count_map text files), (subst (λ n. 1 ≤ n) one some, subst (λ n. n ≤ 16) one few), subst IsTrue (sym (all_map text plain files)) all),
-  λ row. ap Desks (sym (count_map text files) ∙ sym row.1),
+      let stamps : stamp ≡ s = cc in
+      (stamps, (is, sym one ∙ sym (count_map text files), (subst (λ n. 1 ≤ n) one some, subst (λ n. n ≤ 16) one few), subst IsTrue (sym (all_map text plain files)) all)),
+  λ (stamps, row). let sizes : length files ≡ count = sym (count_map text files) ∙ sym row.1 in λ i. Desks (sizes i) (stamps i),
 )
 
 -- they are none
-pub row_is_none : {S : Type 0} (text : S → List ℕ) (first : List ℕ) (files : List S)
+pub row_is_none : {S : Type 0} (text : S → List ℕ) (stamp : Stamp) (first : List ℕ) (files : List S)
     → (first ≡ codes "desks" → 0 < length files → length files ≤ 16 → IsTrue (list_all (λ w. not (begins_with_hyphen (text w))) files) → ⊥)
-    → (count : ℕ) → (Run ≡ Desks count) ↔ AreDesks (first ∷ map text files) count
-row_is_none text first files none count = (
+    → (count : ℕ) (s : Stamp) → (Run ≡ Desks count s) ↔ ((stamp ≡ s) × AreDesks (first ∷ map text files) count)
+row_is_none text stamp first files none count s = (
   λ same. absurd (let bad : ⊥ = cc in bad),
-  λ row. let size : count ≡ length files = row.1 ∙ count_map text files in
+  λ (stamps, row). let size : count ≡ length files = row.1 ∙ count_map text files in
       absurd (none row.0 (omega (arith, size, row.2)) (omega (arith, size, row.2)) (subst IsTrue (all_map text plain files) row.3)),
 )
 
 -- the row of all words, by the first and those behind it
-pub row_split : {S : Type 0} (text : S → List ℕ) (words : List S) (first : S) (files : List S) (word : List ℕ) (row : MainRow) → words ≡ first ∷ files → word ≡ text first
-    → ((count : ℕ) → (row ≡ Desks count) ↔ AreDesks (word ∷ map text files) count) → (count : ℕ) → (row ≡ Desks count) ↔ AreDesks (map text words) count
-row_split {S} text words first files word row whole is told count =
-    subst (λ (ws : List S). (row ≡ Desks count) ↔ AreDesks (map text ws) count) (sym whole)
-    (subst (λ (w : List ℕ). (row ≡ Desks count) ↔ AreDesks (w ∷ map text files) count) is (told count))
+pub row_split : {S : Type 0} (text : S → List ℕ) (words : List S) (first : S) (files : List S) (word : List ℕ) (stamp : Stamp) (row : MainRow) → words ≡ first ∷ files → word ≡ text first
+    → ((count : ℕ) (s : Stamp) → (row ≡ Desks count s) ↔ ((stamp ≡ s) × AreDesks (word ∷ map text files) count))
+    → (count : ℕ) (s : Stamp) → (row ≡ Desks count s) ↔ ((stamp ≡ s) × AreDesks (map text words) count)
+row_split {S} text words first files word stamp row whole is told count s =
+    subst (λ (ws : List S). (row ≡ Desks count s) ↔ ((stamp ≡ s) × AreDesks (map text ws) count)) (sym whole)
+    (subst (λ (w : List ℕ). (row ≡ Desks count s) ↔ ((stamp ≡ s) × AreDesks (w ∷ map text files) count)) is (told count s))

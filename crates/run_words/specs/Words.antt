@@ -3,13 +3,14 @@ use Rattle.std.specs.Prelude.{◌≡◌, ◌↔◌, ◌==◌, ℕ, Bool, false, 
 use Rattle.std.specs.List.{list_all, position}
 use Rattle.std.specs.Str.{bytes_eq}
 use Rattle.aid_types.specs.Ranges.{IsBetween}
+use Rattle.stamps.specs.declared.stamp.Stamp.{Stamp}
 use Rattle.run_words.specs.declared.command.Command.{Command}
 use Rattle.run_words.specs.declared.command.Command.TheVariants.{Found, File, Book, Quote, Report, Fund, Generate, CheckRows, CheckBook}
 use Rattle.run_words.specs.declared.command.FundRequest.{FundRequest}
 use Rattle.run_words.specs.declared.command.GenerateRequest.{GenerateRequest}
 use Rattle.run_words.specs.declared.command.QuoteRequest.{QuoteRequest}
 use Rattle.run_words.specs.declared.command.ReportRequest.{ReportRequest}
-use Rattle.run_words.specs.declared.command.ReportRequest.TheVariants.{Standing, Awards, Returns, Lifetime}
+use Rattle.run_words.specs.declared.command.ReportRequest.TheVariants.{Standing, Awards, Returns, Lifetime, Stamps}
 use Rattle.run_words.specs.declared.command.ReportYear.{ReportYear}
 use Rattle.run_words.specs.declared.command.MainRow.{MainRow}
 use Rattle.run_words.specs.declared.command.MainRow.TheVariants.{Serve}
@@ -24,6 +25,7 @@ report_words (Standing of) = codes "standing" ∷ decimal of.year ∷ []
 report_words (Awards of) = codes "awards" ∷ decimal of.year ∷ []
 report_words (Returns of) = codes "returns" ∷ decimal of.year ∷ []
 report_words Lifetime = codes "lifetime" ∷ []
+report_words Stamps = codes "stamps" ∷ []
 
 -- the numbers of a generated year: SEED STUDENTS
 abbrev pub generate_words : GenerateRequest → List (List ℕ)
@@ -114,7 +116,7 @@ abbrev pub AreServe : List (List ℕ) → ℕ → ℕ → ℕ → Type 0
 AreServe words port workers sessions =
     (words ≡ serve_words port workers sessions) × IsBetween 1 65535 port × IsBetween 1 16 workers × IsBetween 1 1000000 sessions
 
--- the words are the row of the server that was read, and of none where none was
-abbrev pub ReadsServe : List (List ℕ) → Option MainRow → Type 0
-ReadsServe words None = (port workers sessions : ℕ) → ¬ AreServe words port workers sessions
-ReadsServe words (Some row) = (port : ℕ) × (workers : ℕ) × (sessions : ℕ) × (row ≡ Serve port workers sessions) × AreServe words port workers sessions
+-- the words behind the stamp are the row of the server that was read, and of none where none was
+abbrev pub ReadsServe : Stamp → List (List ℕ) → Option MainRow → Type 0
+ReadsServe stamp words None = (port workers sessions : ℕ) → ¬ AreServe words port workers sessions
+ReadsServe stamp words (Some row) = (port : ℕ) × (workers : ℕ) × (sessions : ℕ) × (row ≡ Serve port workers sessions stamp) × AreServe words port workers sessions

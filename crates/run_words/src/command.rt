@@ -3,6 +3,7 @@ ghost use Rattle.std.specs.Prelude.{◌≤◌};
 ghost use Rattle.aid_types.specs.Ranges.{IsBetween};
 
 use aid_types::{School, Student, Year};
+use stamps::Stamp;
 
 /// The number that the office's desk gives to a book that it files: 1 to 999,999,999,999.
 #[derive(Clone, Copy, PartialEq, Eq, Debug)]
@@ -40,6 +41,8 @@ pub enum ReportRequest {
     Returns(ReportYear),
     /// `lifetime`: the lifetime units of each student who used some.
     Lifetime,
+    /// `stamps`: the stamp of each filing.
+    Stamps,
 }
 
 /// The generated year that is asked for: so many students, 1 to 20,000, drawn from a seed.
@@ -75,7 +78,7 @@ pub enum Command {
     Book(BookNumber),
     /// `quote SCHOOL STUDENT YEAR TERM`: to say the greatest Pell payment that the office would take.
     Quote(QuoteRequest),
-    /// `report standing YEAR`, `report awards YEAR`, `report returns YEAR`, `report lifetime`: to write a report on the office.
+    /// `report standing YEAR`, `report awards YEAR`, `report returns YEAR`, `report lifetime`, `report stamps`: to write a report on the office.
     Report(ReportRequest),
     /// `fund SCHOOL YEAR TERM AMOUNT POLICY NUMBER`: to file the awards of a round.
     Fund(FundRequest),
@@ -87,7 +90,14 @@ pub enum Command {
     CheckBook,
 }
 
-/// The call of the program that a row of words needs.
+/// A command, and the stamp in front of its row.
+#[derive(Clone, Copy, PartialEq, Eq, Debug)]
+pub struct StampedCommand {
+    pub stamp: Stamp,
+    pub command: Command,
+}
+
+/// The call of the program that a row of words needs, with the stamp in front of the row.
 #[derive(Clone, Copy, PartialEq, Eq, Debug)]
 pub enum MainRow {
     /// A run over one input, or over none.
@@ -95,6 +105,7 @@ pub enum MainRow {
     /// `desks FILE..`: the files are filed at once, 1 to 16 of them.
     Desks {
         files: u32,
+        stamp: Stamp,
     },
     /// `serve PORT WORKERS SESSIONS`: so many workers, 1 to 16, answer requests on a port of this machine, each over so many
     /// connections one after the other.
@@ -102,5 +113,6 @@ pub enum MainRow {
         port: u16,
         workers: u8,
         sessions: u32,
+        stamp: Stamp,
     },
 }

@@ -1,16 +1,19 @@
 //! The rows of words of the program: what stands behind the path of its journal.
 #![tactic(auto)]
 
+mod at;
 mod behind;
 mod command;
 mod hyphen;
 mod main_row;
 mod number;
+mod stamped;
 mod words;
 
+pub use at::behind_at;
 pub use command::{
     BookNumber, Command, FundRequest, GenerateRequest, MainRow, QuoteRequest, ReportRequest,
-    ReportYear,
+    ReportYear, StampedCommand,
 };
 pub use main_row::{MOST_DESKS, needs_journal, row_of};
-pub use words::command_of;
+pub use stamped::{command_of, is_found};

@@ -15,9 +15,9 @@ use aid_types::{School, Student, Year};
 use fund_policy::Policies;
 use std::alloc::{AllocError, Global};
 
-/// The command that the words are the row of, where these policies are known; `None` where they are no row of the program's. An
-/// `Err` is want of memory.
-pub fn command_of(
+/// The command that the words are the row of with nothing in front, where these policies are known; `None` where they are no row of
+/// the program's. An `Err` is want of memory.
+pub(crate) fn command_in(
     alloc: Global,
     words: &[String],
     policies: &Policies,
@@ -218,6 +218,8 @@ fn read_report_of(
 {
     if is_same_word(report, "lifetime") {
         read_lifetime(alloc, behind)
+    } else if is_same_word(report, "stamps") {
+        read_stamps(alloc, behind)
     } else {
         read_yearly(alloc, report, behind)
     }
@@ -235,6 +237,18 @@ fn read_lifetime(alloc: Global, behind: &[String]) -> Result<Option<ReportReques
     }
 }
 
+// The report of the stamps.
+fn read_stamps(alloc: Global, behind: &[String]) -> Result<Option<ReportRequest>, AllocError>
+    requires { ArePlain (map string_bytes behind.now) }
+    ensures { IfOk result (ReadsReport (codes "stamps" ∷ map string_bytes behind.now)) }
+{
+    if is_alone(alloc, "stamps", behind)? {
+        Ok(Some(ReportRequest::Stamps))
+    } else {
+        Ok(None)
+    }
+}
+
 // A report of a year.
 fn read_yearly(
     alloc: Global,
@@ -243,6 +257,7 @@ fn read_yearly(
 ) -> Result<Option<ReportRequest>, AllocError>
     requires plain { ArePlain (map string_bytes behind.now) }
     requires not_lifetime { report.now ≢ codes "lifetime" }
+    requires not_stamps { report.now ≢ codes "stamps" }
     ensures { IfOk result (ReadsReport (report.now ∷ map string_bytes behind.now)) }
 {
     match number_behind(alloc, report, behind)? {

@@ -1,15 +1,12 @@
-use Rattle.std.proofs.Common.{rules, Global, string_bytes}
-use Rattle.run_words.proofs.DeskWords.{row_is, row_is_none}
+use Rattle.std.proofs.Common.{rules, Global, map, string_bytes}
+use Rattle.run_words.proofs.DeskWords.{row_split}
+use Rattle.run_words.proofs.ServeWords.{serve_told}
 use Rattle.run_words.proofs.main_row.row_behind.Goals as goal
-use Rattle.run_words.proofs.main_row.row_behind.Goals.{else-eq-via-then-eq+then-not-is_empty+then-files-le-MOST_DESKS+else-are_plain, else-eq-via-then-eq+then-not-is_empty+else-files-le-MOST_DESKS, else-eq-via-then-eq+else-not-is_empty, else-eq-via-else-eq}
 
-pub returns-then-are_plain-clause-desks : goal.returns-then-are_plain-clause-desks
-returns-then-are_plain-clause-desks c = row_is (string_bytes {Z = Global}) c.args.first.now c.args.files.now (search rules) (search rules) (search rules) (search rules)
+pub returns-in-Some-clause-serve : goal.returns-in-Some-clause-serve
+returns-in-Some-clause-serve c = serve_told c.args.stamp.now (map (string_bytes {Z = Global}) c.args.words.now) c.serve_row.result c.in-Some.row c.in-Some.is c.serve_row.ensures
 
-pub returns-else-eq-clause-desks : goal.returns-else-eq-clause-desks
-returns-else-eq-clause-desks c = row_is_none (string_bytes {Z = Global}) c.args.first.now c.args.files.now (λ is some few all. elim c.else-eq.branch [
-  | else-eq-via-then-eq+then-not-is_empty+then-files-le-MOST_DESKS+else-are_plain w ↦ search rules
-  | else-eq-via-then-eq+then-not-is_empty+else-files-le-MOST_DESKS w ↦ search rules
-  | else-eq-via-then-eq+else-not-is_empty w ↦ search rules
-  | else-eq-via-else-eq w ↦ search rules
-])
+pub returns-in-Some-split_first-clause-desks : goal.returns-in-Some-split_first-clause-desks
+returns-in-Some-split_first-clause-desks c =
+    row_split (string_bytes {Z = Global}) c.args.words.now c.in-Some-split_first.first.now c.in-Some-split_first.files.now c.as_str.result.now c.args.stamp.now c.desks_row.result
+    (search rules) (search rules) c.desks_row.ensures.desks

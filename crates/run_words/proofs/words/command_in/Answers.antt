@@ -1,6 +1,6 @@
 use Rattle.std.proofs.Common.{Global, map, rules, string_bytes}
 use Rattle.run_words.proofs.WordsLemmas.{answer_none, answer_only, answer_words, hyphened, named_reads, plain_behind, plain_words}
-use Rattle.run_words.proofs.words.command_of.Goals as goal
+use Rattle.run_words.proofs.words.command_in.Goals as goal
 
 pub returns-then-not-are_plain-clause-none : goal.returns-then-not-are_plain-clause-none
 returns-then-not-are_plain-clause-none g c is d row = hyphened (string_bytes {Z = Global}) c.args.words.now c.are_plain.result c.are_plain.ensures (search rules) row.0
