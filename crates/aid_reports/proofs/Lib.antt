@@ -4,5 +4,6 @@ pub mod InOrder
 pub mod Orders
 pub mod Passes
 pub mod Pieces
+pub mod StampLines
 pub mod Standing
 pub mod Told

@@ -4,6 +4,7 @@ use Rattle.aid_num.specs.Cents.{cents_text}
 use Rattle.aid_num.specs.Percents.{percent_text}
 use Rattle.aid_num.specs.Whole.{whole_text}
 use Rattle.aid_types.specs.Words.{formula_text, program_text, way_text}
+use Rattle.stamps.specs.declared.stamp.Stamp.{Stamp}
 use Rattle.aid_reports.specs.Columns.{left, line, right}
 use Rattle.aid_reports.specs.Days.{day_text}
 use Rattle.aid_reports.specs.declared.rows.LifetimeOf.{LifetimeOf}
@@ -37,3 +38,7 @@ return_line r = line (
 -- STUDENT PRIOR USED
 abbrev pub lifetime_line : LifetimeOf → List ℕ
 lifetime_line l = line (right 12 (decimal l.student) ∷ right 7 (decimal l.prior) ∷ right 7 (decimal l.used) ∷ [])
+
+-- POSITION DAY CLERK
+abbrev pub stamp_line : ℕ → Stamp → List ℕ
+stamp_line position s = line (decimal position ∷ day_text s.day ∷ s.clerk ∷ [])

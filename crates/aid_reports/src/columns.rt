@@ -37,6 +37,14 @@ pub(crate) fn put_term(term: u8, out: &mut Vec<u8>) -> Result<(), AllocError>
     put_text(digits.format(term).as_bytes(), out)
 }
 
+/// Appends a position as it is, and a space.
+pub(crate) fn put_position(position: usize, out: &mut Vec<u8>) -> Result<(), AllocError>
+    ensures { OnOk result (out.new.items ≡ out.old.items ++ decimal position ++ 32 ∷ []) }
+{
+    let mut digits = Buffer::new();
+    put_text(digits.format(position).as_bytes(), out)
+}
+
 /// Appends a text, with blanks before it up to a width, and a byte behind it.
 fn put_right(width: usize, text: &[u8], end: u8, out: &mut Vec<u8>) -> Result<(), AllocError>
     requires { width ≤ 12 }

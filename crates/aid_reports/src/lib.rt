@@ -1,4 +1,4 @@
-//! Reports on an office: standings, awards, returns and lifetime units; and their laws, each as the contract of a function that
+//! Reports on an office: standings, awards, returns, lifetime units and stamps; and their laws, each as the contract of a function that
 //! computes nothing.
 #![tactic(auto)]
 
@@ -14,4 +14,4 @@ mod rows;
 mod table;
 
 pub use laws::{places_of_awards, returns_in_order, students_of_reports};
-pub use reports::{awards, lifetimes, returns, standings};
+pub use reports::{awards, lifetimes, returns, stamp_lines, standings};

@@ -1,16 +1,18 @@
 //! The lines of reports.
 ghost use Rattle.std.specs.Prelude.{◌≡◌, ◌∷◌, ◌++◌, [], OnOk, codes};
 ghost use Rattle.aid_reports.specs.Columns.{left, line as columns, right};
-ghost use Rattle.aid_reports.specs.Lines.{award_line, due_text, lifetime_line, return_line, standing_line};
+ghost use Rattle.aid_reports.specs.Days.{day_text};
+ghost use Rattle.aid_reports.specs.Lines.{award_line, due_text, lifetime_line, return_line, stamp_line, standing_line};
 
 use crate::columns::{
-    put_amount, put_left, put_number, put_percent, put_school, put_student, put_term, put_text,
-    put_whole,
+    put_amount, put_left, put_number, put_percent, put_position, put_school, put_student, put_term,
+    put_text, put_whole,
 };
 use crate::rows::{LifetimeOf, NetOf, ReturnOf, StandingOf};
 use crate::table::Line;
 use aid_types::{Day, formula_name, program_name, way_name};
 use enrolment::put_day;
+use stamps::{ClerkName, Stamp};
 use std::alloc::AllocError;
 
 impl Line for StandingOf {
@@ -78,7 +80,41 @@ fn put_due_text(due: Option<Day>, out: &mut Vec<u8>) -> Result<(), AllocError>
     ensures { OnOk result (out.new.items ≡ out.old.items ++ due_text due) }
 {
     match due {
-        Some(day) => put_day(day, out),
+        Some(day) => put_day_text(day, out),
         None => out.extend_from_slice(b"none"),
     }
+}
+
+// Appends the text of a day.
+fn put_day_text(day: Day, out: &mut Vec<u8>) -> Result<(), AllocError>
+    ensures { OnOk result (out.new.items ≡ out.old.items ++ day_text day) }
+{
+    put_day(day, out)
+}
+
+// Appends a day, and a space.
+fn put_day_column(day: Day, out: &mut Vec<u8>) -> Result<(), AllocError>
+    ensures { OnOk result (out.new.items ≡ out.old.items ++ day_text day ++ 32 ∷ []) }
+{
+    put_day_text(day, out)?;
+    out.push(b' ')?;
+    Ok(())
+}
+
+// Appends a clerk's name, and a line feed.
+fn put_clerk(clerk: &ClerkName, out: &mut Vec<u8>) -> Result<(), AllocError>
+    ensures { OnOk result (out.new.items ≡ out.old.items ++ clerk.now ++ 10 ∷ []) }
+{
+    out.extend_from_slice(clerk.as_bytes())?;
+    out.push(b'\n')?;
+    Ok(())
+}
+
+/// Appends the line of the stamp at a position, which counts from 1.
+pub(crate) fn put_stamp(position: usize, stamp: &Stamp, out: &mut Vec<u8>) -> Result<(), AllocError>
+    ensures { OnOk result (out.new.items ≡ out.old.items ++ stamp_line position stamp.now) }
+{
+    put_position(position, out)?;
+    put_day_column(stamp.day, out)?;
+    put_clerk(&stamp.clerk, out)
 }

@@ -1,11 +1,13 @@
 //! The reports.
 ghost use Rattle.std.specs.Prelude.{◌≡◌, IfOk};
-ghost use Rattle.aid_reports.specs.Reports.{award_report, lifetime_report, return_report, standing_report};
+ghost use Rattle.aid_reports.specs.Reports.{award_report, lifetime_report, return_report, stamp_report, standing_report};
 
+use crate::lines::put_stamp;
 use crate::listed::{award_rows, lifetime_rows, return_rows, standing_rows};
-use crate::table::table_of;
+use crate::table::{put_count, table_of};
 use aid_types::Year;
 use office_core::Office;
+use stamps::Stamp;
 use std::alloc::{AllocError, Global};
 
 /// Where each student with an application in the year stands, by student number: the student, the formula, the final Student
@@ -47,4 +49,17 @@ pub fn lifetimes(alloc: Global, office: &Office) -> Result<Vec<u8>, AllocError>
 {
     let rows = lifetime_rows(alloc, office)?;
     table_of(alloc, rows.as_slice())
+}
+
+/// The stamps of all filings, the oldest first: the position, which counts from 1, the day and the clerk's name. An `Err` is
+/// want of memory.
+pub fn stamp_lines(alloc: Global, stamps: &[Stamp]) -> Result<Vec<u8>, AllocError>
+    ensures { IfOk result (λ text. text.items ≡ stamp_report stamps.now) }
+{
+    let mut out = Vec::new(alloc);
+    for (index, stamp) in stamps.iter().enumerate() {
+        put_stamp(index + 1, stamp, &mut out)?;
+    }
+    put_count(stamps.len(), &mut out)?;
+    Ok(out)
 }

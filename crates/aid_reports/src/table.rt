@@ -28,8 +28,8 @@ pub(crate) fn table_of<L: Line>(alloc: Global, rows: &[L]) -> Result<Vec<u8>, Al
     Ok(out)
 }
 
-// Appends the last line of a table.
-fn put_count(count: usize, out: &mut Vec<u8>) -> Result<(), AllocError>
+/// Appends the last line of a table.
+pub(crate) fn put_count(count: usize, out: &mut Vec<u8>) -> Result<(), AllocError>
     ensures { OnOk result (out.new.items ≡ out.old.items ++ codes "rows " ++ decimal count ++ codes "\n") }
 {
     let mut digits = Buffer::new();

@@ -1,11 +1,10 @@
 use Rattle.std.proofs.Common.{ap, ◌∙◌, List, ℕ, ◌++◌}
 use Rattle.std.proofs.lemmas.Result.{on_ok_weaker}
 use Rattle.aid_reports.proofs.DayTexts.{day_text-is}
-use Rattle.aid_reports.proofs.lines.put_due_text.Goals as goal
+use Rattle.aid_reports.proofs.lines.put_day_text.Goals as goal
 
-pub returns-in-Some : goal.returns-in-Some
-returns-in-Some c =
-    rw c.in-Some.is
-    (on_ok_weaker c.put_day.result
-    (λ told. told.2 ∙ ap (λ (text : List ℕ). c.args.out.now.items ++ text) (day_text-is told.0 c.in-Some.day told.1))
-    c.put_day.ensures.ok)
+pub returns : goal.returns
+returns c =
+    on_ok_weaker c.put_day.result
+    (λ told. told.2 ∙ ap (λ (text : List ℕ). c.args.out.now.items ++ text) (day_text-is told.0 c.args.day told.1))
+    c.put_day.ensures.ok
