@@ -3,7 +3,7 @@ use Rattle.std.proofs.Common.{◌≡◌, ◌≢◌, ◌⊎◌, inl, inr, ⊎_eli
 use Rattle.std.proofs.lemmas.List.{take_at}
 use Rattle.std.specs.Int.{to_le_bytes, w32}
 use Rattle.filing_journal.specs.Stands.{Payloads, StandsFor, front_of, records, body_of, IsPayload, ArePayloads, IsUnborn}
-use Rattle.filing_journal.specs.Head.{IsBorn}
+use Rattle.filing_journal.specs.Head.{IsBorn, IsOld}
 use Rattle.filing_journal.specs.Header.{header_bytes}
 use Rattle.filing_journal.specs.Record.{IsNoRecord}
 use Rattle.filing_journal.specs.Opening.{IsDamagedAt}
@@ -115,3 +115,9 @@ pub not_unborn : (header : Header) (file : List ℕ) → IsBorn header file → 
 not_unborn header file is (inl short) = omega (arith, is.long, short)
 not_unborn header [] is (inr unfinished) = let long = is.long in omega (arith, long)
 not_unborn header (x ∷ file) is (inr unfinished) = unfinished.1 (heads x 1 (take 15 file) _ is.starts)
+
+-- nor is one of the version before
+pub old_not_unborn : (header : Header) (file : List ℕ) → IsOld header file → IsUnborn file → ⊥
+old_not_unborn header file is (inl short) = omega (arith, is.long, short)
+old_not_unborn header [] is (inr unfinished) = let long = is.long in omega (arith, long)
+old_not_unborn header (x ∷ file) is (inr unfinished) = unfinished.1 (heads x 1 (take 15 file) _ is.starts.2)

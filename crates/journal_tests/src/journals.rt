@@ -17,10 +17,11 @@ use std::test::Fail;
 const HEADER: Header = Header {
     name: *b"AIDPELL1",
     version: 1,
+    old: None,
 };
 
 // A founded file without payloads.
-const EMPTY: [u8; 17] = *b"\x01AIDPELL1\x01\0\0\0\0\0\0\0";
+pub(crate) const EMPTY: [u8; 17] = *b"\x01AIDPELL1\x01\0\0\0\0\0\0\0";
 
 // A school with code 110, two terms and 12 full-time credits, filed as number 1.
 const SCHOOL: [u8; 19] = *b"\x02\0\0\0\0\x01\0\0\0\0\0\0\0\x6e\0\0\0\x02\x0c";
@@ -29,7 +30,7 @@ const SCHOOL: [u8; 19] = *b"\x02\0\0\0\0\x01\0\0\0\0\0\0\0\x6e\0\0\0\x02\x0c";
 const PRIOR: [u8; 25] = *b"\x04\0\0\0\0\x02\0\0\0\0\0\0\0\x89\x13\0\0\0\0\0\0\x70\x64\x08\0";
 
 // The file of both.
-const BOTH: [u8; 71] =
+pub(crate) const BOTH: [u8; 71] =
     *b"\x01AIDPELL1\x01\0\0\0\0\0\0\x01\x13\0\0\0\x02\0\0\0\0\x01\0\0\0\0\0\0\0\x6e\0\0\0\x02\x0c\x01\x19\0\0\0\x04\0\0\0\0\x02\0\0\0\0\0\0\0\x89\x13\0\0\0\0\0\0\x70\x64\x08\0\0";
 
 // What a first put may write ahead: nothing, the payload that comes next, or another one of its length or not.

@@ -9,3 +9,5 @@ mod edges;
 mod journals;
 #[cfg(test)]
 mod pieces;
+#[cfg(test)]
+mod versions;

@@ -10,6 +10,7 @@ use std::test::Fail;
 const HEADER: Header = Header {
     name: *b"AIDPELL1",
     version: 1,
+    old: None,
 };
 
 fn disk(alloc: Global, bytes: &[u8], failing: &[u64]) -> Result<MemoryDisk, Fail> {

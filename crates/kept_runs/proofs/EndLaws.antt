@@ -46,6 +46,7 @@ shown (File (Reading reading.TooLong)) = record { read = refl; write = refl; dis
 shown (File (Reading reading.NoMemory)) = record { read = refl; write = refl; disk = refl; some = refl }
 shown (File (Opening opening.NoOffice)) = record { read = refl; write = refl; disk = refl; some = refl }
 shown (File (Opening opening.NotJournal)) = record { read = refl; write = refl; disk = refl; some = refl }
+shown (File (Opening opening.OldVersion)) = record { read = refl; write = refl; disk = refl; some = refl }
 shown (File (Opening (opening.Damaged place))) = record { read = refl; write = refl; disk = refl; some = refl }
 shown (File (Opening opening.DiskFault)) = record { read = refl; write = refl; disk = refl; some = refl }
 shown (File (Opening opening.NoMemory)) = record { read = refl; write = refl; disk = refl; some = refl }

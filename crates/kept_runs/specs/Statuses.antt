@@ -26,6 +26,7 @@ read_status reading.NoMemory = 9
 abbrev pub open_status : OpenError → ℕ
 open_status opening.NoOffice = 6
 open_status opening.NotJournal = 6
+open_status opening.OldVersion = 6
 open_status (opening.Damaged place) = 7
 open_status opening.DiskFault = 5
 open_status opening.NoMemory = 9
@@ -68,6 +69,7 @@ read_line reading.NoMemory = codes "fault memory\n"
 abbrev pub open_line : OpenError → List ℕ
 open_line opening.NoOffice = codes "fault no office\n"
 open_line opening.NotJournal = codes "fault not a journal\n"
+open_line opening.OldVersion = codes "fault old version\n"
 open_line (opening.Damaged place) = codes "fault damaged " ++ decimal place ++ codes "\n"
 open_line opening.DiskFault = codes "fault disk none\n"
 open_line opening.NoMemory = codes "fault memory\n"

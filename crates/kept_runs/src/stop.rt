@@ -125,6 +125,7 @@ fn session_status(stop: SessionStop) -> u8
     match stop {
         SessionStop::Reading(stop) => read_status(stop),
         SessionStop::Opening(OpenError::NoOffice | OpenError::NotJournal) => 6,
+        SessionStop::Opening(OpenError::OldVersion) => 6,
         SessionStop::Opening(OpenError::Damaged(_)) => 7,
         SessionStop::Opening(OpenError::DiskFault) => 5,
         SessionStop::Opening(OpenError::NoMemory) => 9,
@@ -187,6 +188,7 @@ fn open_line(error: OpenError) -> ArrayString<40>
     match error {
         OpenError::NoOffice => text_line("fault no office\n"),
         OpenError::NotJournal => text_line("fault not a journal\n"),
+        OpenError::OldVersion => text_line("fault old version\n"),
         OpenError::Damaged(place) => number_line("fault damaged ", place),
         OpenError::DiskFault => text_line("fault disk none\n"),
         OpenError::NoMemory => text_line("fault memory\n"),

@@ -3,7 +3,7 @@ use Rattle.std.specs.Prelude.{◌≡◌, ◌⊎◌, ◌+◌, ◌++◌, ℕ, Bool
 use Rattle.disk_model.specs.Telling.{EachImage, EachMoment, IsHonest, IsQuiet, IsRead}
 use Rattle.disk_model.specs.declared.disk.Disk.{Ghosts}
 use Rattle.filing_journal.specs.Founded.{UnbornOrEmpty}
-use Rattle.filing_journal.specs.Head.{IsBorn, IsForeign}
+use Rattle.filing_journal.specs.Head.{IsBorn, IsForeign, IsOld}
 use Rattle.filing_journal.specs.Stands.{IsUnborn}
 use Rattle.filing_journal.specs.declared.opening.OpenError.{OpenError}
 use Rattle.filing_journal.specs.declared.opening.OpenError.TheVariants as opening
@@ -62,18 +62,19 @@ pub record Takes {D Entry Ask Verdict Error : Type 0} (disk : Ghosts D) (scheme 
   pub files : Files disk scheme judging texts past old new output rows ended
 
 -- why no list was opened: what the bytes of the file show, and what was written to the disk
-pub record IsUnopened {D Entry : Type 0} (disk : Ghosts D) (scheme : Scheme Entry) (error : OpenError) (old new : D) : Type 0 where
-  pub honest : (disk.tells new).honest ≡ (disk.tells old).honest
-  pub unborn : IsHonest (disk.tells old) → error ≡ opening.NoOffice → IsUnborn (disk.tells old).reads
-  pub foreign : IsHonest (disk.tells old) → error ≡ opening.NotJournal → IsForeign scheme.header (disk.tells old).reads
-  pub damaged : IsHonest (disk.tells old) → (place : ℕ) → error ≡ opening.Damaged place
-      → IsBorn scheme.header (disk.tells old).reads × IsFaultyAt scheme (disk.tells old).reads place
-  pub complete : IsHonest (disk.tells old) → (past : List Entry) → Recovers scheme (disk.tells old).reads past
+pub record IsUnopened {D Entry : Type 0} (disk : Ghosts D) (scheme : Scheme Entry) (error : OpenError) (before after : D) : Type 0 where
+  pub honest : (disk.tells after).honest ≡ (disk.tells before).honest
+  pub unborn : IsHonest (disk.tells before) → error ≡ opening.NoOffice → IsUnborn (disk.tells before).reads
+  pub foreign : IsHonest (disk.tells before) → error ≡ opening.NotJournal → IsForeign scheme.header (disk.tells before).reads
+  pub old : IsHonest (disk.tells before) → error ≡ opening.OldVersion → IsOld scheme.header (disk.tells before).reads
+  pub damaged : IsHonest (disk.tells before) → (place : ℕ) → error ≡ opening.Damaged place
+      → IsBorn scheme.header (disk.tells before).reads × IsFaultyAt scheme (disk.tells before).reads place
+  pub complete : IsHonest (disk.tells before) → (past : List Entry) → Recovers scheme (disk.tells before).reads past
       → (error ≡ opening.NoMemory) ⊎ (error ≡ opening.DiskFault)
-  pub unfiled : IsHonest (disk.tells old) → (error ≡ opening.DiskFault → ⊥) → IsRead (disk.tells old) (disk.tells new)
-  pub untouched : IsHonest (disk.tells old) → ((past : List Entry) × Recovers scheme (disk.tells old).reads past) ⊎ IsRead (disk.tells old) (disk.tells new)
-  pub moments : IsHonest (disk.tells old) → (past : List Entry) → EachImage (disk.tells old) (λ file. Recovers scheme file past)
-      → EachMoment (disk.tells old) (disk.tells new) (λ file. Recovers scheme file past)
+  pub unfiled : IsHonest (disk.tells before) → (error ≡ opening.DiskFault → ⊥) → IsRead (disk.tells before) (disk.tells after)
+  pub untouched : IsHonest (disk.tells before) → ((past : List Entry) × Recovers scheme (disk.tells before).reads past) ⊎ IsRead (disk.tells before) (disk.tells after)
+  pub moments : IsHonest (disk.tells before) → (past : List Entry) → EachImage (disk.tells before) (λ file. Recovers scheme file past)
+      → EachMoment (disk.tells before) (disk.tells after) (λ file. Recovers scheme file past)
 
 -- why an input wasn't read: never more than one byte past the limit is
 abbrev pub IsUnread : ReadStop → ℕ → Input → Type 0
@@ -91,6 +92,7 @@ abbrev pub is_disk_fault : SessionStop → Bool
 is_disk_fault (Reading stop) = false
 is_disk_fault (Opening opening.NoOffice) = false
 is_disk_fault (Opening opening.NotJournal) = false
+is_disk_fault (Opening opening.OldVersion) = false
 is_disk_fault (Opening (opening.Damaged place)) = false
 is_disk_fault (Opening opening.DiskFault) = true
 is_disk_fault (Opening opening.NoMemory) = false
@@ -130,7 +132,8 @@ pub record IsFounded {D Entry : Type 0} (disk : Ghosts D) (scheme : Scheme Entry
 -- why no list was founded: what the bytes of the file show, and what was written to the disk
 pub record IsNotFounded {D Entry : Type 0} (disk : Ghosts D) (scheme : Scheme Entry) (fault : FoundFault) (old new : D) : Type 0 where
   pub honest : (disk.tells new).honest ≡ (disk.tells old).honest
-  pub exists : IsHonest (disk.tells old) → fault ≡ founding.Exists → IsBorn scheme.header (disk.tells old).reads × IsRead (disk.tells old) (disk.tells new)
+  pub exists : IsHonest (disk.tells old) → fault ≡ founding.Exists
+      → (IsBorn scheme.header (disk.tells old).reads ⊎ IsOld scheme.header (disk.tells old).reads) × IsRead (disk.tells old) (disk.tells new)
   pub foreign : IsHonest (disk.tells old) → fault ≡ founding.NotJournal → IsForeign scheme.header (disk.tells old).reads × IsRead (disk.tells old) (disk.tells new)
   pub unfounded : fault ≡ founding.NoMemory → new ≡ old
   pub untouched : IsHonest (disk.tells old) → IsUnborn (disk.tells old).reads ⊎ IsRead (disk.tells old) (disk.tells new)

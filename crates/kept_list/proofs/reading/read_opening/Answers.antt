@@ -1,11 +1,6 @@
 use Rattle.std.proofs.Common.{◌≡◌, ◌⊎◌, IsTrue, List, ℕ, sym, subst}
-use Rattle.disk_model.proofs.Moments.{read_again}
-use Rattle.filing_journal.specs.Opening.{opening_disk}
-use Rattle.filing_journal.specs.Stands.{StandsFor}
 use Rattle.filing_journal.specs.declared.opening.OpenError.TheVariants.{NoMemory, DiskFault}
-use Rattle.kept_list.specs.Recovers.{payloads_of}
 use Rattle.kept_list.specs.Faulty.{IsFaultyAt}
-use Rattle.kept_list.proofs.Images.{recovers_from}
 use Rattle.kept_list.proofs.NoFault.{head_refusal, read_refusal}
 use Rattle.kept_list.proofs.Faults.{at_err}
 use Rattle.kept_list.proofs.reading.read_opening.Goals as goal

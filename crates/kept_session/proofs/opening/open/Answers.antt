@@ -12,6 +12,7 @@ returns-in-Err-clause-unopened g c = record {
   honest = c.in-Err.ensures.honest_err;
   unborn = c.in-Err.ensures.no_office;
   foreign = c.in-Err.ensures.foreign;
+  old = c.in-Err.ensures.old;
   damaged = c.in-Err.ensures.damaged;
   complete = c.in-Err.ensures.complete;
   unfiled = c.in-Err.ensures.unwritten;
