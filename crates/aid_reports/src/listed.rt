@@ -115,7 +115,7 @@ fn put_return_at(
     requires all { reverse filings.now ≡ office.now.history }
     requires before { rows.old.items ≡ return_rows_on (reverse (take index filings.now)) year }
     requires inside { index < length filings.now }
-    requires few { length filings.now ≤ 200000 }
+    requires few { length filings.now ≤ 1000000 }
     ensures { OnOk result (rows.new.items ≡ return_rows_on (reverse (take (index + 1) filings.now)) year) }
 {
     let Some(outcome) = office.outcome(index + 1) else {

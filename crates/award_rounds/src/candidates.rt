@@ -23,7 +23,7 @@ pub(crate) fn candidates(
     request: &RoundRequest,
 ) -> Result<Vec<Candidate>, AllocError>
     ensures candidates { IfOk result (λ cs. AreCandidates office.now.history request.now cs.items) }
-    ensures few { IfOk result (λ cs. length cs.items ≤ 200000) }
+    ensures few { IfOk result (λ cs. length cs.items ≤ 1000000) }
 {
     // The front tells that the history is legal.
     let _filings = office.front();

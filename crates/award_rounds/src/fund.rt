@@ -27,7 +27,7 @@ pub(crate) fn rest_of_fund(
 
 // Whole dollars less cents, rounded up, and not below 0.
 fn rest(amount: u32, cents: u64) -> u32
-    requires { cents ≤ 20000000000000 }
+    requires { cents ≤ 100000000000000 }
     ensures { result ≡ amount - (cents + 99) / 100 }
 {
     u64::from(amount).saturating_sub((cents + 99) / 100) as u32
@@ -36,7 +36,7 @@ fn rest(amount: u32, cents: u64) -> u32
 // The cents that students have of the fund. An `Err` is want of memory.
 fn granted(alloc: Global, office: &Office, request: &RoundRequest) -> Result<u64, AllocError>
     ensures value { IfOk result (λ cents. cents ≡ granted_on office.now.history request.now) }
-    ensures at_most { IfOk result (λ cents. cents ≤ 20000000000000) }
+    ensures at_most { IfOk result (λ cents. cents ≤ 100000000000000) }
 {
     // The front tells that the history is legal.
     let _filings = office.front();

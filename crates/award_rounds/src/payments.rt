@@ -18,11 +18,11 @@ pub(crate) fn payments(
     candidates: &[Candidate],
     awards: &[u32],
 ) -> Result<Vec<Filing>, AllocError>
-    requires few { length candidates.now ≤ 200000 }
+    requires few { length candidates.now ≤ 1000000 }
     requires count { length awards.now ≡ length candidates.now }
     requires within { AreWithinNeeds candidates.now awards.now }
     ensures payments { IfOk result (λ filings. ArePayments request.now request.now.number candidates.now awards.now filings.items) }
-    ensures few { IfOk result (λ filings. length filings.items ≤ 200000) }
+    ensures few { IfOk result (λ filings. length filings.items ≤ 1000000) }
 {
     let mut filings = Vec::new(alloc);
     let mut number = request.number;

@@ -3,7 +3,7 @@ use Rattle.std.specs.Prelude.{◌≡◌, ◌≤◌, ℕ}
 use Rattle.aid_types.specs.Ranges.{IsBetween}
 use Rattle.filing_rules.specs.declared.facts.Facts.{Facts}
 
--- cents that sums don't overflow on: far above what 200,000 filings can hold
+-- cents that sums don't overflow on: far above what 1,000,000 filings can hold
 abbrev pub IsSum : ℕ → Type 0
 IsSum cents = cents ≤ 1000000000000000
 

@@ -7,7 +7,7 @@ use Rattle.filing_rules.specs.Lines.{payment_here, year_limit}
 -- What a Pell payment of any amount asks: room in the office; the school, the term, an application and an origination on
 -- file; a student who is enrolled, whose index is below the ceiling, and who is awarded Pell; no Pell paid for a term of another school that shares a day.
 pub record MayBePaid (f : Facts) : Type 0 where
-  pub room : f.filings < 200000
+  pub room : f.filings < 1000000
   pub school : 0 < f.school_at
   pub term : 0 < f.term_at
   pub application : 0 < f.transaction

@@ -7,7 +7,7 @@ use Rattle.rule_lines.specs.declared.line.RuleLine.{RuleLine}
 
 -- 90: the office is full
 abbrev pub rule_90 : ℕ → RuleLine
-rule_90 filings = where_true 90 (nat_le 200000 filings) 200000 200000
+rule_90 filings = where_true 90 (nat_le 1000000 filings) 1000000 1000000
 
 -- 21: days out of order. A break's first day comes after the last day of the break before
 abbrev pub breaks_in_order : ℕ → List (ℕ × ℕ) → List RuleLine

@@ -9,7 +9,7 @@ use aid_types::{Refusal, School, Student, Year};
 use rule_lines::{RuleLine, first_broken, lacks, over, stands, where_true};
 
 /// The greatest number of filings that an office holds: the office's own.
-pub const MOST_FILINGS: u32 = 200_000;
+pub const MOST_FILINGS: u32 = 1_000_000;
 
 /// The office is full.
 pub(crate) fn rule_90(f: &Facts) -> RuleLine

@@ -304,11 +304,11 @@ pub year_unchanged : (past : List Filing) (f : Filing) → changes_none f.what �
 year_unchanged past f none legal s y = unchanged past f.key f.what none legal s y
 
 -- ---- what amounts there can be
-pub nets_most : (past : List Filing) (student year : ℕ) → IsLegal past → (p : ℕ) → slice_index (year_row past student year).nets p ≤ 20000000000000
+pub nets_most : (past : List Filing) (student year : ℕ) → IsLegal past → (p : ℕ) → slice_index (year_row past student year).nets p ≤ 100000000000000
 nets_most past student year legal p =
-    six-most (λ q. net past (in_year student year q)) 20000000000000 (λ q. omega (arith, paid-most past legal (in_year student year q))) p
+    six-most (λ q. net past (in_year student year q)) 100000000000000 (λ q. omega (arith, paid-most past legal (in_year student year q))) p
 
-pub main_most : (past : List Filing) (student year : ℕ) → IsLegal past → pell_main past student year ≤ 20000000000000
+pub main_most : (past : List Filing) (student year : ℕ) → IsLegal past → pell_main past student year ≤ 100000000000000
 main_most past student year legal = omega (arith, paid-most past legal (in_main_terms past student year 3))
 
 pub entry_sums : (past : List Filing) (f : Filing) (school student year term : ℕ) (e : Account) → IsLegal (f ∷ past) →

@@ -82,7 +82,7 @@ fn with_moved(
     before: &SchoolYearRow,
     moved: &Account,
 ) -> (StudentSchoolYear, SchoolYearRow)
-    requires before { before.now.net ≤ 20000000000000 }
+    requires before { before.now.net ≤ 100000000000000 }
     requires paid { EachIsCents moved.now.paid }
     requires taken { EachIsCents moved.now.taken }
     ensures name { result.0 ≡ record { student = student; school = school; year = year } }

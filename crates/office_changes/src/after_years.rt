@@ -92,8 +92,8 @@ fn moved_year<P: OnFile>(
     before: &YearRow,
     moved: &Account,
 ) -> YearRow
-    requires nets { (p : ℕ) → slice_index before.now.nets p ≤ 20000000000000 }
-    requires main { before.now.main ≤ 20000000000000 }
+    requires nets { (p : ℕ) → slice_index before.now.nets p ≤ 100000000000000 }
+    requires main { before.now.main ≤ 100000000000000 }
     requires paid { AreSums moved.now.paid }
     ensures { result ≡ year_moved before.now (the_term (P.history past.now) school year number) moved.now }
 {
@@ -107,7 +107,7 @@ fn moved_year<P: OnFile>(
 
 // The net Pell of the main terms with what moved in a term.
 fn moved_main(term: &Option<Term>, main: u64, moved: &Account) -> u64
-    requires main { main ≤ 20000000000000 }
+    requires main { main ≤ 100000000000000 }
     requires paid { AreSums moved.now.paid }
     ensures { result ≡ main_moved (is_extra term.now) main moved.now }
 {

@@ -129,6 +129,14 @@ impl Indexed {
         self.filings.as_slice()
     }
 
+    /// The filings alone, the oldest first. The rows that tell what is on file are let go. It takes no memory.
+    pub fn into_filings(self) -> Vec<Filing>
+        ensures { reverse result.items ≡ self.history }
+    {
+        let Indexed { filings, .. } = self;
+        filings
+    }
+
     /// Appends a filing that makes the history a legal one of one more, with what it is admitted with. It takes no memory,
     /// but one of the places of `reserve`. The rows of a student that it may change are each looked for once.
     pub fn admit(&mut self, filing: Filing, outcome: Outcome)

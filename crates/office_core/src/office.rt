@@ -72,7 +72,7 @@ impl Office {
     pub fn front(&self) -> u32
         ensures value { result ≡ length self.now.history }
         ensures legal { IsLegal self.now.history }
-        ensures few { result ≤ 200000 }
+        ensures few { result ≤ 1000000 }
 
         // No student stands above a limit.
         ensures within { IsWithinEveryLimit self.now.history }
@@ -86,6 +86,14 @@ impl Office {
         ensures { reverse result.now ≡ self.now.history }
     {
         self.indexed.filings()
+    }
+
+    /// The filings alone, the oldest first. It takes no memory.
+    pub fn into_filings(self) -> Vec<Filing>
+        ensures { reverse result.items ≡ self.history }
+    {
+        let Office { indexed } = self;
+        indexed.into_filings()
     }
 
     /// The filing at this position, counted from 1; `None` where there is no such position.

@@ -50,11 +50,11 @@ pub account-sums : (past : List Filing) (school student year term : ℕ) (a : Ac
 account-sums past school student year term a legal h =
     let cell = λ (p : ℕ). is_cell (cell_at school student year term p) in
     record {
-      paid = rw h.paid (six-sums (λ p. paid past (cell p)) 20000000000000 (λ p. paid-most past legal (cell p)) (omega arith));
-      taken = rw h.taken (six-sums (λ p. taken past (cell p)) 20000000000000 (λ p. taken-most past legal (cell p)) (omega arith));
-      owed = rw h.owed (six-sums (λ p. owed past (cell p)) 40000000000000 (λ p. owed-most past legal (cell p)) (omega arith));
-      repaid = rw h.repaid (six-sums (λ p. repaid past (cell p)) 20000000000000 (λ p. repaid-most past legal (cell p)) (omega arith));
-      after = rw h.after (six-sums (λ p. paid_after past (cell p)) 20000000000000 (λ p. after-most past legal (cell p)) (omega arith));
+      paid = rw h.paid (six-sums (λ p. paid past (cell p)) 100000000000000 (λ p. paid-most past legal (cell p)) (omega arith));
+      taken = rw h.taken (six-sums (λ p. taken past (cell p)) 100000000000000 (λ p. taken-most past legal (cell p)) (omega arith));
+      owed = rw h.owed (six-sums (λ p. owed past (cell p)) 200000000000000 (λ p. owed-most past legal (cell p)) (omega arith));
+      repaid = rw h.repaid (six-sums (λ p. repaid past (cell p)) 100000000000000 (λ p. repaid-most past legal (cell p)) (omega arith));
+      after = rw h.after (six-sums (λ p. paid_after past (cell p)) 100000000000000 (λ p. after-most past legal (cell p)) (omega arith));
       after_all = omega (arith, h.after_all, after-most past legal (in_term school student year term));
       post = omega (arith, h.post, post-most past legal (in_term school student year term));
     }
@@ -66,11 +66,11 @@ entry-sums past f school student year term e legal k =
     let cell = λ (p : ℕ). is_cell (cell_at school student year term p) in
     let all = in_term school student year term in
     record {
-      paid = rw k.paid (six-sums (λ p. moved (cell p) (payments_in f.key f.what)) 20000000000000 (λ p. part (cell p) (payments_in f.key f.what) (paid past (cell p)) (paid-most (f ∷ past) legal (cell p))) (omega arith));
-      taken = rw k.taken (six-sums (λ p. moved (cell p) (takings_in past (net_at past) f.key f.what)) 20000000000000 (λ p. part (cell p) (takings_in past (net_at past) f.key f.what) (taken past (cell p)) (taken-most (f ∷ past) legal (cell p))) (omega arith));
-      owed = rw k.owed (six-sums (λ p. moved (cell p) (owings_in past f.key f.what)) 40000000000000 (λ p. part (cell p) (owings_in past f.key f.what) (owed past (cell p)) (owed-most (f ∷ past) legal (cell p))) (omega arith));
-      repaid = rw k.repaid (six-sums (λ p. moved (cell p) (repayments_in f.key f.what)) 20000000000000 (λ p. part (cell p) (repayments_in f.key f.what) (repaid past (cell p)) (repaid-most (f ∷ past) legal (cell p))) (omega arith));
-      after = rw k.after (six-sums (λ p. moved (cell p) (payments_after past f.key f.what)) 20000000000000 (λ p. part (cell p) (payments_after past f.key f.what) (paid_after past (cell p)) (after-most (f ∷ past) legal (cell p))) (omega arith));
+      paid = rw k.paid (six-sums (λ p. moved (cell p) (payments_in f.key f.what)) 100000000000000 (λ p. part (cell p) (payments_in f.key f.what) (paid past (cell p)) (paid-most (f ∷ past) legal (cell p))) (omega arith));
+      taken = rw k.taken (six-sums (λ p. moved (cell p) (takings_in past (net_at past) f.key f.what)) 100000000000000 (λ p. part (cell p) (takings_in past (net_at past) f.key f.what) (taken past (cell p)) (taken-most (f ∷ past) legal (cell p))) (omega arith));
+      owed = rw k.owed (six-sums (λ p. moved (cell p) (owings_in past f.key f.what)) 200000000000000 (λ p. part (cell p) (owings_in past f.key f.what) (owed past (cell p)) (owed-most (f ∷ past) legal (cell p))) (omega arith));
+      repaid = rw k.repaid (six-sums (λ p. moved (cell p) (repayments_in f.key f.what)) 100000000000000 (λ p. part (cell p) (repayments_in f.key f.what) (repaid past (cell p)) (repaid-most (f ∷ past) legal (cell p))) (omega arith));
+      after = rw k.after (six-sums (λ p. moved (cell p) (payments_after past f.key f.what)) 100000000000000 (λ p. part (cell p) (payments_after past f.key f.what) (paid_after past (cell p)) (after-most (f ∷ past) legal (cell p))) (omega arith));
       after_all = let o = part all (payments_after past f.key f.what) (paid_after past all) (after-most (f ∷ past) legal all) in omega (arith, k.after_all);
       post = let o = part all (posts_in past f.key f.what) (post past all) (post-most (f ∷ past) legal all) in omega (arith, k.post);
     }

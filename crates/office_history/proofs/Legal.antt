@@ -63,28 +63,28 @@ older_legal [] past h = h
 older_legal (f ∷ newer) past h = older_legal newer past h.0
 
 -- the office is not full where a filing breaks no rule
-pub room_left : (past : List Filing) (f : Filing) → breaks past f ≡ None → length past < 200000
+pub room_left : (past : List Filing) (f : Filing) → breaks past f ≡ None → length past < 1000000
 room_left past f h = by (f.what) h
   where
-    first : (b : Bool) (n : ℕ) (r : Refusal) (rest : Option Refusal) → nat_le 200000 n ≡ b → cond b (Some r) rest ≡ None → n < 200000
+    first : (b : Bool) (n : ℕ) (r : Refusal) (rest : Option Refusal) → nat_le 1000000 n ≡ b → cond b (Some r) rest ≡ None → n < 1000000
     first true n r rest e h = cc
     first false n r rest e h = grind (arith, nat_tests)
 
-    by : (what : What) → first_broken (rules_of past f.key what) ≡ None → length past < 200000
-    by (BookFiled x) h = first (nat_le 200000 (length past)) (length past) _ _ refl h
-    by (School x) h = first (nat_le 200000 (length past)) (length past) _ _ refl h
-    by (Calendar x) h = first (nat_le 200000 (length past)) (length past) _ _ refl h
-    by (Prior x) h = first (nat_le 200000 (length past)) (length past) _ _ refl h
-    by (Apply x) h = first (nat_le 200000 (length past)) (length past) _ _ refl h
-    by (Enrol x) h = first (nat_le 200000 (length past)) (length past) _ _ refl h
-    by (Originate x) h = first (nat_le 200000 (length past)) (length past) _ _ refl h
-    by (Pay x) h = first (nat_le 200000 (length past)) (length past) _ _ refl h
-    by (Withdraw x) h = first (nat_le 200000 (length past)) (length past) _ _ refl h
-    by (Repay x) h = first (nat_le 200000 (length past)) (length past) _ _ refl h
-    by (Adjust x) h = first (nat_le 200000 (length past)) (length past) _ _ refl h
+    by : (what : What) → first_broken (rules_of past f.key what) ≡ None → length past < 1000000
+    by (BookFiled x) h = first (nat_le 1000000 (length past)) (length past) _ _ refl h
+    by (School x) h = first (nat_le 1000000 (length past)) (length past) _ _ refl h
+    by (Calendar x) h = first (nat_le 1000000 (length past)) (length past) _ _ refl h
+    by (Prior x) h = first (nat_le 1000000 (length past)) (length past) _ _ refl h
+    by (Apply x) h = first (nat_le 1000000 (length past)) (length past) _ _ refl h
+    by (Enrol x) h = first (nat_le 1000000 (length past)) (length past) _ _ refl h
+    by (Originate x) h = first (nat_le 1000000 (length past)) (length past) _ _ refl h
+    by (Pay x) h = first (nat_le 1000000 (length past)) (length past) _ _ refl h
+    by (Withdraw x) h = first (nat_le 1000000 (length past)) (length past) _ _ refl h
+    by (Repay x) h = first (nat_le 1000000 (length past)) (length past) _ _ refl h
+    by (Adjust x) h = first (nat_le 1000000 (length past)) (length past) _ _ refl h
 
--- a legal history has at most 200,000 filings
-pub legal_is_short : (past : List Filing) → IsLegal past → length past ≤ 200000
+-- a legal history has at most 1,000,000 filings
+pub legal_is_short : (past : List Filing) → IsLegal past → length past ≤ 1000000
 legal_is_short [] h = omega arith
 legal_is_short (f ∷ past) h = omega (arith, room_left past f h.2)
 

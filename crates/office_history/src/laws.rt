@@ -36,10 +36,10 @@ pub fn complete(history: &[Filing], filing: &Filing)
     let _ = filing;
 }
 
-/// A legal list has at most 200,000 filings.
+/// A legal list has at most 1,000,000 filings.
 pub fn legal_length(history: &[Filing])
     requires { IsLegal (reverse history.now) }
-    ensures { length history.now ≤ 200000 }
+    ensures { length history.now ≤ 1000000 }
 {
     let _ = history;
 }

@@ -1,4 +1,4 @@
-//! A full office: it holds 200,000 filings, and refuses the next by rule 90.
+//! A full office: it holds 1,000,000 filings, and refuses the next by rule 90.
 ghost use Rattle.std.specs.Prelude.{◌≤◌};
 
 use aid_filings::{Filing, Outcome, PriorFacts, Verdict, What};
@@ -8,7 +8,7 @@ use std::alloc::AllocError;
 use std::test::Fail;
 
 /// How many filings an office holds.
-const FILINGS: u32 = 200_000;
+const FILINGS: u32 = 1_000_000;
 
 // Judges a filing, and admits it where the office would.
 fn file(office: &mut Office, filing: Filing) -> Result<Verdict, AllocError> {
@@ -31,8 +31,8 @@ fn a_full_office(rt: HostRuntime) -> Result<(), Fail> {
     assert_eq!(rt; office.front(), FILINGS);
     let full = Refusal {
         rule: 90,
-        kept: 200_000,
-        bound: 200_000,
+        kept: 1_000_000,
+        bound: 1_000_000,
     };
     assert_eq!(rt; office.judge(&prior(FILINGS)), Verdict::Refused(full));
     let first = Verdict::Again {
@@ -45,7 +45,7 @@ fn a_full_office(rt: HostRuntime) -> Result<(), Fail> {
 
 // The use of a student of their own before this office, of 1 unit, under the next number of the desk.
 fn prior(number: u32) -> Filing
-    requires { number ≤ 200000 }
+    requires { number ≤ 1000000 }
 {
     Filing {
         key: Key {

@@ -100,7 +100,7 @@ fn with_calendar(
     calendar: &CalendarFacts,
     row: CalendarRow,
 ) -> CalendarRow
-    requires { row.main_terms ≤ 200000 }
+    requires { row.main_terms ≤ 1000000 }
     ensures term_at { result.term_at ≡ cond (is_some (term_filed calendar.now.year calendar.now.term filing.now.what)) at row.term_at }
     ensures overlap_at { result.overlap_at ≡ cond (is_overlapping (term_of calendar.now) filing.now.what) at row.overlap_at }
     ensures main_terms { result.main_terms ≡ row.main_terms + cond (is_main_term calendar.now.year filing.now.what) 1 0 }

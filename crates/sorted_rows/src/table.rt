@@ -67,7 +67,7 @@ impl<K: Ord + Copy, V: Copy> Table<K, V> {
     }
 
     /// The value of a key. Each look at a row is a step: ten at most in the tail, and elsewhere one for each binary digit of
-    /// the number of rows. So among 200,000 rows a value is found in 28 looks. They are never more than two for each binary
+    /// the number of rows. So among 1,000,000 rows a value is found in 30 looks. They are never more than two for each binary
     /// digit of the number of rows, and one less where there is a row. They are one at least where the key is found, and where
     /// it isn't, about one for each binary digit.
     pub fn get<L: Ledger>(&self, key: &K, steps: &mut Steps<L>) -> Option<V>

@@ -13,7 +13,7 @@ use Rattle.office_changes.proofs.after_schools.school_year_after.Goals as goal
 
 -- the net of the row before is small
 before_net : (past : List Filing) (name : StudentSchoolYear) (before : SchoolYearRow) → IsLegal past →
-    before ≡ school_year_row past name.school name.student name.year → before.net ≤ 20000000000000
+    before ≡ school_year_row past name.school name.student name.year → before.net ≤ 100000000000000
 before_net past name before legal is =
     let same = ap (λ (row : SchoolYearRow). row.net) is in
     omega (arith, same, paid-most past legal (at_school_in_year name.school name.student name.year))

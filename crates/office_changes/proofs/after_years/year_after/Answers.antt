@@ -15,12 +15,12 @@ use Rattle.std.specs.Prelude.{slice_index}
 
 -- the sums of the row before are small
 before_nets : (past : List Filing) (student year : ℕ) (before : YearRow) → IsLegal past → before ≡ year_row past student year →
-    (p : ℕ) → slice_index before.nets p ≤ 20000000000000
+    (p : ℕ) → slice_index before.nets p ≤ 100000000000000
 before_nets past student year before legal is p =
     let same = ap (λ (r : YearRow). slice_index r.nets p) is in
     omega (arith, same, nets_most past student year legal p)
 
-before_main : (past : List Filing) (student year : ℕ) (before : YearRow) → IsLegal past → before ≡ year_row past student year → before.main ≤ 20000000000000
+before_main : (past : List Filing) (student year : ℕ) (before : YearRow) → IsLegal past → before ≡ year_row past student year → before.main ≤ 100000000000000
 before_main past student year before legal is =
     let same = ap (λ (r : YearRow). r.main) is in
     omega (arith, same, main_most past student year legal)
