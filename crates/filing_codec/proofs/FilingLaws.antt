@@ -43,5 +43,5 @@ is_alone filing other rest are are_other e =
     let both = rows_alone (kind_of filing.what) (kind_of other.what) (numbers_of filing) (numbers_of other) rest are are_other e in
     record { same = same_filing filing other both.kinds both.numbers; nothing = both.nothing }
 
-pub length-spelling : (filing : Filing) → IsFiling filing → length (spelling filing) ≤ 8192
+pub length-spelling : (filing : Filing) → IsFiling filing → length (spelling filing) ≤ 8155
 length-spelling filing are = length-row_bytes (kind_of filing.what) (numbers_of filing) are

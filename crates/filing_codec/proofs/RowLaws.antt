@@ -109,5 +109,5 @@ rows_alone k l xs ys rest p q e =
     record { kinds = kind; numbers = both.same; nothing = both.nothing }
 
 -- ---- how long they are
-pub length-row_bytes : (kind : Kind) (zs : List ℤ) → AreNumbers (slots_of_kind kind) [] zs → length (row_bytes kind zs) ≤ 8192
+pub length-row_bytes : (kind : Kind) (zs : List ℤ) → AreNumbers (slots_of_kind kind) [] zs → length (row_bytes kind zs) ≤ 8155
 length-row_bytes kind zs are = omega (arith, numbers_few (slots_of_kind kind) zs, few_numbers kind zs are)

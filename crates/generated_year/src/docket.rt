@@ -9,6 +9,7 @@ use aid_filings::{Amount, Ask, Filing, Verdict, What};
 use aid_types::Program;
 use filing_journal::Header;
 use kept_list::{Docket, Judged, TakeFault};
+use stamped_list::Stampable;
 use std::alloc::{AllocError, Global};
 
 /// The docket of an office, which takes the asks of a generated year in place of its own.
@@ -181,4 +182,15 @@ impl<R: Docket<Entry = Filing, Ask = Ask, Verdict = Verdict>> Docket for Generat
     fn take(alloc: Global, bytes: &[u8]) -> Result<Filing, TakeFault> {
         R::take(alloc, bytes)
     }
+}
+
+impl<R: Stampable + Docket<Entry = Filing, Ask = Ask, Verdict = Verdict>> Stampable
+    for GeneratedOffice<R> {
+    ghost stamped = { R.stamped };
+
+    fn stamped_header() -> Header {
+        R::stamped_header()
+    }
+
+    ghost short = { R.short };
 }

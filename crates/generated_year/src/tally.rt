@@ -5,8 +5,7 @@ ghost use Rattle.aid_num.specs.Whole.{natural_text};
 ghost use Rattle.generated_year.specs.Counted.{accepted_by as accepted_by_of, accepts as accepts_of, count_line, paid_by as paid_by_of, refused_by as refused_by_of, refuses as refuses_of, returned_by as returned_by_of, sum_line};
 
 use crate::YearVerdict;
-use crate::docket::GeneratedOffice;
-use aid_filings::{Ask, Filing, Outcome, Verdict};
+use aid_filings::{Outcome, Verdict};
 use itoa::Buffer;
 use kept_list::Docket;
 use kept_session::Tally;
@@ -130,8 +129,7 @@ fn put_sum(name: &[u8], cents: u128, out: &mut Vec<u8>) -> Result<(), AllocError
     out.extend_from_slice(b"\n")
 }
 
-impl<R: Docket<Entry = Filing, Ask = Ask, Verdict = Verdict>> Tally<GeneratedOffice<R>>
-    for YearTally {
+impl<R: Docket<Verdict = YearVerdict>> Tally<R> for YearTally {
     ghost use Rattle.generated_year.specs.Counted.{year_counted, year_ending, year_room};
 
     ghost counted = { year_counted };

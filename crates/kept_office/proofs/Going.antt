@@ -1,6 +1,6 @@
 -- How a turn of an office goes, as a lock sees it.
 use Rattle.std.proofs.Common.{◌≡◌, ◌⊎◌, inl, inr, ℕ, suc, ◌+◌, ◌≤◌, ◌-◌, ◌^◌, Bool, true, false, IsTrue, List, ◌∷◌, Option, Some, None, length, refl, sym, ap, ◌∙◌, arith}
-use Rattle.std.specs.Prelude.{IsSome}
+use Rattle.std.specs.Prelude.{IsSome, option_map}
 use Rattle.aid_edges.specs.Faults.{Rose}
 use Rattle.aid_filings.specs.declared.filing.Filing.{Filing}
 use Rattle.aid_filings.specs.declared.reply.Ask.{Ask}
@@ -11,7 +11,10 @@ use Rattle.aid_filings.specs.declared.reply.Reply.TheVariants.{Accepted, Again, 
 use Rattle.aid_filings.specs.declared.reply.Verdict.TheVariants as verdict
 use Rattle.kept_list.specs.Turns.{IsUnsettled}
 use Rattle.kept_office.specs.Turned.{says_of, stand_of}
-use Rattle.kept_office.specs.Turns.{IsAccepted, IsLeftUndecided, Turns, asked, is_fault, settled}
+use Rattle.kept_office.specs.Turns.{IsAccepted, IsLeftUndecided, Turns, asked, filing_asked, is_fault, settled}
+use Rattle.stamped_list.specs.Entries.{entries, with_stamp}
+use Rattle.stamped_list.specs.declared.entry.StampedAsk.{StampedAsk}
+use Rattle.stamped_list.specs.declared.entry.StampedEntry.{StampedEntry}
 use Rattle.office_history.specs.Answer.{answer_to, is_admit}
 use Rattle.office_lock.specs.Turning.{Goes, Says, Admitted, Failed, Nothing, RoseBy, Undecided, admits, fails, faults_in, leaves, settled_list, settles, stays, stays_pending}
 use Rattle.office_lock.specs.declared.turned.Stand.{Stand}
@@ -20,41 +23,45 @@ one : (old new : ℕ) → Rose old new → RoseBy 1 old new
 one old new (inl lt) = inl (omega (arith, lt))
 one old new (inr last) = inr (omega (arith, last))
 
-module _ (history : List Filing) (was : Option Filing) (faults : ℕ) (honest : Bool) (history' : List Filing) (pending' : Option Filing) (faults' : ℕ) (honest' : Bool) (ask : Ask) where
-  abbrev old : Stand Filing
+module _ (history : List (StampedEntry Filing)) (was : Option (StampedEntry Filing)) (faults : ℕ) (honest : Bool) (history' : List (StampedEntry Filing)) (pending' : Option (StampedEntry Filing)) (faults' : ℕ) (honest' : Bool) (ask : StampedAsk Ask) where
+  abbrev old : Stand (StampedEntry Filing)
   old = stand_of history was faults honest
 
-  abbrev new : Stand Filing
+  -- what such an ask, with this stamp, is to file
+  abbrev asked_as : Ask → Option (StampedEntry Filing)
+  asked_as a = option_map (with_stamp ask.stamp) (filing_asked a)
+
+  abbrev new : Stand (StampedEntry Filing)
   new = stand_of history' pending' faults' honest'
 
   -- the lock's words for a settled list say the same
   same_settled : settled was history ≡ settled_list old
   same_settled = go was
     where
-      go : (o : Option Filing) → settled o history ≡ settled_list (stand_of history o faults honest)
+      go : (o : Option (StampedEntry Filing)) → settled o history ≡ settled_list (stand_of history o faults honest)
       go None = refl
       go (Some f) = refl
 
   accepted : (position front : ℕ) (outcome : Outcome) → IsAccepted (settled was history) ask position front outcome history' pending' → Goes (asked ask) old (Admitted position) new
-  accepted position front outcome told = go ask told.answer told.list
+  accepted position front outcome told = go ask.ask told.answer told.list
     where
-      go : (a : Ask) → answer_to (settled was history) a ≡ verdict.Admit outcome → history' ≡ settled (asked a) (settled was history) → Goes (asked a) old (Admitted position) new
-      go (File f) is list = admits f refl (list ∙ ap (λ l. f ∷ l) same_settled) told.decided (ap Admitted (omega (arith, told.next, told.seen, ap length list)))
+      go : (a : Ask) → answer_to (entries (settled was history)) a ≡ verdict.Admit outcome → history' ≡ settled (asked_as a) (settled was history) → Goes (asked_as a) old (Admitted position) new
+      go (File f) is list = admits (with_stamp ask.stamp f) refl (list ∙ ap (λ l. with_stamp ask.stamp f ∷ l) same_settled) told.decided (ap Admitted (omega (arith, told.next, told.seen, ap length list)))
       go (Quote school student year term) is list = absurd (let no : ⊥ = cc in no)
       go (StandingAsked student year) is list = absurd (let no : ⊥ = cc in no)
 
   still : (position : ℕ) → IsUnsettled history was position history' pending' → Goes (asked ask) old (Undecided position) new
   still position told = go was refl told.some told.undecided
     where
-      go : (o : Option Filing) → was ≡ o → IsSome o → pending' ≡ was → Goes (asked ask) old (Undecided position) new
+      go : (o : Option (StampedEntry Filing)) → was ≡ o → IsSome o → pending' ≡ was → Goes (asked ask) old (Undecided position) new
       go None is some same = absurd (let no : ⊥ = cc in no)
       go (Some f) is some same = stays_pending f is told.list (same ∙ is) (ap Undecided (told.next ∙ ap (λ l. length l + 1) (sym told.list)))
 
   left : (position : ℕ) → IsLeftUndecided (settled was history) ask position history' pending' → Goes (asked ask) old (Undecided position) new
-  left position told = go ask told.admitted told.undecided
+  left position told = go ask.ask told.admitted told.undecided
     where
-      go : (a : Ask) → IsTrue (is_admit (answer_to (settled was history) a)) → pending' ≡ asked a → Goes (asked a) old (Undecided position) new
-      go (File f) is same = leaves f refl (told.list ∙ same_settled) same (ap Undecided (told.next ∙ ap (λ l. length l + 1) (sym told.list)))
+      go : (a : Ask) → IsTrue (is_admit (answer_to (entries (settled was history)) a)) → pending' ≡ asked_as a → Goes (asked_as a) old (Undecided position) new
+      go (File f) is same = leaves (with_stamp ask.stamp f) refl (told.list ∙ same_settled) same (ap Undecided (told.next ∙ ap (λ l. length l + 1) (sym told.list)))
       go (Quote school student year term) is same = absurd (let no : ⊥ = cc in no)
       go (StandingAsked student year) is same = absurd (let no : ⊥ = cc in no)
 

@@ -5,17 +5,18 @@ use Rattle.disk_model.specs.declared.disk.Disk.{Ghosts}
 use Rattle.kept_list.specs.Kept as list
 use Rattle.kept_office.specs.Scheme.{office_scheme}
 use Rattle.kept_office.specs.declared.kept.KeptOffice.{KeptOffice}
+use Rattle.stamped_list.specs.declared.entry.StampedEntry.{StampedEntry}
 
 -- its disk
 abbrev pub kept_disk : {D : Type 0} → KeptOffice D → D
 kept_disk kept = kept.list.disk
 
 -- its history, the newest filing first
-abbrev pub kept_history : {D : Type 0} → KeptOffice D → List Filing
+abbrev pub kept_history : {D : Type 0} → KeptOffice D → List (StampedEntry Filing)
 kept_history kept = kept.list.history
 
 -- the filing that is undecided, where one is
-abbrev pub kept_pending : {D : Type 0} → KeptOffice D → Option Filing
+abbrev pub kept_pending : {D : Type 0} → KeptOffice D → Option (StampedEntry Filing)
 kept_pending kept = kept.list.pending
 
 -- how many turns it takes without asking for memory

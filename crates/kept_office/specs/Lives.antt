@@ -5,20 +5,21 @@ use Rattle.disk_model.specs.declared.disk.Disk.{Ghosts}
 use Rattle.kept_list.specs.Lives as list
 use Rattle.kept_office.specs.Scheme.{office_scheme}
 use Rattle.kept_office.specs.Turns.{office_judging}
+use Rattle.stamped_list.specs.declared.entry.StampedEntry.{StampedEntry}
 
 -- what became of a filing
 abbrev pub Fate : Type 0
-Fate = list.Fate Filing
+Fate = list.Fate (StampedEntry Filing)
 
 -- What may stand of filings with these fates, the newest first: each admitted one, each uncertain one or not, in the
 -- order in which they were filed.
-abbrev pub MayHave : List Fate → List Filing → Type 0
+abbrev pub MayHave : List Fate → List (StampedEntry Filing) → Type 0
 MayHave = list.MayHave
 
 -- where a life stands: a file that a crash left, or an open office
 abbrev pub Place : Type 0 → Type 0
-Place D = list.Place D Filing
+Place D = list.Place D (StampedEntry Filing)
 
 -- a life of an office that had this history when it began
-abbrev pub Life : {D : Type 0} → Ghosts D → List Filing → List Fate → Place D → Type 0
+abbrev pub Life : {D : Type 0} → Ghosts D → List (StampedEntry Filing) → List Fate → Place D → Type 0
 Life disk = list.Life disk office_scheme office_judging

@@ -5,16 +5,16 @@ use Rattle.aid_filings.specs.declared.filing.Filing.{Filing}
 use Rattle.aid_filings.specs.declared.reply.Ask.{Ask}
 use Rattle.aid_filings.specs.declared.reply.Ask.TheVariants.{File, Quote, Standing}
 use Rattle.office_history.specs.Answer.{answer_to, is_admit}
-use Rattle.kept_office.specs.Turns.{added, asked}
+use Rattle.kept_office.specs.Turns.{filing_added, filing_asked}
 
-pub own_added : (past : List Filing) (ask : Ask) (filing : Filing) → added past ask ≡ Some filing → asked ask ≡ Some filing
+pub own_added : (past : List Filing) (ask : Ask) (filing : Filing) → filing_added past ask ≡ Some filing → filing_asked ask ≡ Some filing
 own_added past ask filing is = go (is_admit (answer_to past ask)) is
   where
-    go : (b : Bool) → (if b then asked ask else None) ≡ Some filing → asked ask ≡ Some filing
+    go : (b : Bool) → (if b then filing_asked ask else None) ≡ Some filing → filing_asked ask ≡ Some filing
     go true same = same
     go false same = absurd (let bad : ⊥ = cc in bad)
 
-pub adds_added : (past : List Filing) (ask : Ask) → is_admit (answer_to past ask) ≡ is_some (added past ask)
+pub adds_added : (past : List Filing) (ask : Ask) → is_admit (answer_to past ask) ≡ is_some (filing_added past ask)
 adds_added past (File filing) = go (is_admit (answer_to past (File filing)))
   where
     go : (b : Bool) → b ≡ is_some (if b then Some filing else None)

@@ -3,11 +3,12 @@ use Rattle.std.specs.Prelude.{ℕ, List}
 use Rattle.aid_filings.specs.declared.filing.Filing.{Filing}
 use Rattle.kept_list.specs.Recovers as list
 use Rattle.kept_office.specs.Scheme.{office_scheme}
+use Rattle.stamped_list.specs.declared.entry.StampedEntry.{StampedEntry}
 
 -- the file stands for the spellings of this history, and the history is legal
-abbrev pub Recovers : List ℕ → List Filing → Type 0
+abbrev pub Recovers : List ℕ → List (StampedEntry Filing) → Type 0
 Recovers = list.Recovers office_scheme
 
 -- the file recovers one history or the other
-abbrev pub RecoversEither : List Filing → List Filing → List ℕ → Type 0
+abbrev pub RecoversEither : List (StampedEntry Filing) → List (StampedEntry Filing) → List ℕ → Type 0
 RecoversEither = list.RecoversEither office_scheme

@@ -7,9 +7,11 @@ use Rattle.aid_filings.specs.declared.reply.Reply.TheVariants as reply
 use Rattle.kept_office.specs.Turns.{Turns}
 use Rattle.office_lock.specs.Turning.{Says, Admitted, Undecided, Failed, Nothing}
 use Rattle.office_lock.specs.declared.turned.Stand.{Stand}
+use Rattle.stamped_list.specs.declared.entry.StampedAsk.{StampedAsk}
+use Rattle.stamped_list.specs.declared.entry.StampedEntry.{StampedEntry}
 
 -- how it stands: its history, the filing that is undecided, the faults of its disk, and whether the disk is honest
-abbrev pub stand_of : List Filing → Option Filing → ℕ → Bool → Stand Filing
+abbrev pub stand_of : List (StampedEntry Filing) → Option (StampedEntry Filing) → ℕ → Bool → Stand (StampedEntry Filing)
 stand_of history pending faults honest = record { list = history; pending = pending; faults = faults; fixed = honest }
 
 -- what a reply says to the lock
@@ -24,5 +26,5 @@ says_of (reply.DiskFault None) = Failed
 says_of reply.NoMemory = Nothing
 
 -- the reply is that of one turn of the office
-abbrev pub IsTurn : Stand Filing → Ask → Reply → Stand Filing → Type 0
+abbrev pub IsTurn : Stand (StampedEntry Filing) → StampedAsk Ask → Reply → Stand (StampedEntry Filing) → Type 0
 IsTurn old ask reply new = Turns old.list old.pending ask reply new.list new.pending

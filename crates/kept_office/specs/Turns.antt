@@ -1,5 +1,5 @@
 -- What a turn of an office makes of an ask.
-use Rattle.std.specs.Prelude.{◌≡◌, ◌⊎◌, ◌+◌, ◌<◌, ◌^◌, ℕ, Bool, true, false, IsTrue, List, length, Option, Some, None, if◌then◌else◌}
+use Rattle.std.specs.Prelude.{◌≡◌, ◌⊎◌, ◌+◌, ◌<◌, ◌^◌, ℕ, Bool, true, false, IsTrue, List, length, Option, Some, None, option_map, if◌then◌else◌}
 use Rattle.aid_filings.specs.declared.filing.Filing.{Filing}
 use Rattle.aid_filings.specs.declared.reply.Ask.{Ask}
 use Rattle.aid_filings.specs.declared.reply.Ask.TheVariants.{File}
@@ -16,80 +16,92 @@ use Rattle.kept_list.specs.declared.reply.ListReply.TheVariants as answer
 use Rattle.kept_list.specs.Turns.{with_entry, IsUnsettled, IsUnchanged}
 use Rattle.office_history.specs.Answer.{answer_to, is_admit}
 use Rattle.kept_office.specs.Recovers.{Recovers}
+use Rattle.stamped_list.specs.Entries.{entries, with_stamp}
+use Rattle.stamped_list.specs.Stamped.{stamped_judging}
+use Rattle.stamped_list.specs.declared.entry.StampedAsk.{StampedAsk}
+use Rattle.stamped_list.specs.declared.entry.StampedEntry.{StampedEntry}
 
 -- the history once an undecided filing is settled: it is admitted
-abbrev pub settled : Option Filing → List Filing → List Filing
+abbrev pub settled : Option (StampedEntry Filing) → List (StampedEntry Filing) → List (StampedEntry Filing)
 settled = with_entry
 
--- the filing that is to be filed
-abbrev pub asked : Ask → Option Filing
-asked (File filing) = Some filing
-asked _ = None
+-- the filing that is to be filed, without its stamp
+abbrev pub filing_asked : Ask → Option Filing
+filing_asked (File filing) = Some filing
+filing_asked _ = None
 
 -- the filing that an ask adds to the history: that which is to be filed, where it is admitted
-abbrev pub added : List Filing → Ask → Option Filing
-added past ask = if is_admit (answer_to past ask) then asked ask else None
+abbrev pub filing_added : List Filing → Ask → Option Filing
+filing_added past ask = if is_admit (answer_to past ask) then filing_asked ask else None
 
--- what an office makes of an ask
-abbrev pub office_judging : Judging Filing Ask Verdict
-office_judging = record { answer = answer_to; added = added }
+-- what an office makes of an ask, stamps apart
+abbrev pub filing_judging : Judging Filing Ask Verdict
+filing_judging = record { answer = answer_to; added = filing_added }
+
+-- what an office makes of an ask: stamps are no part of an answer, and what is added has that of its ask
+abbrev pub office_judging : Judging (StampedEntry Filing) (StampedAsk Ask) Verdict
+office_judging = stamped_judging filing_judging
+
+-- the filing that is to be filed
+abbrev pub asked : StampedAsk Ask → Option (StampedEntry Filing)
+asked ask = option_map (with_stamp ask.stamp) (filing_asked ask.ask)
 
 -- the history with the filing of an ask
-abbrev pub with_asked : Ask → List Filing → List Filing
+abbrev pub with_asked : StampedAsk Ask → List (StampedEntry Filing) → List (StampedEntry Filing)
 with_asked ask past = settled (asked ask) past
 
 -- the ask's filing is admitted, at the place after those before it
-pub record IsAccepted (past : List Filing) (ask : Ask) (position front : ℕ) (outcome : Outcome) (history : List Filing) (pending : Option Filing) : Type 0 where
-  pub answer : answer_to past ask ≡ verdict.Admit outcome
+pub record IsAccepted (past : List (StampedEntry Filing)) (ask : StampedAsk Ask) (position front : ℕ) (outcome : Outcome) (history : List (StampedEntry Filing)) (pending : Option (StampedEntry Filing)) : Type 0 where
+  pub answer : answer_to (entries past) ask.ask ≡ verdict.Admit outcome
   pub seen : front ≡ length past
   pub next : position ≡ front + 1
   pub list : history ≡ with_asked ask past
   pub decided : pending ≡ None
 
 -- the ask's filing stands already; nothing changes
-pub record IsAgain (past : List Filing) (ask : Ask) (position front : ℕ) (outcome : Outcome) (history : List Filing) (pending : Option Filing) : Type 0 where
-  pub answer : answer_to past ask ≡ verdict.Again position outcome
+pub record IsAgain (past : List (StampedEntry Filing)) (ask : StampedAsk Ask) (position front : ℕ) (outcome : Outcome) (history : List (StampedEntry Filing)) (pending : Option (StampedEntry Filing)) : Type 0 where
+  pub answer : answer_to (entries past) ask.ask ≡ verdict.Again position outcome
   pub seen : front ≡ length past
   pub list : history ≡ past
   pub decided : pending ≡ None
 
 -- the ask's filing is refused; nothing changes
-pub record IsRefused (past : List Filing) (ask : Ask) (refusal : Refusal) (front : ℕ) (history : List Filing) (pending : Option Filing) : Type 0 where
-  pub answer : answer_to past ask ≡ verdict.Refused refusal
+pub record IsRefused (past : List (StampedEntry Filing)) (ask : StampedAsk Ask) (refusal : Refusal) (front : ℕ) (history : List (StampedEntry Filing)) (pending : Option (StampedEntry Filing)) : Type 0 where
+  pub answer : answer_to (entries past) ask.ask ≡ verdict.Refused refusal
   pub seen : front ≡ length past
   pub list : history ≡ past
   pub decided : pending ≡ None
 
 -- the ask is answered by a quote; nothing changes
-pub record IsQuoted (past : List Filing) (ask : Ask) (cents front : ℕ) (history : List Filing) (pending : Option Filing) : Type 0 where
-  pub answer : answer_to past ask ≡ verdict.Quoted cents
+pub record IsQuoted (past : List (StampedEntry Filing)) (ask : StampedAsk Ask) (cents front : ℕ) (history : List (StampedEntry Filing)) (pending : Option (StampedEntry Filing)) : Type 0 where
+  pub answer : answer_to (entries past) ask.ask ≡ verdict.Quoted cents
   pub seen : front ≡ length past
   pub list : history ≡ past
   pub decided : pending ≡ None
 
 -- the ask is answered by a standing; nothing changes
-pub record IsStanding (past : List Filing) (ask : Ask) (row : StandingRow) (front : ℕ) (history : List Filing) (pending : Option Filing) : Type 0 where
-  pub answer : answer_to past ask ≡ verdict.Standing row
+pub record IsStanding (past : List (StampedEntry Filing)) (ask : StampedAsk Ask) (row : StandingRow) (front : ℕ) (history : List (StampedEntry Filing)) (pending : Option (StampedEntry Filing)) : Type 0 where
+  pub answer : answer_to (entries past) ask.ask ≡ verdict.Standing row
   pub seen : front ≡ length past
   pub list : history ≡ past
   pub decided : pending ≡ None
 
 -- a filing that is to be admitted isn't kept, for good
-pub record IsNotKept (past : List Filing) (ask : Ask) (history : List Filing) (pending : Option Filing) : Type 0 where
-  pub admitted : IsTrue (is_admit (answer_to past ask))
+pub record IsNotKept (past : List (StampedEntry Filing)) (ask : StampedAsk Ask) (history : List (StampedEntry Filing)) (pending : Option (StampedEntry Filing)) : Type 0 where
+  pub admitted : IsTrue (is_admit (answer_to (entries past) ask.ask))
   pub list : history ≡ past
   pub decided : pending ≡ None
 
 -- a filing that is to be admitted is undecided; it is named by the place after those before it
-pub record IsLeftUndecided (past : List Filing) (ask : Ask) (position : ℕ) (history : List Filing) (pending : Option Filing) : Type 0 where
-  pub admitted : IsTrue (is_admit (answer_to past ask))
+pub record IsLeftUndecided (past : List (StampedEntry Filing)) (ask : StampedAsk Ask) (position : ℕ) (history : List (StampedEntry Filing)) (pending : Option (StampedEntry Filing)) : Type 0 where
+  pub admitted : IsTrue (is_admit (answer_to (entries past) ask.ask))
   pub list : history ≡ past
   pub undecided : pending ≡ asked ask
   pub next : position ≡ length past + 1
 
 -- One ask where nothing is undecided: the history before, the ask, the reply, and the history and the undecided filing
 -- after.
-abbrev pub Answers : List Filing → Ask → Reply → List Filing → Option Filing → Type 0
+abbrev pub Answers : List (StampedEntry Filing) → StampedAsk Ask → Reply → List (StampedEntry Filing) → Option (StampedEntry Filing) → Type 0
 Answers past ask (Accepted position front outcome) history pending = IsAccepted past ask position front outcome history pending
 Answers past ask (Again position front outcome) history pending = IsAgain past ask position front outcome history pending
 Answers past ask (Refused refusal front) history pending = IsRefused past ask refusal front history pending
@@ -101,7 +113,7 @@ Answers past ask NoMemory history pending = ⊥
 
 -- One turn: the history and the undecided filing before, the ask, the reply, and the same two after. What was undecided
 -- is settled first, and the ask is judged on the history with it.
-abbrev pub Turns : List Filing → Option Filing → Ask → Reply → List Filing → Option Filing → Type 0
+abbrev pub Turns : List (StampedEntry Filing) → Option (StampedEntry Filing) → StampedAsk Ask → Reply → List (StampedEntry Filing) → Option (StampedEntry Filing) → Type 0
 Turns old was ask (DiskFault (Some position)) history pending = IsUnsettled old was position history pending
     ⊎ IsLeftUndecided (settled was old) ask position history pending
 Turns old was ask NoMemory history pending = IsUnchanged old was history pending
@@ -155,6 +167,6 @@ is_fault NoMemory = false
 
 -- A file at a moment of a turn recovers the history before, or that with the undecided filing, or that with the ask's
 -- filing too, where this is to be admitted.
-abbrev pub MayRecover : List Filing → Option Filing → Ask → List ℕ → Type 0
+abbrev pub MayRecover : List (StampedEntry Filing) → Option (StampedEntry Filing) → StampedAsk Ask → List ℕ → Type 0
 MayRecover old was ask file = Recovers file old ⊎ (Recovers file (settled was old)
-    ⊎ (IsTrue (is_admit (answer_to (settled was old) ask)) × Recovers file (with_asked ask (settled was old))))
+    ⊎ (IsTrue (is_admit (answer_to (entries (settled was old)) ask.ask)) × Recovers file (with_asked ask (settled was old))))

@@ -1,10 +1,10 @@
-// The office as the docket of a kept list.
-ghost use Rattle.std.specs.Prelude.{◌≡◌, ◌<◌, None, IfSome, if◌then◌else◌};
+// The office as the docket of a kept list, its filings without stamps and with them.
+ghost use Rattle.std.specs.Prelude.{◌≡◌, ◌<◌, reverse, None, IfSome, if◌then◌else◌};
 ghost use Rattle.aid_filings.specs.declared.reply.Ask.TheVariants.{File as FileAsked};
 ghost use Rattle.aid_filings.specs.declared.reply.Verdict.TheVariants.{Admit};
 ghost use Rattle.kept_list.specs.Added.{entry_of};
 ghost use Rattle.office_history.specs.Answer.{answer_to, is_admit};
-ghost use Rattle.kept_office.specs.Turns.{asked};
+ghost use Rattle.kept_office.specs.Turns.{filing_asked};
 
 use aid_edges::Room;
 use aid_filings::{Ask, Filing, Outcome, Verdict};
@@ -13,15 +13,26 @@ use filing_journal::Header;
 use kept_list::{Added, Docket, Judged, TakeFault};
 use office_core::Office;
 use sorted_rows::Steps;
+use stamped_list::{Stampable, StampedAsk, StampedEntry, Stamping};
 use std::alloc::{AllocError, Global};
 use std::marker::Brand;
 use std::sync::ledger::{Blank, Ledger};
 
-/// An office whose filings a list keeps: it judges them, and spells them.
+/// An office whose filings a list keeps: it judges them, and spells them. By itself it reads the journals of version 1, whose
+/// filings have no stamps.
 #[derive(Drop)]
 pub struct FiledOffice {
     pub(crate) office: Office,
 }
+
+/// An office whose filings carry stamps: the docket of today's journals.
+pub type StampedOffice = Stamping<FiledOffice>;
+
+/// A filing with its stamp.
+pub type StampedFiling = StampedEntry<Filing>;
+
+/// What is asked, with the stamp of what it may file.
+pub type Stamped = StampedAsk<Ask>;
 
 impl FiledOffice {
     /// The office, with the filings that stand.
@@ -29,6 +40,14 @@ impl FiledOffice {
         ensures { result.now.history ≡ ⟦<FiledOffice as Docket>⟧.history self.now }
     {
         &self.office
+    }
+
+    /// The filings alone, the oldest first. It takes no memory.
+    pub fn into_filings(self) -> Vec<Filing>
+        ensures { reverse result.items ≡ ⟦<FiledOffice as Docket>⟧.history self }
+    {
+        let FiledOffice { office } = self;
+        office.into_filings()
     }
 }
 
@@ -52,7 +71,7 @@ fn verdict(office: &Office, ask: &Ask) -> Verdict
 
 // The filing that an ask adds where it has this verdict, with the outcome that the verdict tells.
 fn added(ask: Ask, verdict: &Verdict) -> Option<Added<Filing, Outcome>>
-    ensures entry { entry_of result ≡ (if is_admit verdict.now then asked ask else None) }
+    ensures entry { entry_of result ≡ (if is_admit verdict.now then filing_asked ask else None) }
     ensures ask { IfSome result (λ a. ask ≡ FileAsked a.entry) }
     ensures outcome { IfSome result (λ a. verdict.now ≡ Admit a.ruling) }
 {
@@ -68,8 +87,8 @@ fn added(ask: Ask, verdict: &Verdict) -> Option<Added<Filing, Outcome>>
 impl Docket for FiledOffice {
     ghost use Rattle.aid_filings.specs.declared.reply.Verdict.TheVariants.{Admit};
     ghost use Rattle.office_history.specs.Answer.{answer_of};
-    ghost use Rattle.kept_office.specs.Scheme.{office_scheme};
-    ghost use Rattle.kept_office.specs.Turns.{office_judging};
+    ghost use Rattle.kept_office.specs.Scheme.{filing_scheme};
+    ghost use Rattle.kept_office.specs.Turns.{filing_judging};
     ghost use Rattle.kept_office.specs.OfficeLaws.{keepable, alone, admitted_legal, legal_admitted, legal_past, added_admitted};
 
     type Entry = Filing;
@@ -81,9 +100,9 @@ impl Docket for FiledOffice {
 
     type Verdict = Verdict;
 
-    ghost scheme = { office_scheme };
+    ghost scheme = { filing_scheme };
 
-    ghost judging = { office_judging };
+    ghost judging = { filing_judging };
 
     ghost IsRuling = { λ past filing outcome. answer_of past filing ≡ Admit outcome };
 
@@ -109,6 +128,7 @@ impl Docket for FiledOffice {
         Header {
             name: *b"AIDPELL1",
             version: 1,
+            old: None,
         }
     }
 
@@ -158,4 +178,21 @@ impl Docket for FiledOffice {
             Err(TakeError::NoMemory) => Err(TakeFault::NoMemory),
         }
     }
+}
+
+impl Stampable for FiledOffice {
+    ghost use Rattle.kept_office.specs.Scheme.{office_header};
+    ghost use Rattle.kept_office.specs.OfficeLaws.{short as is_short};
+
+    ghost stamped = { office_header };
+
+    fn stamped_header() -> Header {
+        Header {
+            name: *b"AIDPELL1",
+            version: 2,
+            old: Some(1),
+        }
+    }
+
+    ghost short = { is_short };
 }

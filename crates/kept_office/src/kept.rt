@@ -2,23 +2,24 @@
 ghost use Rattle.std.specs.Prelude.{◌≡◌, ◌⊎◌, ◌+◌, ◌≤◌, ◌<◌, ◌^◌, [], ℕ, List, false, length, None, IsTrue, IsOk, IfOk, IfErr, IfSome, OnOk, OnErr, Contains};
 ghost use Rattle.aid_edges.specs.Faults.{Rose};
 ghost use Rattle.disk_model.specs.Telling.{IsHonest, EachMoment, EachImage, IsQuiet, IsRead};
-ghost use Rattle.filing_journal.specs.Head.{IsBorn, IsForeign};
+ghost use Rattle.filing_journal.specs.Head.{IsBorn, IsForeign, IsOld};
 ghost use Rattle.filing_journal.specs.Stands.{IsUnborn};
 ghost use Rattle.filing_journal.specs.Founded.{UnbornOrEmpty};
 ghost use Rattle.office_history.specs.Answer.{answer_to, is_admit};
 ghost use Rattle.kept_office.specs.Turns.{IsFew, reply_of as replied};
 
-use crate::FiledOffice;
-use aid_filings::{Ask, Reply, Verdict};
+use crate::{Stamped, StampedOffice};
+use aid_filings::{Reply, Verdict};
 use disk_model::Disk;
 use kept_list::{FoundFault, KeptList, ListReply, OpenError};
 use office_core::Office;
+use stamps::Stamp;
 use std::alloc::{AllocError, Global};
 
 /// An office over a journal. At most one filing is undecided: a fault left it on the disk, and not known to stand.
 #[derive(Drop)]
 pub struct KeptOffice<D: Disk> {
-    list: KeptList<D, FiledOffice>,
+    list: KeptList<D, StampedOffice>,
 }
 
 // What an office replies to an ask, by how the list answers it.
@@ -49,10 +50,12 @@ fn reply_of(answer: ListReply<Verdict>) -> Reply
 
 impl<D: Disk> KeptOffice<D> {
     ghost use Rattle.aid_filings.specs.declared.filing.Filing.{Filing};
+    ghost use Rattle.stamped_list.specs.Entries.{entries, stamp_at};
+    ghost use Rattle.stamped_list.specs.declared.entry.StampedEntry.{StampedEntry};
     ghost use Rattle.kept_office.specs.Recovers.{Recovers};
     ghost use Rattle.kept_office.specs.Faulty.{IsFaultyAt};
     ghost use Rattle.kept_office.specs.Scheme.{office_header};
-    ghost use Rattle.kept_office.specs.Turns.{Turns, MayRecover, settled, asked, is_accepted, is_acknowledged, is_fault};
+    ghost use Rattle.kept_office.specs.Turns.{Turns, MayRecover, settled, filing_asked, is_accepted, is_acknowledged, is_fault};
     ghost use Rattle.kept_office.specs.Kept.{IsSound, kept_disk, kept_history, kept_pending, kept_room};
 
     /// Founds an office without filings, in a file of fewer than 17 bytes, whatever they are, or of 17 bytes whose
@@ -64,7 +67,8 @@ impl<D: Disk> KeptOffice<D> {
         // Each answer comes by the bytes. A refusal by them, and one for want of memory, writes nothing.
         ensures unborn { IsHonest (D.tells disk) → OnOk result (IsUnborn (D.tells disk).reads) }
         ensures exists { IsHonest (D.tells disk)
-            → IfErr result (λ e. e.0 ≡ FoundFault.Exists → IsBorn office_header (D.tells disk).reads × IsRead (D.tells disk) (D.tells e.1)) }
+            → IfErr result (λ e. e.0 ≡ FoundFault.Exists → (IsBorn office_header (D.tells disk).reads ⊎ IsOld office_header (D.tells disk).reads)
+            × IsRead (D.tells disk) (D.tells e.1)) }
         ensures foreign { IsHonest (D.tells disk)
             → IfErr result (λ e. e.0 ≡ FoundFault.NotJournal → IsForeign office_header (D.tells disk).reads × IsRead (D.tells disk) (D.tells e.1)) }
         ensures no_memory { IfErr result (λ e. e.0 ≡ FoundFault.NoMemory → e.1 ≡ disk) }
@@ -116,22 +120,24 @@ impl<D: Disk> KeptOffice<D> {
             → IfErr result (λ e. e.0 ≡ OpenError.NoOffice → IsUnborn (D.tells disk).reads) }
         ensures foreign { IsHonest (D.tells disk)
             → IfErr result (λ e. e.0 ≡ OpenError.NotJournal → IsForeign office_header (D.tells disk).reads) }
+        ensures old { IsHonest (D.tells disk)
+            → IfErr result (λ e. e.0 ≡ OpenError.OldVersion → IsOld office_header (D.tells disk).reads) }
         ensures damaged { IsHonest (D.tells disk)
             → IfErr result (λ e. (place : ℕ) → e.0 ≡ OpenError.Damaged place
             → IsBorn office_header (D.tells disk).reads × IsFaultyAt (D.tells disk).reads place) }
-        ensures complete { IsHonest (D.tells disk) → (history : List Filing) → Recovers (D.tells disk).reads history
+        ensures complete { IsHonest (D.tells disk) → (history : List (StampedEntry Filing)) → Recovers (D.tells disk).reads history
             → IfErr result (λ e. (e.0 ≡ OpenError.NoMemory) ⊎ (e.0 ≡ OpenError.DiskFault)) }
         ensures unwritten { IsHonest (D.tells disk)
             → IfErr result (λ e. (e.0 ≡ OpenError.DiskFault → ⊥) → IsRead (D.tells disk) (D.tells e.1)) }
         // Only a file that recovers a history is written, whatever the answer.
         ensures untouched { IsHonest (D.tells disk)
-            → IfErr result (λ e. ((history : List Filing) × Recovers (D.tells disk).reads history) ⊎ IsRead (D.tells disk) (D.tells e.1)) }
+            → IfErr result (λ e. ((history : List (StampedEntry Filing)) × Recovers (D.tells disk).reads history) ⊎ IsRead (D.tells disk) (D.tells e.1)) }
 
         // Where every image recovers a history, as on a quiet disk, each one at each moment does.
-        ensures moments { IsHonest (D.tells disk) → (history : List Filing)
+        ensures moments { IsHonest (D.tells disk) → (history : List (StampedEntry Filing))
             → EachImage (D.tells disk) (λ file. Recovers file history)
             → IfOk result (λ kept. EachMoment (D.tells disk) (D.tells (kept_disk kept)) (λ file. Recovers file history)) }
-        ensures moments_err { IsHonest (D.tells disk) → (history : List Filing)
+        ensures moments_err { IsHonest (D.tells disk) → (history : List (StampedEntry Filing))
             → EachImage (D.tells disk) (λ file. Recovers file history)
             → IfErr result (λ e. EachMoment (D.tells disk) (D.tells e.1) (λ file. Recovers file history)) }
 
@@ -163,16 +169,17 @@ impl<D: Disk> KeptOffice<D> {
     }
 
     /// Answers an ask. A filing that is undecided is settled first: it is admitted. Then the ask is judged, and a
-    /// filing that is admitted is put into the journal before it is acknowledged.
+    /// filing that is admitted is put into the journal, under the ask's stamp, before it is acknowledged. A filing that stood
+    /// already keeps its first stamp.
     ///
     /// `DiskFault` names the position of the filing that is undecided then, if one is. `NoMemory` leaves all as it was.
-    pub fn turn(&mut self, ask: Ask) -> Reply
+    pub fn turn(&mut self, ask: Stamped) -> Reply
         // The reply is the answer on the history after settling, and this and what is undecided after are what it says.
         ensures turn { Turns (kept_history self.old) (kept_pending self.old) ask result (kept_history self.new) (kept_pending self.new) }
-        ensures stands { IsTrue (is_acknowledged result) → IfSome (asked ask) (Contains (kept_history self.new)) }
+        ensures stands { IsTrue (is_acknowledged result) → IfSome (filing_asked ask.ask) (Contains (entries (kept_history self.new))) }
 
         // A filing that is to be admitted is accepted, unless memory ran out or the disk failed.
-        ensures complete { IsTrue (is_admit (answer_to (settled (kept_pending self.old) (kept_history self.old)) ask))
+        ensures complete { IsTrue (is_admit (answer_to (entries (settled (kept_pending self.old) (kept_history self.old))) ask.ask))
             → IsTrue (is_accepted result) ⊎ ((result ≡ Reply.NoMemory)
             ⊎ Rose (D.faults (kept_disk self.old)) (D.faults (kept_disk self.new))) }
 
@@ -194,11 +201,18 @@ impl<D: Disk> KeptOffice<D> {
         reply_of(self.list.turn(ask))
     }
 
+    /// The stamp of the filing at a position, which counts from 1 at the oldest; `None` where no filing stands there.
+    pub fn stamp(&self, position: u32) -> Option<Stamp>
+        ensures { result ≡ stamp_at (kept_history self.now) position }
+    {
+        self.list.docket().stamp(position)
+    }
+
     /// The office: the filings that stand, without one that is undecided. It takes no memory.
     pub fn office(&self) -> &Office
-        ensures { result.now.history ≡ kept_history self.now }
+        ensures { result.now.history ≡ entries (kept_history self.now) }
     {
-        &self.list.docket().office
+        self.list.docket().inner().office()
     }
 
     /// Gives the disk back. It makes no call on it, and takes no memory.

@@ -4,18 +4,19 @@ ghost use Rattle.aid_filings.specs.declared.filing.Filing.{Filing};
 ghost use Rattle.kept_office.specs.Recovers.{Recovers};
 ghost use Rattle.kept_office.specs.Faulty.{IsFaultyAt};
 ghost use Rattle.kept_list.specs.Lives.{Left};
+ghost use Rattle.stamped_list.specs.declared.entry.StampedEntry.{StampedEntry};
 ghost use Rattle.kept_office.specs.Lives.{Fate, Life, MayHave};
 
 use disk_model::Disk;
 
 /// A file recovers one history at most.
 pub fn once()
-    ensures { (file : List ℕ) (one other : List Filing) → Recovers file one → Recovers file other → one ≡ other }
+    ensures { (file : List ℕ) (one other : List (StampedEntry Filing)) → Recovers file one → Recovers file other → one ≡ other }
 {}
 
 /// A file that recovers a history has no fault at any place.
 pub fn unfaulty()
-    ensures { (file : List ℕ) (history : List Filing) (place : ℕ) → Recovers file history → IsFaultyAt file place → ⊥ }
+    ensures { (file : List ℕ) (history : List (StampedEntry Filing)) (place : ℕ) → Recovers file history → IsFaultyAt file place → ⊥ }
 {}
 
 /// A file has one faulty place at most, so that the place that an opening names is the place.
@@ -27,6 +28,6 @@ pub fn one_fault()
 /// after it each filing that was admitted, each that was uncertain at a crash or not, and no other, in the order in
 /// which they were filed. The history that it recovers is legal, so no key stands twice in it.
 pub fn lives<D: Disk>(_disk: &D)
-    ensures { (before : List Filing) (fates : List Fate) (file : List ℕ) → Life D.Disk before fates (Left file)
-        → (kept : List Filing) × MayHave fates kept × Recovers file (kept ++ before) }
+    ensures { (before : List (StampedEntry Filing)) (fates : List Fate) (file : List ℕ) → Life D.Disk before fates (Left file)
+        → (kept : List (StampedEntry Filing)) × MayHave fates kept × Recovers file (kept ++ before) }
 {}

@@ -5,10 +5,10 @@ use kept_list::OwnDocket;
 
 impl OwnDocket for FiledOffice {
     ghost use Rattle.office_history.specs.Answer.{is_admit};
-    ghost use Rattle.kept_office.specs.Turns.{asked};
+    ghost use Rattle.kept_office.specs.Turns.{filing_asked};
     ghost use Rattle.kept_office.specs.OwnLaws.{own_added, adds_added};
 
-    ghost own = { asked };
+    ghost own = { filing_asked };
 
     ghost adds = { is_admit };
 

@@ -1,6 +1,6 @@
 // A kept office as a state that takes turns under a lock.
-use crate::KeptOffice;
-use aid_filings::{Ask, Filing, Reply};
+use crate::{KeptOffice, Stamped, StampedFiling};
+use aid_filings::Reply;
 use disk_model::Disk;
 use office_lock::Turned;
 
@@ -9,11 +9,11 @@ impl<D: Disk> Turned for KeptOffice<D> {
     ghost use Rattle.kept_office.specs.Turned.{stand_of, says_of, IsTurn};
     ghost use Rattle.kept_office.specs.Turns.{asked};
 
-    type Ask = Ask;
+    type Ask = Stamped;
 
     type Reply = Reply;
 
-    type Entry = Filing;
+    type Entry = StampedFiling;
 
     ghost stand = { λ k. stand_of (kept_history k) (kept_pending k) (D.faults (kept_disk k)) (D.tells (kept_disk k)).honest };
 
@@ -23,7 +23,7 @@ impl<D: Disk> Turned for KeptOffice<D> {
 
     ghost meets = { λ old ask reply new. IsTurn old ask reply new };
 
-    fn turn(&mut self, ask: Ask) -> Reply {
+    fn turn(&mut self, ask: Stamped) -> Reply {
         KeptOffice::turn(self, ask)
     }
 }

@@ -25,7 +25,7 @@ next_of past n = if is_next past n then Some n else None
 
 -- the name NUMBERS1, and the version 1
 abbrev pub rising_header : Header
-rising_header = record { name = codes "NUMBERS1"; version = 1; name_size = refl }
+rising_header = record { name = codes "NUMBERS1"; version = 1; old = None; name_size = refl }
 
 abbrev pub rising_scheme : Scheme ℕ
 rising_scheme = record {

@@ -1,18 +1,24 @@
 // Offices whose disk stops or fails in the middle of a turn, what they answer then, that room is kept for a turn, and an office
 // under a lock.
 use aid_filings::{Ask, Filing, Outcome, PriorFacts, Reply, SchoolFacts, What};
-use aid_types::{Key, School, Student};
+use aid_types::{Day, Key, School, Student};
 use desk_forms::put_line;
 use disk_model::{Disk, DiskStop, Fill, MemoryDisk};
 use filing_codec::{Room, TakeError, put, take};
-use kept_office::{FoundFault, KeptOffice, OpenError};
+use kept_office::{FoundFault, KeptOffice, OpenError, Stamped};
 use office_lock::Turns;
+use stamped_list::StampedAsk;
+use stamps::{ClerkName, Stamp};
 use std::alloc::Global;
 use std::process::Abort;
 use std::test::Fail;
 
-// The file of the two worked filings.
-const BOTH: [u8; 71] =
+// The file of the two worked filings under the plain stamp.
+const BOTH: [u8; 81] =
+    *b"\x01AIDPELL1\x02\0\0\0\0\0\0\x01\x18\0\0\0\0\0\0\0\0\x02\0\0\0\0\x01\0\0\0\0\0\0\0\x6e\0\0\0\x02\x0c\x01\x1e\0\0\0\0\0\0\0\0\x04\0\0\0\0\x02\0\0\0\0\0\0\0\x89\x13\0\0\0\0\0\0\x70\x64\x08\0\0";
+
+// The same of the version 1, whose filings have no stamps.
+const OLD: [u8; 71] =
     *b"\x01AIDPELL1\x01\0\0\0\0\0\0\x01\x13\0\0\0\x02\0\0\0\0\x01\0\0\0\0\0\0\0\x6e\0\0\0\x02\x0c\x01\x19\0\0\0\x04\0\0\0\0\x02\0\0\0\0\0\0\0\x89\x13\0\0\0\0\0\0\x70\x64\x08\0\0";
 
 // What the office's desk files: the school 110, or the units that a student used before this office.
@@ -35,17 +41,30 @@ const SCHOOL_ANEW: (u32, Filed) = (4, Filed::School);
 const LINES: &[u8] =
     b"1 0 accepted 1 noted\n2 1 accepted 2 noted\n3 2 again 1 noted\n4 2 refused 13 1 110\n";
 
-// The ask to file a row under its number.
-fn ask(rt: &impl Abort, row: (u32, Filed)) -> Ask {
+// The filing of a row under its number.
+fn filing(rt: &impl Abort, row: (u32, Filed)) -> Filing {
     let (number, filed) = row;
     assert!(rt; number > 0);
-    Ask::File(Filing {
+    Filing {
         key: Key {
             school: School(0),
             number: u64::from(number),
         },
         what: what(rt, filed),
-    })
+    }
+}
+
+// The ask to file a row under a stamp.
+fn ask_under(rt: &impl Abort, stamp: Stamp, row: (u32, Filed)) -> Stamped {
+    StampedAsk {
+        ask: Ask::File(filing(rt, row)),
+        stamp,
+    }
+}
+
+// The ask to file a row under the plain stamp.
+fn ask(rt: &impl Abort, row: (u32, Filed)) -> Stamped {
+    ask_under(rt, Stamp::plain(), row)
 }
 
 fn what(rt: &impl Abort, filed: Filed) -> What {
@@ -110,6 +129,12 @@ fn open_and_file<D: Disk + Drop>(
 const FIRST: Reply = Reply::Accepted {
     position: 1,
     front: 0,
+    outcome: Outcome::Noted,
+};
+
+const SCHOOL_AGAIN: Reply = Reply::Again {
+    position: 1,
+    front: 2,
     outcome: Outcome::Noted,
 };
 
@@ -182,7 +207,7 @@ fn reserves(rt: HostRuntime) -> Result<(), Fail> {
     let mut kept = founded(rt.alloc(), disk(rt.alloc(), b"", &[], None)?)?;
     kept.reserve(2)?;
     assert_eq!(rt; kept.turn(ask(&rt, SCHOOL)), FIRST);
-    assert_eq!(rt; kept.into_disk().image().len(), 41);
+    assert_eq!(rt; kept.into_disk().image().len(), 46);
     Ok(())
 }
 
@@ -200,19 +225,16 @@ fn settles_at_last(rt: HostRuntime) -> Result<(), Fail> {
 // A payload without its last byte is none: its last field begins at byte 21.
 #[test]
 fn a_short_payload(rt: HostRuntime) {
-    let error = take(rt.alloc(), &BOTH[45..69]).err();
+    let error = take(rt.alloc(), &BOTH[55..79]).err();
     assert_eq!(rt; error, Some(TakeError::NotFiling(21)));
 }
 
 // A filing's one spelling, in the room of a payload.
 #[test]
 fn a_filing_is_spelled(rt: HostRuntime) -> Result<(), Fail> {
-    let Ask::File(filing) = ask(&rt, SECOND) else {
-        return Err(Fail::new("no filing"));
-    };
     let mut room = Room::new(rt.alloc())?;
-    put(&filing, &mut room);
-    assert_eq!(rt; room.bytes(), &BOTH[45..70]);
+    put(&filing(&rt, SECOND), &mut room);
+    assert_eq!(rt; room.bytes(), &BOTH[55..80]);
     Ok(())
 }
 
@@ -237,5 +259,44 @@ fn an_office_takes_turns(rt: HostRuntime) -> Result<(), Fail> {
     }
     assert_eq!(rt; text.as_slice(), LINES);
     assert_eq!(rt; disk.image(), BOTH.as_slice());
+    Ok(())
+}
+
+// The file of the same two filings, the second under a clerk's stamp.
+const BY_BROWN: [u8; 86] =
+    *b"\x01AIDPELL1\x02\0\0\0\0\0\0\x01\x18\0\0\0\0\0\0\0\0\x02\0\0\0\0\x01\0\0\0\0\0\0\0\x6e\0\0\0\x02\x0c\x01\x23\0\0\0\x6c\x4f\0\0\x05brown\x04\0\0\0\0\x02\0\0\0\0\0\0\0\x89\x13\0\0\0\0\0\0\x70\x64\x08\0\0";
+
+// Filings under the plain stamp, and under that of a clerk. One that is filed again under another stamp keeps its first.
+#[test]
+fn stamps_are_kept(rt: HostRuntime) -> Result<(), Fail> {
+    let Some(clerk) = ClerkName::new(b"brown") else {
+        return Err(Fail::new("no clerk"));
+    };
+    let brown = Stamp {
+        day: Day(20_332),
+        clerk,
+    };
+    let mut kept = founded(rt.alloc(), disk(rt.alloc(), b"", &[], None)?)?;
+    kept.turn(ask(&rt, SCHOOL));
+    kept.turn(ask_under(&rt, brown, SECOND));
+    let again = kept.turn(ask_under(&rt, brown, SCHOOL));
+    assert_eq!(rt; again, SCHOOL_AGAIN);
+    let kept = opened(rt.alloc(), kept.into_disk())?;
+    assert_eq!(rt; kept.stamp(0), None);
+    assert_eq!(rt; kept.stamp(1), Some(Stamp::plain()));
+    assert_eq!(rt; kept.stamp(2), Some(brown));
+    assert_eq!(rt; kept.stamp(3), None);
+    let file = kept.into_disk();
+    assert_eq!(rt; file.image(), BY_BROWN.as_slice());
+    Ok(())
+}
+
+// A file of the version 1 is told apart, and no office is founded on it.
+#[test]
+fn an_old_version(rt: HostRuntime) -> Result<(), Fail> {
+    let error = opened(rt.alloc(), disk(rt.alloc(), &OLD, &[], None)?).err();
+    assert_eq!(rt; error, Some(OpenError::OldVersion));
+    let fault = founded(rt.alloc(), disk(rt.alloc(), &OLD, &[], None)?).err();
+    assert_eq!(rt; fault, Some(FoundFault::Exists));
     Ok(())
 }

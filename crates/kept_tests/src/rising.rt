@@ -89,6 +89,7 @@ impl Docket for Rising {
         Header {
             name: *b"NUMBERS1",
             version: 1,
+            old: None,
         }
     }
 

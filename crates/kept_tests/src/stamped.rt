@@ -13,10 +13,10 @@ use stamped_list::{Stampable, StampedAsk, Stamping};
 use stamps::Stamp;
 
 impl Stampable for Rising {
-    ghost use Rattle.std.specs.Prelude.{codes, refl};
+    ghost use Rattle.std.specs.Prelude.{Some, codes, refl};
     ghost use Rattle.kept_tests.specs.RisingLaws.{short as is_short};
 
-    ghost stamped = { record { name = codes "NUMBERS1"; version = 2; name_size = refl } };
+    ghost stamped = { record { name = codes "NUMBERS1"; version = 2; old = Some 1; name_size = refl } };
 
     ghost short = { is_short };
 
@@ -24,6 +24,7 @@ impl Stampable for Rising {
         Header {
             name: *b"NUMBERS1",
             version: 2,
+            old: Some(1),
         }
     }
 }

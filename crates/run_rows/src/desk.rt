@@ -57,6 +57,7 @@ impl<R: Docket<Ask = Ask, Verdict = Verdict>> Rows<R> for DeskRows {
 }
 
 /// The forms of rows of all kinds but books.
+#[derive(Drop)]
 pub struct DeskForms;
 
 impl<R: Docket<Ask = Ask, Verdict = Verdict>> Forms<R> for DeskForms {

@@ -3,7 +3,9 @@
 
 mod entry;
 mod own;
+mod rows;
 mod stamping;
 
-pub use entry::{StampedAsk, StampedEntry};
+pub use entry::{StampedAsk, StampedEntry, StampedError};
+pub use rows::{StampedForms, StampedRows};
 pub use stamping::{Stampable, Stamping};

@@ -1,7 +1,7 @@
 // A docket whose entries carry stamps.
-ghost use Rattle.std.specs.Prelude.{◌≡◌, ◌+◌, ◌≤◌, ◌<◌, ◌∷◌, ℕ, List, length};
+ghost use Rattle.std.specs.Prelude.{◌≡◌, ◌+◌, ◌≤◌, ◌<◌, ◌∷◌, ℕ, List, length, reverse};
 ghost use Rattle.filing_journal.specs.declared.header.Header.{Header};
-ghost use Rattle.stamped_list.specs.Entries.{entries, nth_stamp, stamp_at};
+ghost use Rattle.stamped_list.specs.Entries.{entries, nth_stamp, stamp_at, stamps_of};
 ghost use Rattle.stamped_list.specs.Stamped.{stamped_added};
 
 use crate::{StampedAsk, StampedEntry};
@@ -77,6 +77,13 @@ impl<R: Stampable> Stamping<R> {
         ensures { R.history result.now ≡ entries (⟦<Stamping<R> as Docket>⟧.history self.now) }
     {
         &self.inner
+    }
+
+    /// The stamps of the entries, the oldest first.
+    pub fn stamps(&self) -> &[Stamp]
+        ensures { result.now ≡ reverse (stamps_of (⟦<Stamping<R> as Docket>⟧.history self.now)) }
+    {
+        self.stamps.as_slice()
     }
 
     /// The stamp of the entry at a position, which counts from 1 at the oldest.
