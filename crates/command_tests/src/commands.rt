@@ -4,7 +4,7 @@ use aid_edges::MemorySource;
 use kept_session::INPUT_LIMIT;
 use specimen::BOOK_TEXT;
 use std::test::Fail;
-use whole_runs::{BOTH, CUT, EMPTY, Run, disk, long_input, ran, ran_over};
+use whole_runs::{BOTH, CUT, EMPTY, OLD, Run, disk, long_input, ran, ran_over};
 
 const FIRST: &str = "school,0,1,110,2,12\nprior,0,2,5001,550000\n";
 
@@ -14,7 +14,7 @@ const AGAIN: &str = "1 2 again 1 noted\n2 2 again 2 noted\n";
 
 // The file of the two first filings with two bytes behind it, as a stop may leave them.
 const TORN: &[u8] =
-    b"\x01AIDPELL1\x01\0\0\0\0\0\0\x01\x13\0\0\0\x02\0\0\0\0\x01\0\0\0\0\0\0\0\x6e\0\0\0\x02\x0c\x01\x19\0\0\0\x04\0\0\0\0\x02\0\0\0\0\0\0\0\x89\x13\0\0\0\0\0\0\x70\x64\x08\0\0\x01\x05";
+    b"\x01AIDPELL1\x02\0\0\0\0\0\0\x01\x18\0\0\0\0\0\0\0\0\x02\0\0\0\0\x01\0\0\0\0\0\0\0\x6e\0\0\0\x02\x0c\x01\x1e\0\0\0\0\0\0\0\0\x04\0\0\0\0\x02\0\0\0\0\0\0\0\x89\x13\0\0\0\0\0\0\x70\x64\x08\0\0\x01\x05";
 
 #[test]
 fn a_first_day(rt: HostRuntime) -> Result<(), Fail> {
@@ -26,6 +26,58 @@ fn a_first_day(rt: HostRuntime) -> Result<(), Fail> {
     assert_runs(&rt, alloc, EMPTY, &SEVEN_ROWS)?;
     Ok(())
 }
+
+// What a clerk files on a day stands under both, and what is filed again keeps its first stamp.
+#[test]
+fn a_clerk_files(rt: HostRuntime) -> Result<(), Fail> {
+    let alloc = rt.alloc();
+    let filed = assert_runs(&rt, alloc, EMPTY, &BY_BROWN)?;
+    assert_eq!(rt; filed.image(), BROWN_FILE);
+    assert_runs(&rt, alloc, BOTH, &PLAIN)?;
+    Ok(())
+}
+
+// The file of the two first filings under a clerk's stamp.
+const BROWN_FILE: &[u8] =
+    b"\x01AIDPELL1\x02\0\0\0\0\0\0\x01\x1d\0\0\0\x6c\x4f\0\0\x05brown\x02\0\0\0\0\x01\0\0\0\0\0\0\0\x6e\0\0\0\x02\x0c\x01\x23\0\0\0\x6c\x4f\0\0\x05brown\x04\0\0\0\0\x02\0\0\0\0\0\0\0\x89\x13\0\0\0\0\0\0\x70\x64\x08\0\0";
+
+const BY_BROWN: [Run; 8] = [
+    ("at 2025-09-01 brown file", FIRST, 0, ACCEPTED),
+    (
+        "report stamps",
+        "",
+        0,
+        "1 2025-09-01 brown\n2 2025-09-01 brown\nrows 2\n",
+    ),
+    ("at 2025-09-02 smith file", FIRST, 0, AGAIN),
+    (
+        "at 2025-09-02 smith report stamps",
+        "",
+        0,
+        "1 2025-09-01 brown\n2 2025-09-01 brown\nrows 2\n",
+    ),
+    ("at 2025-02-30 brown file", FIRST, 2, "fault usage\n"),
+    ("at 2025-09-01 -brown file", FIRST, 2, "fault usage\n"),
+    (
+        "at 2025-09-01 a.name_of-32.bytes.is.as.long.x1 report lifetime",
+        "",
+        0,
+        "        5001  550000  550000\nrows 1\n",
+    ),
+    (
+        "at 2025-09-01 a.name_of-33.bytes.is.one.more.xx report lifetime",
+        "",
+        2,
+        "fault usage\n",
+    ),
+];
+
+const PLAIN: [Run; 1] = [(
+    "report stamps",
+    "",
+    0,
+    "1 1970-01-01 \n2 1970-01-01 \nrows 2\n",
+)];
 
 // Only the first of these changes the file.
 const FIRST_DAY: [Run; 18] = [
@@ -104,7 +156,7 @@ fn files_that_are_none(rt: HostRuntime) -> Result<(), Fail> {
 }
 
 // Files in which no office stands, or on which a run does nothing.
-const NO_OFFICES: [(&[u8], Run); 10] = [
+const NO_OFFICES: [(&[u8], Run); 13] = [
     (b"", ("file", FIRST, 6, "fault no office\n")),
     (b"", ("check rows", "", 0, "rows 0 errors 0\n")),
     (b"", ("check book", BOOK_TEXT, 0, "1 fine\n")),
@@ -117,18 +169,21 @@ const NO_OFFICES: [(&[u8], Run); 10] = [
         b"eighteen letters..",
         ("file", "", 6, "fault not a journal\n"),
     ),
-    (CUT, ("file", "", 7, "fault damaged 40\n")),
-    (TWICE, ("file", "", 7, "fault damaged 40\n")),
-    (UNKNOWN, ("file", "", 7, "fault damaged 40\n")),
+    (CUT, ("file", "", 7, "fault damaged 45\n")),
+    (TWICE, ("file", "", 7, "fault damaged 45\n")),
+    (UNKNOWN, ("file", "", 7, "fault damaged 45\n")),
     (BOTH, ("found", "", 6, "fault office exists\n")),
+    (OLD, ("file", FIRST, 6, "fault old version\n")),
+    (OLD, ("report lifetime", "", 6, "fault old version\n")),
+    (OLD, ("found", "", 6, "fault office exists\n")),
 ];
 
 // The first filing once more in the place of the second, and a second filing of a kind that is none.
 const TWICE: &[u8] =
-    b"\x01AIDPELL1\x01\0\0\0\0\0\0\x01\x13\0\0\0\x02\0\0\0\0\x01\0\0\0\0\0\0\0n\0\0\0\x02\x0c\x01\x13\0\0\0\x02\0\0\0\0\x01\0\0\0\0\0\0\0n\0\0\0\x02\x0c\0";
+    b"\x01AIDPELL1\x02\0\0\0\0\0\0\x01\x18\0\0\0\0\0\0\0\0\x02\0\0\0\0\x01\0\0\0\0\0\0\0\x6e\0\0\0\x02\x0c\x01\x18\0\0\0\0\0\0\0\0\x02\0\0\0\0\x01\0\0\0\0\0\0\0\x6e\0\0\0\x02\x0c\0";
 
 const UNKNOWN: &[u8] =
-    b"\x01AIDPELL1\x01\0\0\0\0\0\0\x01\x13\0\0\0\x02\0\0\0\0\x01\0\0\0\0\0\0\0n\0\0\0\x02\x0c\x01\x19\0\0\0c\0\0\0\0\x02\0\0\0\0\0\0\0\x89\x13\0\0\0\0\0\0pd\x08\0\0";
+    b"\x01AIDPELL1\x02\0\0\0\0\0\0\x01\x18\0\0\0\0\0\0\0\0\x02\0\0\0\0\x01\0\0\0\0\0\0\0\x6e\0\0\0\x02\x0c\x01\x1e\0\0\0\0\0\0\0\0\x63\0\0\0\0\x02\0\0\0\0\0\0\0\x89\x13\0\0\0\0\0\0\x70\x64\x08\0\0";
 
 #[test]
 fn books_that_are_none(rt: HostRuntime) -> Result<(), Fail> {
@@ -169,7 +224,7 @@ fn disk_faults_end_a_run(rt: HostRuntime) -> Result<(), Fail> {
         assert_eq!(rt; status, 5, "call {call}");
         assert_eq!(rt; sink.text(), text.as_bytes(), "call {call}");
         let after = assert_runs(&rt, alloc, left.image(), &[("file", input, 0, again)])?;
-        assert!(rt; after.image().starts_with(&BOTH[..70]), "call {call}");
+        assert!(rt; after.image().starts_with(&BOTH[..80]), "call {call}");
         assert_eq!(rt; after.image().len(), size, "call {call}");
     }
     Ok(())
@@ -181,14 +236,14 @@ const TWO: &str = "prior,0,7,5007,1\nprior,0,8,5008,1\n";
 // length, one cuts off what stands behind it, and one syncs; the first filing is put by two calls, three more write the second
 // ahead, open the first's gate and keep both, and two open the second's.
 const DISK_FAULTS: [(&[u8], &str, u64, &str, &str, usize); 5] = [
-    (TORN, "", 4, "fault disk none\n", "", 71),
+    (TORN, "", 4, "fault disk none\n", "", 81),
     (
         BOTH,
         TWO,
         7,
         "fault disk none\n",
         "1 2 accepted 3 noted\n2 3 accepted 4 noted\n",
-        131,
+        151,
     ),
     (
         BOTH,
@@ -196,7 +251,7 @@ const DISK_FAULTS: [(&[u8], &str, u64, &str, &str, usize); 5] = [
         8,
         "fault disk 3\n",
         "1 2 accepted 3 noted\n2 3 accepted 4 noted\n",
-        131,
+        151,
     ),
     (
         BOTH,
@@ -204,7 +259,7 @@ const DISK_FAULTS: [(&[u8], &str, u64, &str, &str, usize); 5] = [
         9,
         "fault disk 3\n",
         "1 3 again 3 noted\n2 3 accepted 4 noted\n",
-        131,
+        151,
     ),
     (
         BOTH,
@@ -212,7 +267,7 @@ const DISK_FAULTS: [(&[u8], &str, u64, &str, &str, usize); 5] = [
         10,
         "1 2 accepted 3 noted\nfault disk 4\n",
         "1 3 again 3 noted\n2 3 accepted 4 noted\n",
-        131,
+        151,
     ),
 ];
 
@@ -235,8 +290,8 @@ const WRITE_FAULTS: [(&str, &[u8], u64, &str, usize); 8] = [
     ("check book", EMPTY, 1, "", 17),
     ("generate 7 1", EMPTY, 1, "", 17),
     ("fund 110 2025 1 600 level 50", EMPTY, 1, "", 17),
-    ("file", EMPTY, 1, "", 71),
-    ("file", EMPTY, 2, "1 0 accepted 1 noted\n", 71),
+    ("file", EMPTY, 1, "", 81),
+    ("file", EMPTY, 2, "1 0 accepted 1 noted\n", 81),
     ("found", b"", 1, "", 17),
     ("none", b"", 1, "", 0),
 ];

@@ -5,6 +5,7 @@ use aid_edges::{FreeGate, Gate, HoldGate, MemorySink, MemorySource, SteadySource
 use disk_model::MemoryDisk;
 use kept_session::INPUT_LIMIT;
 use run_office::{DeskInput, run_desks};
+use stamps::Stamp;
 use std::alloc::{AllocError, Global};
 use std::process::Abort;
 use std::sync::Wait;
@@ -80,12 +81,20 @@ fn assert_written<H: Threads + Wait + Abort + Sync>(
     Ok(after)
 }
 
+// A desk that files under the plain stamp.
+fn plain_desk<S>(input: S) -> DeskInput<S> {
+    DeskInput {
+        input,
+        stamp: Stamp::plain(),
+    }
+}
+
 // Two desks with these rows.
 fn two_desks(alloc: Global, rows: [&[u8]; 2]) -> Result<Vec<DeskInput<SteadySource>>, AllocError> {
     let [one, other] = rows;
     let one = SteadySource::new(one.to_vec(alloc)?);
     let other = SteadySource::new(other.to_vec(alloc)?);
-    Ok(vec![in alloc; DeskInput { input: one }, DeskInput { input: other }]?)
+    Ok(vec![in alloc; plain_desk(one), plain_desk(other)]?)
 }
 
 // The payments of 3,000 dollars that two schools file for the student, whose lifetime limit has room for one of them.
@@ -263,14 +272,14 @@ fn three_desks(
 ) -> Result<Vec<DeskInput<MemorySource>>, AllocError> {
     let first = good_desk(alloc)?;
     let third = good_desk(alloc)?;
-    Ok(vec![in alloc; first, DeskInput { input: between }, third]?)
+    Ok(vec![in alloc; first, plain_desk(between), third]?)
 }
 
 const GOOD: &[u8] = b"prior,0,2,5001,550000\n";
 
 fn good_desk(alloc: Global) -> Result<DeskInput<MemorySource>, AllocError> {
     let input = MemorySource::new(GOOD.to_vec(alloc)?, Vec::new(alloc));
-    Ok(DeskInput { input })
+    Ok(plain_desk(input))
 }
 
 #[test]
@@ -290,7 +299,7 @@ const UNFILED: [Unfiled; 8] = [
     (3, 2, BOTH, &[], 3, "fault read\n"),
     (1, 0, b"ten bytes.", &[], 6, "fault no office\n"),
     (1, 0, b"eighteen letters..", &[], 6, "fault not a journal\n"),
-    (2, 0, CUT, &[], 7, "fault damaged 40\n"),
+    (2, 0, CUT, &[], 7, "fault damaged 45\n"),
     (16, 0, BOTH, &[1], 4, ""),
     (3, 2, BOTH, &[1], 4, ""),
 ];
@@ -332,7 +341,7 @@ fn desks_of(
 // A desk whose input fails at the first call.
 fn bad_desk(alloc: Global) -> Result<DeskInput<MemorySource>, AllocError> {
     let input = MemorySource::new(GOOD.to_vec(alloc)?, vec![in alloc; 1]?);
-    Ok(DeskInput { input })
+    Ok(plain_desk(input))
 }
 
 // Two gates, each of which holds a desk up.
@@ -379,7 +388,7 @@ fn the_first_row_is_named(rt: HostRuntime) -> Result<(), Fail> {
         let mut desks = Vec::new(alloc);
         for row in rows {
             let input = SteadySource::new(row.to_vec(alloc)?);
-            desks.push(DeskInput { input })?;
+            desks.push(plain_desk(input))?;
         }
         let mut sink = MemorySink::new(alloc, Vec::new(alloc));
         let disk = disk(alloc, BOTH, &[8, 9], None)?;

@@ -35,11 +35,11 @@ use Rattle.headline.proofs.Facts.{above, answered, applied, days_in_order, fits,
 
 -- of what is filed with a key: the plain test, and no line broken
 abbrev Same : List Filing → Key → What → Type 0
-Same past key what = (nat_lt (length past) 200000 && may_file past key what) ≡ all_keep (rules_of past key what)
+Same past key what = (nat_lt (length past) 1000000 && may_file past key what) ≡ all_keep (rules_of past key what)
 
 -- the office isn't full, and what follows
-with_room : (past : List Filing) {x y : Bool} → x ≡ y → (nat_lt (length past) 200000 && x) ≡ (not (nat_le 200000 (length past)) && y)
-with_room past h = and_both (below (length past) 200000) h
+with_room : (past : List Filing) {x y : Bool} → x ≡ y → (nat_lt (length past) 1000000 && x) ≡ (not (nat_le 1000000 (length past)) && y)
+with_room past h = and_both (below (length past) 1000000) h
 
 known_school : (past : List Filing) (code : ℕ) → is_some (the_school past code) ≡ not (school_at past code == 0)
 known_school past code = answered (λ f. school_in code f.what) past

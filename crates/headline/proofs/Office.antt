@@ -1,7 +1,8 @@
 -- A file and a row, in the headline's words and in those of the kept office: both say the same.
-use Rattle.std.proofs.Common.{◌≡◌, ◌≢◌, ℕ, zero, suc, ◌+◌, refl, sym, ap, subst, ◌∙◌, Bool, true, false, List, [], ◌∷◌, ◌++◌, length, get_or, codes, append_assoc, Option, Some, None, Result, Ok, Err, All}
-use Rattle.std.specs.Prelude.{ℤ, decimal, is_none, if◌then◌else◌}
-use Rattle.std.specs.Int.{to_le_bytes, w32}
+use Rattle.std.proofs.Common.{◌≡◌, ◌≢◌, ◌⊎◌, inl, inr, ℕ, zero, suc, ◌+◌, ◌/◌, ◌%◌, ◌≤◌, arith, refl, sym, ap, subst, ◌∙◌, Bool, true, false, List, [], ◌∷◌, ◌++◌, length, get_or, codes, append_assoc, Option, Some, None, Result, Ok, Err, All}
+use Rattle.std.specs.Prelude.{ℤ, pos, neg_ℤ, ◌≤ℤ◌, decimal, is_none, option_map, if◌then◌else◌}
+use Rattle.std.specs.Int.{cast_unsigned, to_le_bytes, w32, w64}
+use Rattle.std.proofs.lemmas.Int.{ints}
 use Rattle.std.proofs.lemmas.List.Elements.{All-nil, All-cons, All-head, All-tail}
 use Rattle.aid_types.specs.declared.award.Refusal.{Refusal}
 use Rattle.aid_filings.specs.declared.filing.Filing.{Filing}
@@ -19,23 +20,33 @@ use Rattle.filing_journal.specs.Stands.{ArePayloads, body_of, front_of}
 use Rattle.filing_journal.specs.Header.{header_bytes}
 use Rattle.filing_journal.proofs.Gates.{front_of-push, payloads-push}
 use Rattle.filing_kinds.specs.declared.kind.Kind.{Kind}
-use Rattle.filing_numbers.specs.Numbers.{IsFiling, kind_of, numbers_of}
-use Rattle.headline.specs.Office.{Answered, Recovers, records_of}
+use Rattle.filing_numbers.specs.Numbers.{day_number, kind_of, numbers_of}
+use Rattle.headline.specs.AtOnce.{FilesUnder}
+use Rattle.headline.specs.Office.{Answered, AnsweredUnder, Recovers, records_of}
 use Rattle.headline.specs.Office.Answered.{accepted, again, refused, unread}
 use Rattle.kept_list.specs.Recovers.{AreEntries, payloads_of}
 use Rattle.kept_list.specs.Turns.{with_entry}
 use Rattle.kept_list.proofs.Histories.{recovers_once}
 use Rattle.kept_office.specs.Recovers as kept
 use Rattle.kept_office.specs.Scheme.{office_header, office_scheme}
-use Rattle.kept_office.specs.Turns.{asked as filing_asked, office_judging}
-use Rattle.kept_office.specs.OfficeLaws.{alone, keepable}
+use Rattle.kept_office.specs.Turns.{asked as office_asked, filing_added, filing_asked, filing_judging, office_judging}
+use Rattle.kept_office.specs.OfficeLaws.{office_alone, office_keepable}
 use Rattle.kept_list.specs.Texts.{after_row, row_line}
 use Rattle.run_rows.specs.Asks.{asked, desk_texts, said_by}
-use Rattle.office_history.specs.Answer.{IsLegal, answer_at, answer_new, breaks, is_admit, judged, outcome_at, outcome_of}
+use Rattle.stamps.specs.Stamps.{day_bytes, stamp_bytes}
+use Rattle.stamps.specs.declared.stamp.Stamp.{Stamp}
+use Rattle.stamped_list.specs.Entries.{entries, with_stamp}
+use Rattle.stamped_list.specs.Rows.{said_under, stamped_texts}
+use Rattle.stamped_list.specs.StampedLaws.{entries-added, length-entries}
+use Rattle.stamped_list.specs.declared.entry.StampedAsk.{StampedAsk}
+use Rattle.stamped_list.specs.declared.entry.StampedEntry.{StampedEntry}
+use Rattle.stamped_list.specs.declared.entry.StampedError.{StampedError}
+use Rattle.office_history.specs.Answer.{IsLegal, answer_to, answer_at, answer_new, breaks, is_admit, judged, outcome_at, outcome_of}
 use Rattle.office_history.specs.Past.{filing_at, first_of_two, key_at, same_filing}
 use Rattle.office_history.proofs.FirstFilings.{skipped}
 use Rattle.office_history.proofs.Recorded.{outcome_at-stays, same_itself}
-use Rattle.headline.specs.Written.{CanBeFiled, Files, kept_bytes}
+use Rattle.headline.specs.Written.{CanBeKept, Files, bytes_of, kept_bytes, lowest, stamped_bytes}
+use Rattle.headline.specs.Written.Number.{day}
 use Rattle.headline.proofs.FilingRanges.{can_be_filed, is_filing}
 use Rattle.headline.proofs.KeptFilings.{kept_is_spelling}
 use Rattle.headline.proofs.RowLaws.{error_named, row_means}
@@ -87,31 +98,60 @@ asks_nothing : (m : Result (Kind × List ℤ) RowError) → Ok None ≡ asked m 
 asks_nothing (Ok y) is = cc
 asks_nothing (Err e) is = cc
 
-entries : (history : List Filing) → All CanBeFiled history → AreEntries IsFiling history
-entries [] filed = tt
-entries (f ∷ past) filed = (entries past (All-tail CanBeFiled f past filed), is_filing f (All-head CanBeFiled f past filed))
+-- ---- what is kept of a filing with its stamp
+-- the four lowest bytes of a number in their range are its word's
+four : (z : ℤ) → neg_ℤ (pos 25567) ≤ℤ z → z ≤ℤ pos 2932896 → lowest 4 z ≡ to_le_bytes w32 (cast_unsigned w32 z)
+four z low high =
+    let whole = cast_unsigned w64 z in
+    let word = cast_unsigned w32 z in
+    let a : whole % 256 ≡ word % 256 = omega (arith, ints, low, high) in
+    let b : whole / 256 % 256 ≡ word / 256 % 256 = omega (arith, ints, low, high) in
+    let c : whole / 65536 % 256 ≡ word / 65536 % 256 = omega (arith, ints, low, high) in
+    let d : whole / 16777216 % 256 ≡ word / 16777216 % 256 = omega (arith, ints, low, high) in
+    λ i. a i ∷ b i ∷ c i ∷ d i ∷ []
 
-can_be_all : (history : List Filing) → AreEntries IsFiling history → All CanBeFiled history
-can_be_all [] are = All-nil CanBeFiled
-can_be_all (f ∷ past) are = All-cons CanBeFiled f past (can_be_filed f are.1) (can_be_all past are.0)
+day_is : (d : ℕ) → d ≤ 2958463 → bytes_of (day d) ≡ day_bytes d
+day_is d within = four (day_number d) (omega (arith, ints)) (omega (arith, ints))
 
-payloads : (history : List Filing) → AreEntries IsFiling history → ArePayloads (payloads_of spelling history)
+stamp_is : (s : Stamp) → s.day ≤ 2958463 → bytes_of (day s.day) ++ length s.clerk ∷ s.clerk ≡ stamp_bytes s
+stamp_is s within = ap (λ (l : List ℕ). l ++ length s.clerk ∷ s.clerk) (day_is s.day within)
+
+stamped_is : (e : StampedEntry Filing) → CanBeKept e → stamped_bytes e ≡ office_scheme.spelling e
+stamped_is e is =
+    sym (append_assoc (bytes_of (day e.stamp.day)) (length e.stamp.clerk ∷ e.stamp.clerk) (kept_bytes e.entry))
+    ∙ (λ i. stamp_is e.stamp is.0 i ++ kept_is_spelling e.entry is.2 i)
+
+to_entry : (e : StampedEntry Filing) → CanBeKept e → office_scheme.IsEntry e
+to_entry e is = (record { day = is.0; clerk = is.1 }, is_filing e.entry is.2)
+
+from_entry : (e : StampedEntry Filing) → office_scheme.IsEntry e → CanBeKept e
+from_entry e is = (is.0.day, is.0.clerk, can_be_filed e.entry is.1)
+
+all_entries : (history : List (StampedEntry Filing)) → All CanBeKept history → AreEntries office_scheme.IsEntry history
+all_entries [] filed = tt
+all_entries (e ∷ past) filed = (all_entries past (All-tail CanBeKept e past filed), to_entry e (All-head CanBeKept e past filed))
+
+can_be_all : (history : List (StampedEntry Filing)) → AreEntries office_scheme.IsEntry history → All CanBeKept history
+can_be_all [] are = All-nil CanBeKept
+can_be_all (e ∷ past) are = All-cons CanBeKept e past (from_entry e are.1) (can_be_all past are.0)
+
+payloads : (history : List (StampedEntry Filing)) → AreEntries office_scheme.IsEntry history → ArePayloads (payloads_of office_scheme.spelling history)
 payloads [] are = tt
-payloads (f ∷ past) are = payloads-push (payloads_of spelling past) (spelling f) (payloads past are.0) (keepable f are.1)
+payloads (e ∷ past) are = payloads-push (payloads_of office_scheme.spelling past) (office_scheme.spelling e) (payloads past are.0) (office_keepable e are.1)
 
 -- the records of a history stand behind the header
-fronts : (history : List Filing) → All CanBeFiled history → front_of office_header (payloads_of spelling history) ≡ header_bytes office_header ++ records_of history
+fronts : (history : List (StampedEntry Filing)) → All CanBeKept history → front_of office_header (payloads_of office_scheme.spelling history) ≡ header_bytes office_header ++ records_of history
 fronts [] filed = refl
-fronts (f ∷ past) filed =
-    front_of-push office_header (payloads_of spelling past) (spelling f)
-    ∙ ap (λ (l : List ℕ). l ++ 1 ∷ body_of (spelling f)) (fronts past (All-tail CanBeFiled f past filed))
-    ∙ append_assoc (header_bytes office_header) (records_of past) (1 ∷ body_of (spelling f))
-    ∙ ap (λ (l : List ℕ). header_bytes office_header ++ (records_of past ++ 1 ∷ body_of l)) (sym (kept_is_spelling f (All-head CanBeFiled f past filed)))
-    ∙ ap (λ (l : List ℕ). header_bytes office_header ++ l) (sym (append_assoc (records_of past) (1 ∷ to_le_bytes w32 (length (kept_bytes f))) (kept_bytes f)))
+fronts (e ∷ past) filed =
+    front_of-push office_header (payloads_of office_scheme.spelling past) (office_scheme.spelling e)
+    ∙ ap (λ (l : List ℕ). l ++ 1 ∷ body_of (office_scheme.spelling e)) (fronts past (All-tail CanBeKept e past filed))
+    ∙ append_assoc (header_bytes office_header) (records_of past) (1 ∷ body_of (office_scheme.spelling e))
+    ∙ ap (λ (l : List ℕ). header_bytes office_header ++ (records_of past ++ 1 ∷ body_of l)) (sym (stamped_is e (All-head CanBeKept e past filed)))
+    ∙ ap (λ (l : List ℕ). header_bytes office_header ++ l) (sym (append_assoc (records_of past) (1 ∷ to_le_bytes w32 (length (stamped_bytes e))) (stamped_bytes e)))
 
-pub to_kept : (file : List ℕ) (history : List Filing) → Recovers file history → kept.Recovers file history
+pub to_kept : (file : List ℕ) (history : List (StampedEntry Filing)) → Recovers file history → kept.Recovers file history
 to_kept file history r =
-    let are = entries history r.filed in
+    let are = all_entries history r.filed in
     record {
       stands = record {
         gate = r.gate;
@@ -121,10 +161,10 @@ to_kept file history r =
         sizes = payloads history are;
       };
       entries = are;
-      legal = admitted_legal history r.admitted;
+      legal = admitted_legal (entries history) r.admitted;
     }
 
-pub from_kept : (file : List ℕ) (history : List Filing) → kept.Recovers file history → Recovers file history
+pub from_kept : (file : List ℕ) (history : List (StampedEntry Filing)) → kept.Recovers file history → Recovers file history
 from_kept file history r =
     let filed = can_be_all history r.entries in
     record {
@@ -133,21 +173,36 @@ from_kept file history r =
       closed = r.stands.closed;
       whole = r.stands.whole ∙ ap (λ (l : List ℕ). l ++ r.stands.gate ∷ r.stands.free) (fronts history filed);
       filed = filed;
-      admitted = legal_admitted history r.legal;
+      admitted = legal_admitted (entries history) r.legal;
     }
 
 -- a file recovers one history at most
-pub one_history : (file : List ℕ) (one other : List Filing) → Recovers file one → Recovers file other → one ≡ other
-one_history file one other r s = recovers_once office_scheme alone file one other (to_kept file one r) (to_kept file other s)
+pub one_history : (file : List ℕ) (one other : List (StampedEntry Filing)) → Recovers file one → Recovers file other → one ≡ other
+one_history file one other r s = recovers_once office_scheme office_alone file one other (to_kept file one r) (to_kept file other s)
 
 -- a row whose meaning is a filing files it
 row_of : (number : ℕ) (row : List (List ℕ)) (f : Filing) → said_by (Ok (File f)) ≡ asked (row_meaning number row) → Files row f
 row_of number row f is = (row_means number row f).0 (meant (row_meaning number row) (kind_of f.what, numbers_of f) is)
 
-pub files_of : (number : ℕ) (row : List (List ℕ)) (ask : Ask) (f : Filing) → said_by (Ok ask) ≡ asked (row_meaning number row) → filing_asked ask ≡ Some f → Files row f
+files_of : (number : ℕ) (row : List (List ℕ)) (ask : Ask) (f : Filing) → said_by (Ok ask) ≡ asked (row_meaning number row) → filing_asked ask ≡ Some f → Files row f
 files_of number row (File g) f is asks = let same : g ≡ f = cc in subst (λ (x : Filing). Files row x) same (row_of number row g is)
 files_of number row (Quote school student year term) f is asks = absurd (asks_nothing (row_meaning number row) is)
 files_of number row (Standing student year) f is asks = absurd (asks_nothing (row_meaning number row) is)
+
+-- the same of an ask with a stamp
+abbrev pub row_asks : StampedAsk Ask → Result (StampedAsk Ask) (StampedError RowError)
+row_asks ask = Ok ask
+
+pub files_under : (number : ℕ) (row : List (List ℕ)) (stamp : Stamp) (ask : StampedAsk Ask) (e : StampedEntry Filing) → said_under said_by (row_asks ask) ≡ (asked (row_meaning number row), stamp)
+    → office_asked ask ≡ Some e → FilesUnder (stamp, row) e
+files_under number row stamp ask e is asks = go (filing_asked ask.ask) refl asks
+  where
+    go : (o : Option Filing) → filing_asked ask.ask ≡ o → option_map (with_stamp ask.stamp) o ≡ Some e → FilesUnder (stamp, row) e
+    go None told same = absurd (let bad : ⊥ = cc in bad)
+    go (Some f) told same =
+        let one : with_stamp ask.stamp f ≡ e = cc in
+        let files : Files row f = files_of number row ask.ask f (ap (λ m. m.0) is) told in
+        subst (λ (x : StampedEntry Filing). FilesUnder (stamp, row) x) one (files, ap (λ m. m.1) is)
 
 -- a row that is an error files nothing
 files_nothing : (number : ℕ) (row : List (List ℕ)) (e : RowError) → row_meaning number row ≡ Err e → (f : Filing) → Files row f → ⊥
@@ -176,9 +231,9 @@ module _ (past : List Filing) (legal : IsLegal past) (number : ℕ) (row : List 
       ap (λ (p : ℕ). line_of number (length past) (verdict.Again p (outcome_of s.older f))) (sym s.place) ∙ ap (λ o. line_of number (length past) (verdict.Again (suc n) o)) (sym (outcome_told past f (suc n) s)) in
       subst (λ (l : List ℕ). Answered past number row l past) line (again f s.newer s.older files s.whole)
 
--- the line that answers a row, and the history after it, are as its meaning says
-pub answered : (past : List Filing) (number : ℕ) (row : List (List ℕ)) (said : Result Ask RowError) → IsLegal past → said_by said ≡ asked (row_meaning number row)
-    → Answered past number row (row_line office_judging desk_texts past number said) (after_row office_judging past said)
+-- the line that answers a row, and the history after it, are as its meaning says, stamps apart
+answered : (past : List Filing) (number : ℕ) (row : List (List ℕ)) (said : Result Ask RowError) → IsLegal past → said_by said ≡ asked (row_meaning number row)
+    → Answered past number row (row_line filing_judging desk_texts past number said) (after_row filing_judging past said)
 answered past number row (Ok (File f)) legal is = by_filing past legal number row f (row_of number row f is) (filing_at f past) refl
 answered past number row (Ok (Quote school student year term)) legal is = absurd (asks_nothing (row_meaning number row) is)
 answered past number row (Ok (Standing student year)) legal is = absurd (asks_nothing (row_meaning number row) is)
@@ -187,3 +242,23 @@ answered past number row (Err e) legal is =
     let line : decimal number ++ codes " error " ++ decimal e.field ++ codes " " ++ decimal (number_of e.cause) ++ codes "\n" ≡ error_line e =
     ap (λ (n : ℕ). decimal n ++ codes " error " ++ decimal e.field ++ codes " " ++ decimal (number_of e.cause) ++ codes "\n") (sym (error_named number row e m)) in
     subst (λ (l : List ℕ). Answered past number row l past) line (unread e.field (number_of e.cause) (files_nothing number row e m))
+
+-- ---- with stamps
+-- what a row adds joins with its stamp, and the line is that of the filings alone
+pub answered_under : (stamp : Stamp) (past : List (StampedEntry Filing)) (number : ℕ) (row : List (List ℕ)) (said : Result (StampedAsk Ask) (StampedError RowError)) → IsLegal (entries past)
+    → said_under said_by said ≡ (asked (row_meaning number row), stamp)
+    → AnsweredUnder stamp past number row (row_line office_judging (stamped_texts desk_texts) past number said) (after_row office_judging past said)
+answered_under stamp past number row (Err e) legal is = (answered (entries past) number row (Err e.error) legal (ap (λ m. m.0) is), inl refl)
+answered_under stamp past number row (Ok ask) legal is =
+    let bare = answered (entries past) number row (Ok ask.ask) legal (ap (λ m. m.0) is) in
+    let line : line_of number (length (entries past)) (answer_to (entries past) ask.ask) ≡ line_of number (length past) (answer_to (entries past) ask.ask) =
+    ap (λ (n : ℕ). line_of number n (answer_to (entries past) ask.ask)) (length-entries past) in
+    let list : with_entry (filing_added (entries past) ask.ask) (entries past) ≡ entries (with_entry (option_map (with_stamp ask.stamp) (filing_added (entries past) ask.ask)) past) = sym (entries-added ask.stamp (filing_added (entries past) ask.ask) past) in (
+      subst (λ (l : List ℕ). Answered (entries past) number row l (entries (with_entry (option_map (with_stamp ask.stamp) (filing_added (entries past) ask.ask)) past))) line
+          (subst (λ (h : List Filing). Answered (entries past) number row (line_of number (length (entries past)) (answer_to (entries past) ask.ask)) h) list bare),
+      joins (filing_added (entries past) ask.ask),
+    )
+  where
+    joins : (added : Option Filing) → (with_entry (option_map (with_stamp ask.stamp) added) past ≡ past) ⊎ ((f : Filing) × (with_entry (option_map (with_stamp ask.stamp) added) past ≡ with_stamp stamp f ∷ past))
+    joins None = inl refl
+    joins (Some f) = inr (f, ap (λ (s : Stamp). with_stamp s f ∷ past) (ap (λ m. m.1) is))

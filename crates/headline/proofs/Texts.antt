@@ -89,7 +89,7 @@ date_of-text text d h =
     let number : days_from_civil (pos h.year) h.month h.day ≡ civil_number (pos h.year) h.month h.day = same_number h.year h.month h.day from h.is_date.day_from in
     let same : day_number d ≡ civil_number (pos h.year) h.month h.day =
     ap (λ (n : ℕ). day_number n) h.counted ∙ ap (λ (n : ℕ). pos (days_from_1900 h.year h.month h.day) -ℤ pos n) (sym epoch_from_1900) in
-    record { year = h.year; month = h.month; date = h.day; is_date = plain_date h.year h.month h.day h.is_date; counted = same ∙ sym number; written = h.spelled }
+    (h.year, h.month, h.day, plain_date h.year h.month h.day h.is_date, same ∙ sym number, h.spelled)
 
 counted_from : (d n : ℕ) → day_number d ≡ pos n -ℤ pos 25567 → d ≡ n
 counted_from d n h = omega (arith, ints, h)
@@ -99,17 +99,17 @@ year_same y z h = omega (arith, ints, h)
 
 text_of-date : (text : List ℕ) (d : ℕ) → IsDay (day_number d) → IsDateOf d text → IsDayText text d
 text_of-date text d within h =
-    let dated = dated_by_number (pos h.year) h.month h.date (day_number d) h.is_date (sym h.counted) within in
-    let year : h.year ≡ dated.y = year_same h.year dated.y dated.year_is in
-    let number : day_number d ≡ pos (days_from_1900 dated.y h.month h.date) -ℤ pos 25567 =
-    dated.value ∙ ap (λ (n : ℕ). pos (days_from_1900 dated.y h.month h.date) -ℤ pos n) epoch_from_1900 in
+    let dated = dated_by_number (pos h.0) h.1 h.2 (day_number d) h.3 (sym h.4) within in
+    let year : h.0 ≡ dated.y = year_same h.0 dated.y dated.year_is in
+    let number : day_number d ≡ pos (days_from_1900 dated.y h.1 h.2) -ℤ pos 25567 =
+    dated.value ∙ ap (λ (n : ℕ). pos (days_from_1900 dated.y h.1 h.2) -ℤ pos n) epoch_from_1900 in
     record {
       year = dated.y;
-      month = h.month;
-      day = h.date;
+      month = h.1;
+      day = h.2;
       is_date = dated.is_date;
-      spelled = h.written ∙ ap (λ (y : ℕ). date_text y h.month h.date) year;
-      counted = counted_from d (days_from_1900 dated.y h.month h.date) number;
+      spelled = h.5 ∙ ap (λ (y : ℕ). date_text y h.1 h.2) year;
+      counted = counted_from d (days_from_1900 dated.y h.1 h.2) number;
     }
 
 same_day : (m n : ℕ) → day_number m ≡ day_number n → m ≡ n
@@ -122,6 +122,10 @@ day_spelled text d h =
 
 day_read : (text : List ℕ) (d : ℕ) → IsDay (day_number d) → IsDateOf d text → number_in words_of_programs Day text ≡ Ok (day_number d)
 day_read text d within h = ap (result_map_both day_number (λ e. e)) (((IsDayReading-day_in text).ok d).1 (text_of-date text d within h))
+
+-- the text of a day that can be written, in the words of those who read it
+pub day_text_of : (text : List ℕ) (d : ℕ) → d ≤ 2958463 → IsDateOf d text → IsDayText text d
+day_text_of text d last dated = text_of-date text d (omega (arith, ints), omega (arith, ints, last)) dated
 
 -- a day has one text
 one_date : (one other : List ℕ) (d : ℕ) → d ≤ 2958463 → IsDateOf d one → IsDateOf d other → one ≡ other

@@ -3,55 +3,66 @@ use Rattle.std.specs.Prelude.{◌≡◌, ◌≢◌, ◌⊎◌, ℕ, ◌+◌, ◌
 use Rattle.aid_filings.specs.declared.filing.Filing.{Filing}
 use Rattle.disk_model.specs.Telling.{EachImage, EachMoment, Telling}
 use Rattle.headline.specs.Filed.{IsFault, Row}
-use Rattle.headline.specs.Office.{Answered, Recovers}
+use Rattle.headline.specs.Office.{AnsweredUnder, Recovers}
 use Rattle.kept_list.specs.declared.names.RowName.{RowName}
 use Rattle.office_lock.specs.Passes.{IsOlder}
 use Rattle.headline.specs.Written.{Files}
+use Rattle.stamps.specs.Stamps.{plain_stamp}
+use Rattle.stamps.specs.declared.stamp.Stamp.{Stamp}
+use Rattle.stamped_list.specs.declared.entry.StampedEntry.{StampedEntry}
+
+-- what a desk files: its stamp, and its rows
+abbrev pub DeskFiles : Type 0
+DeskFiles = Stamp × List Row
 
 -- Rows of a desk, the first of them with this number: each was answered on a history that goes on from the one that the desk had
 -- seen, and that history with what the row adds is the older part of the closed one. `by` names one row for each filing, by how
 -- many stood before it: a row that adds one is that row.
-pub data Replies (by : ℕ → RowName) (desk : ℕ) (closed : List Filing) : ℕ → List Row → List Filing → List ℕ → Type 0 where
-  none : (number : ℕ) (seen : List Filing) → Replies by desk closed number [] seen []
-  more : (number : ℕ) (row : Row) (rows : List Row) (seen past after : List Filing) (line text : List ℕ) → IsOlder seen past → Answered past number row line after
+pub data Replies (by : ℕ → RowName) (desk : ℕ) (stamp : Stamp) (closed : List (StampedEntry Filing)) : ℕ → List Row → List (StampedEntry Filing) → List ℕ → Type 0 where
+  none : (number : ℕ) (seen : List (StampedEntry Filing)) → Replies by desk stamp closed number [] seen []
+  more : (number : ℕ) (row : Row) (rows : List Row) (seen past after : List (StampedEntry Filing)) (line text : List ℕ) → IsOlder seen past → AnsweredUnder stamp past number row line after
       → (length past < length after → by (length past) ≡ record { desk = desk; row = number }) → IsOlder after closed
-      → Replies by desk closed (number + 1) rows after text → Replies by desk closed number (row ∷ rows) seen ((codes "desk " ++ decimal desk ++ codes " " ++ line) ++ text)
+      → Replies by desk stamp closed (number + 1) rows after text → Replies by desk stamp closed number (row ∷ rows) seen ((codes "desk " ++ decimal desk ++ codes " " ++ line) ++ text)
 
 -- the lines of a desk: for each row, or for those in front of one at which it stopped by a fault; then the status isn't 0
-pub record DeskText (by : ℕ → RowName) (desk : ℕ) (rows : List Row) (past closed : List Filing) (status : ℕ) (text : List ℕ) : Type 0 where
+pub record DeskText (by : ℕ → RowName) (desk : ℕ) (stamp : Stamp) (rows : List Row) (past closed : List (StampedEntry Filing)) (status : ℕ) (text : List ℕ) : Type 0 where
   pub answered : List Row
   pub left : List Row
   pub whole : rows ≡ answered ++ left
   pub lines : List ℕ
   pub stop : List ℕ
   pub written : text ≡ lines ++ stop
-  pub replies : Replies by desk closed 1 answered past lines
+  pub replies : Replies by desk stamp closed 1 answered past lines
   pub stops : ((left ≡ []) × (stop ≡ [])) ⊎ ((status ≢ 0) × (line : List ℕ) × IsFault line [] × (stop ≡ codes "desk " ++ decimal desk ++ codes " " ++ decimal (length answered + 1) ++ codes " " ++ line))
 
 -- the lines of all desks, in desk order, the first of them with this number
-pub data DeskTexts (by : ℕ → RowName) (past closed : List Filing) (status : ℕ) : ℕ → List (List Row) → List ℕ → Type 0 where
+pub data DeskTexts (by : ℕ → RowName) (past closed : List (StampedEntry Filing)) (status : ℕ) : ℕ → List DeskFiles → List ℕ → Type 0 where
   none : (desk : ℕ) → DeskTexts by past closed status desk [] []
-  more : (desk : ℕ) (rows : List Row) (inputs : List (List Row)) (text texts : List ℕ) → DeskText by desk rows past closed status text → DeskTexts by past closed status (desk + 1) inputs texts
-      → DeskTexts by past closed status desk (rows ∷ inputs) (text ++ texts)
+  more : (desk : ℕ) (input : DeskFiles) (inputs : List DeskFiles) (text texts : List ℕ) → DeskText by desk input.0 input.1 past closed status text
+      → DeskTexts by past closed status (desk + 1) inputs texts → DeskTexts by past closed status desk (input ∷ inputs) (text ++ texts)
 
--- the row that a name is of: desks and rows are numbered from 1
-abbrev pub row_at : List (List Row) → RowName → Row
-row_at inputs by = get_or ([] ∷ get_or ([] ∷ inputs) by.desk []) by.row []
+-- the stamp of the desk of a name, and the row that it is of: desks and rows are numbered from 1
+abbrev pub row_at : List DeskFiles → RowName → Stamp × Row
+row_at inputs by = let input = get_or ((plain_stamp, []) ∷ inputs) by.desk (plain_stamp, []) in (input.0, get_or ([] ∷ input.1) by.row [])
+
+-- such a row files this, under that stamp
+abbrev pub FilesUnder : Stamp × Row → StampedEntry Filing → Type 0
+FilesUnder at e = Files at.1 e.entry × (e.stamp ≡ at.0)
 
 -- A line `admitted POSITION D ROW` for each filing that was added behind so many, the oldest first: the row files it, and its own
 -- line, among those of all desks, says that it was accepted there, or that its desk stopped at it with this position in doubt.
-pub data Admitted (inputs : List (List Row)) (lines : List ℕ) : ℕ → List Filing → List ℕ → Type 0 where
+pub data Admitted (inputs : List DeskFiles) (lines : List ℕ) : ℕ → List (StampedEntry Filing) → List ℕ → Type 0 where
   none : (count : ℕ) → Admitted inputs lines count [] []
-  more : (count : ℕ) (f : Filing) (fs : List Filing) (by : RowName) (text front words behind : List ℕ) → Files (row_at inputs by) f
+  more : (count : ℕ) (f : StampedEntry Filing) (fs : List (StampedEntry Filing)) (by : RowName) (text front words behind : List ℕ) → FilesUnder (row_at inputs by) f
       → lines ≡ front ++ (codes "desk " ++ decimal by.desk ++ codes " " ++ decimal by.row ++ codes " " ++ words) ++ behind
       → (words ≡ decimal count ++ codes " accepted " ++ decimal (count + 1) ++ codes " ") ⊎ (words ≡ codes "fault disk " ++ decimal (count + 1) ++ codes "\n") → Admitted inputs lines (count + 1) fs text
       → Admitted inputs lines count (f ∷ fs) ((codes "admitted " ++ decimal (count + 1) ++ codes " " ++ decimal by.desk ++ codes " " ++ decimal by.row ++ codes "\n") ++ text)
 
 -- A run of many desks on a file that recovers a history: nothing was filed, or what the desks' rows added joins the history. Then each
 -- image recovers it, or, where the status isn't 0, it and the filing of one row more. The text is cut short only where the status is 4.
-pub data RanAtOnce (inputs : List (List Row)) (past : List Filing) (old new : Telling) : List ℕ → ℕ → Type 0 where
+pub data RanAtOnce (inputs : List DeskFiles) (past : List (StampedEntry Filing)) (old new : Telling) : List ℕ → ℕ → Type 0 where
   idle : (text cut : List ℕ) (status : ℕ) → IsFault text cut → (status ≢ 0) × (status ≢ 6) × (status ≢ 7) → EachMoment old new (λ file. Recovers file past) → RanAtOnce inputs past old new text status
-  filed : (by : ℕ → RowName) (added : List Filing) (lines admitted text cut : List ℕ) (status : ℕ) → DeskTexts by past (added ++ past) status 1 inputs lines → Admitted inputs lines (length past) (reverse added) admitted
+  filed : (by : ℕ → RowName) (added : List (StampedEntry Filing)) (lines admitted text cut : List ℕ) (status : ℕ) → DeskTexts by past (added ++ past) status 1 inputs lines → Admitted inputs lines (length past) (reverse added) admitted
       → text ++ cut ≡ lines ++ admitted → (status ≢ 4 → cut ≡ []) → (status ≢ 6) × (status ≢ 7)
-      → EachImage new (λ file. Recovers file (added ++ past) ⊎ ((status ≢ 0) × (f : Filing) × (by : RowName) × Files (row_at inputs by) f × Recovers file (f ∷ added ++ past)))
+      → EachImage new (λ file. Recovers file (added ++ past) ⊎ ((status ≢ 0) × (f : StampedEntry Filing) × (by : RowName) × FilesUnder (row_at inputs by) f × Recovers file (f ∷ added ++ past)))
       → RanAtOnce inputs past old new text status

@@ -1,28 +1,31 @@
 -- The office of a journal's file, and its answer to a row. A history is read from its newest filing.
-use Rattle.std.specs.Prelude.{◌≡◌, ◌≢◌, ℕ, ◌+◌, false, IsTrue, List, [], ◌∷◌, ◌++◌, codes, length, decimal}
+use Rattle.std.specs.Prelude.{◌≡◌, ◌≢◌, ◌⊎◌, ℕ, ◌+◌, false, IsTrue, List, [], ◌∷◌, ◌++◌, codes, length, decimal}
 use Rattle.std.specs.List.{All}
 use Rattle.std.specs.Int.{w32, to_le_bytes}
 use Rattle.aid_types.specs.declared.award.Refusal.{Refusal}
 use Rattle.aid_filings.specs.declared.filing.Filing.{Filing}
 use Rattle.office_history.specs.Answer.{outcome_of}
-use Rattle.headline.specs.Written.{CanBeFiled, Files, kept_bytes}
+use Rattle.stamped_list.specs.Entries.{entries}
+use Rattle.stamped_list.specs.declared.entry.StampedEntry.{StampedEntry}
+use Rattle.stamps.specs.declared.stamp.Stamp.{Stamp}
+use Rattle.headline.specs.Written.{CanBeKept, Files, stamped_bytes}
 use Rattle.headline.specs.Rules.{AreAdmitted, may_follow}
 use Rattle.desk_forms.specs.Replies.{refused_text, standing_text}
 
--- records, the oldest first: an open gate, the length of a filing's bytes in four bytes, and these
-abbrev pub records_of : List Filing → List ℕ
+-- records, the oldest first: an open gate, the length of what is kept of a filing in four bytes, and that
+abbrev pub records_of : List (StampedEntry Filing) → List ℕ
 records_of [] = []
-records_of (f ∷ past) = records_of past ++ 1 ∷ to_le_bytes w32 (length (kept_bytes f)) ++ kept_bytes f
+records_of (e ∷ past) = records_of past ++ 1 ∷ to_le_bytes w32 (length (stamped_bytes e)) ++ stamped_bytes e
 
 -- The file recovers this history: its header, the records, and then a gate that isn't open; what follows is free. Each filing
--- of the history can be filed, and was admitted on those before it.
-pub record Recovers (file : List ℕ) (history : List Filing) : Type 0 where
+-- of the history can be filed under its stamp, and was admitted on those before it.
+pub record Recovers (file : List ℕ) (history : List (StampedEntry Filing)) : Type 0 where
   pub gate : ℕ
   pub free : List ℕ
   pub closed : gate ≢ 1
-  pub whole : file ≡ 1 ∷ codes "AIDPELL1" ++ 1 ∷ 0 ∷ 0 ∷ 0 ∷ 0 ∷ 0 ∷ 0 ∷ records_of history ++ gate ∷ free
-  pub filed : All CanBeFiled history
-  pub admitted : AreAdmitted history
+  pub whole : file ≡ 1 ∷ codes "AIDPELL1" ++ 2 ∷ 0 ∷ 0 ∷ 0 ∷ 0 ∷ 0 ∷ 0 ∷ records_of history ++ gate ∷ free
+  pub filed : All CanBeKept history
+  pub admitted : AreAdmitted (entries history)
 
 -- The line that answers a row, the row's number counting from 1, and the history after it.
 pub data Answered (past : List Filing) (number : ℕ) (row : List (List ℕ)) : List ℕ → List Filing → Type 0 where
@@ -38,3 +41,7 @@ pub data Answered (past : List Filing) (number : ℕ) (row : List (List ℕ)) : 
   -- it files nothing
   unread : (field cause : ℕ) → ((f : Filing) → Files row f → ⊥)
       → Answered past number row (decimal number ++ codes " error " ++ decimal field ++ codes " " ++ decimal cause ++ codes "\n") past
+
+-- The same of filings with stamps: what joins has this stamp, and what stood keeps its own. Stamps are no part of an answer.
+abbrev pub AnsweredUnder : Stamp → List (StampedEntry Filing) → ℕ → List (List ℕ) → List ℕ → List (StampedEntry Filing) → Type 0
+AnsweredUnder stamp past number row line after = Answered (entries past) number row line (entries after) × ((after ≡ past) ⊎ ((f : Filing) × (after ≡ record { entry = f; stamp = stamp } ∷ past)))

@@ -117,7 +117,7 @@ may_file past key (Adjust a) =
 
 -- 90: the office isn't full, and what is filed may be
 abbrev pub may_follow : List Filing → Filing → Bool
-may_follow past f = nat_lt (length past) 200000 && may_file past f.key f.what
+may_follow past f = nat_lt (length past) 1000000 && may_file past f.key f.what
 
 -- each filing had a key of its own, and might follow those before it
 abbrev pub AreAdmitted : List Filing → Type 0

@@ -1,6 +1,6 @@
 -- How a filing is written in a row and kept in bytes, in few words. The program goes by its table of kinds; laws of this crate
 -- say that both come to the same. Own format.
-use Rattle.std.specs.Prelude.{◌≡◌, ◌<◌, ◌≤◌, ℕ, ℤ, pos, List, [], ◌∷◌, ◌++◌, codes, flat_map, length, map, slice_index_or, take}
+use Rattle.std.specs.Prelude.{◌≡◌, ◌≢◌, ◌⊎◌, ◌<◌, ◌≤◌, ℕ, ℤ, pos, List, [], ◌∷◌, ◌++◌, codes, flat_map, length, map, slice_index_or, take}
 use Rattle.std.specs.List.{All}
 use Rattle.std.specs.Int.{w64, to_le_bytes, cast_unsigned}
 use Rattle.jiff_core.specs.Calendar.{IsCivilDate, days_from_civil}
@@ -21,6 +21,10 @@ use Rattle.book_numbers.specs.Book.{age_row, bracket_row, ceiling_numbers, form_
 use Rattle.enrolment.specs.DayText.{date_text}
 use Rattle.filing_kinds.specs.Kinds.{words_of_programs}
 use Rattle.filing_numbers.specs.Numbers.{day_number, flag_number, region_number, side_numbers}
+use Rattle.stamps.specs.Clerks.{IsClerk}
+use Rattle.stamps.specs.Stamps.{plain_stamp}
+use Rattle.stamps.specs.declared.stamp.Stamp.{Stamp}
+use Rattle.stamped_list.specs.declared.entry.StampedEntry.{StampedEntry}
 
 -- a number of a filing, by how it is written and kept
 pub data Number : Type 0 where
@@ -48,13 +52,8 @@ bytes_of (day d) = lowest 4 (day_number d)
 bytes_of (word program) = lowest 1 (pos (rank program))
 
 -- the text is that of the day: year, month and day of the calendar (ISO 8601)
-pub record IsDateOf (day : ℕ) (text : List ℕ) : Type 0 where
-  pub year : ℕ
-  pub month : ℕ
-  pub date : ℕ
-  pub is_date : IsCivilDate (pos year) month date
-  pub counted : day_number day ≡ days_from_civil (pos year) month date
-  pub written : text ≡ date_text year month date
+abbrev pub IsDateOf : ℕ → List ℕ → Type 0
+IsDateOf d text = (y m date : ℕ) × IsCivilDate (pos y) m date × (day_number d ≡ days_from_civil (pos y) m date) × (text ≡ date_text y m date)
 
 -- the text spells the number
 abbrev pub Spells : Number → List ℕ → Type 0
@@ -149,6 +148,20 @@ HasLists _ = Unit {0}
 abbrev pub CanBeFiled : Filing → Type 0
 CanBeFiled f = All IsInRange (numbers_of f) × HasLists f.what
 
+-- ---- a filing with its stamp
+-- the bytes in which it is kept: its stamp's day, the length of the clerk's name, the name, and its own
+abbrev pub stamped_bytes : StampedEntry Filing → List ℕ
+stamped_bytes e = bytes_of (day e.stamp.day) ++ length e.stamp.clerk ∷ e.stamp.clerk ++ kept_bytes e.entry
+
+-- it can be filed, on a day that can be written and by a clerk that can be named
+abbrev pub CanBeKept : StampedEntry Filing → Type 0
+CanBeKept e = IsInRange (day e.stamp.day) × IsClerk e.stamp.clerk × CanBeFiled e.entry
+
+-- Words say the rest behind a stamp: behind `at`, its day and its clerk's name, or, under the plain stamp, nothing else.
+abbrev pub Says : Stamp → List (List ℕ) → List (List ℕ) → Type 0
+Says s rest words = ((s ≡ plain_stamp) × (words ≡ rest)) ⊎ (IsInRange (day s.day) × IsClerk s.clerk × (s.clerk ≢ []) × (text : List ℕ) × IsDateOf s.day text × (words ≡ codes "at" ∷ text ∷ s.clerk ∷ rest))
+
+-- ---- texts
 -- texts that spell these numbers, one for each
 abbrev pub Spell : List Number → List (List ℕ) → Type 0
 Spell [] [] = Unit {0}

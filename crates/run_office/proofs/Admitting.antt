@@ -1,6 +1,6 @@
 -- The rows that file what many desks added.
-use Rattle.std.proofs.Common.{◌≡◌, ◌⊎◌, inl, inr, ⊎_elim, ℕ, zero, suc, ◌+◌, ◌-◌, ◌<◌, Bool, true, false, List, [], ◌∷◌, ◌++◌, Option, Some, None, Result, Ok, Err, length, map, reverse, get_or, length-append, append_assoc, append-nil, refl, sym, ap, ap₂, ◌∙◌, subst, arith}
-use Rattle.std.specs.Prelude.{Contains, codes, decimal, if◌then◌else◌}
+use Rattle.std.proofs.Common.{◌≡◌, ◌⊎◌, inl, inr, ⊎_elim, ℕ, zero, suc, ◌+◌, ◌-◌, ◌<◌, List, [], ◌∷◌, ◌++◌, Option, Some, None, Result, Ok, Err, length, map, reverse, get_or, length-append, append_assoc, append-nil, refl, sym, ap, ap₂, ◌∙◌, subst, arith}
+use Rattle.std.specs.Prelude.{Contains, codes, decimal, option_map, if◌then◌else◌}
 use Rattle.std.proofs.lemmas.List.{get_or-reverse, get_or_append_left, get_or_at, length-map, length-reverse}
 use mathlib.Core.List.{reverse_aux}
 use Rattle.std.proofs.lemmas.List.Elements.{Contains-append_cases}
@@ -11,7 +11,7 @@ use Rattle.aid_filings.specs.declared.reply.Verdict.{Verdict}
 use Rattle.aid_filings.specs.declared.reply.Verdict.TheVariants as verdict
 use Rattle.desk_forms.specs.Rows.{meanings_from, row_meaning}
 use Rattle.field_rows.specs.declared.error.RowError.{RowError}
-use Rattle.headline.specs.AtOnce.{Admitted, row_at}
+use Rattle.headline.specs.AtOnce.{Admitted, DeskFiles, FilesUnder, row_at}
 use Rattle.headline.specs.AtOnce as many
 use Rattle.headline.specs.Filed.{Row}
 use Rattle.kept_desks.specs.Answered.{Answer, admitted_of, admitted_row, answer_lines, placed}
@@ -21,59 +21,63 @@ use Rattle.kept_list.specs.declared.names.Filed.{Filed}
 use Rattle.kept_list.specs.declared.names.RowName.{RowName}
 use Rattle.kept_desks.specs.declared.stop.DeskEnd.{DeskEnd}
 use Rattle.kept_desks.specs.declared.stop.DeskStop.TheVariants.{DiskFault}
-use Rattle.kept_office.specs.Turns.{asked as filing_asked, office_judging}
+use Rattle.kept_office.specs.OwnLaws.{own_added as plainly_added}
+use Rattle.kept_office.specs.Turns.{asked as filing_asked, filing_asked as plainly_asked, filing_judging, office_judging}
+use Rattle.stamped_list.specs.OwnLaws.{own_added as stamped_added}
 use Rattle.kept_list.specs.Texts.{row_line}
 use Rattle.run_rows.specs.Asks.{asked, desk_texts, said_by}
 use Rattle.office_history.specs.Answer.{answer_to, is_admit}
 use Rattle.office_lock.specs.Passes.{numbered}
 use Rattle.office_lock.specs.declared.turned.Stand.{Stand}
-use Rattle.headline.specs.Written.{Files}
-use Rattle.headline.proofs.Office.{files_of}
+use Rattle.headline.proofs.Office.{files_under}
+use Rattle.stamped_list.specs.Entries.{entries, with_stamp}
+use Rattle.stamped_list.specs.Rows.{said_under, stamped_rows, stamped_texts}
+use Rattle.stamped_list.specs.declared.entry.StampedAsk.{StampedAsk}
+use Rattle.stamped_list.specs.declared.entry.StampedEntry.{StampedEntry}
+use Rattle.stamped_list.specs.declared.entry.StampedError.{StampedError}
+use Rattle.stamps.specs.declared.stamp.Stamp.{Stamp}
 use Rattle.run_office.specs.DeskTexts.{admitted_text, desk_prefix, desks_text, stop_line, stop_words}
 use Rattle.run_office.specs.DesksDone.{HasNamed, by_answer, by_stop}
 use Rattle.run_office.specs.Names.{names_of}
 use Rattle.run_office.specs.RanDesks.{FilesOwn, View}
 use Rattle.run_office.proofs.NameLists.{entries_told, length-told, rows_told, told_all, told_at, told_by}
-use Rattle.run_office.proofs.Replies.{IsOf, fault_of, stop_begins}
+use Rattle.run_office.proofs.Replies.{IsOf, fault_of, no_files, said_in, stop_begins}
 
 -- each row that was taken says what it means
-said_at : (number : ℕ) (rows : List Row) (taken : List (Result Ask RowError)) (rest : List desk_texts.Meaning) (i : ℕ) (s : Result Ask RowError)
-    → map asked (meanings_from number rows) ≡ map said_by taken ++ rest → i < length taken → said_by (get_or taken i s) ≡ asked (row_meaning (number + i) (get_or rows i []))
-said_at number rows [] rest i s is lt = absurd (omega (arith, lt))
-said_at number [] (t ∷ taken) rest i s is lt = absurd (let bad : ⊥ = cc in bad)
-said_at number (row ∷ rows) (t ∷ taken) rest zero s is lt =
-    let here : said_by t ≡ asked (row_meaning number row) = cc in
-    here ∙ ap (λ (n : ℕ). asked (row_meaning n row)) (let same : number ≡ number + 0 = omega arith in same)
-said_at number (row ∷ rows) (t ∷ taken) rest (suc i) s is lt =
-    let more : map asked (meanings_from (suc number) rows) ≡ map said_by taken ++ rest = cc in
-    said_at (suc number) rows taken rest i s more (omega (arith, lt)) ∙ ap (λ (n : ℕ). asked (row_meaning n (get_or rows i []))) (let same : suc number + i ≡ number + suc i = omega arith in same)
+said_at : (stamp : Stamp) (number : ℕ) (rows : List Row) (taken : List (Result (StampedAsk Ask) (StampedError RowError))) (rest : List (stamped_texts desk_texts).Meaning) (i : ℕ) (s : Result (StampedAsk Ask) (StampedError RowError))
+    → stamped_rows stamp (map asked (meanings_from number rows)) ≡ map (said_under said_by) taken ++ rest → i < length taken
+    → said_under said_by (get_or taken i s) ≡ (asked (row_meaning (number + i) (get_or rows i [])), stamp)
+said_at stamp number rows [] rest i s is lt = absurd (omega (arith, lt))
+said_at stamp number [] (t ∷ taken) rest i s is lt = absurd (let bad : ⊥ = cc in bad)
+said_at stamp number (row ∷ rows) (t ∷ taken) rest zero s is lt =
+    let here : said_under said_by t ≡ (asked (row_meaning number row), stamp) = cc in
+    here ∙ ap (λ (n : ℕ). (asked (row_meaning n row), stamp)) (let same : number ≡ number + 0 = omega arith in same)
+said_at stamp number (row ∷ rows) (t ∷ taken) rest (suc i) s is lt =
+    let more : stamped_rows stamp (map asked (meanings_from (suc number) rows)) ≡ map (said_under said_by) taken ++ rest = cc in
+    said_at stamp (suc number) rows taken rest i s more (omega (arith, lt)) ∙ ap (λ (n : ℕ). (asked (row_meaning n (get_or rows i [])), stamp)) (let same : suc number + i ≡ number + suc i = omega arith in same)
 
 -- a filing that was added past others is that which was asked
-asked_of : (past : List Filing) (ask : Ask) (f : Filing) → office_judging.added past ask ≡ Some f → filing_asked ask ≡ Some f
-asked_of past ask f = go (is_admit (answer_to past ask))
-  where
-    go : (b : Bool) → (if b then filing_asked ask else None) ≡ Some f → filing_asked ask ≡ Some f
-    go true is = is
-    go false is = absurd (let bad : ⊥ = cc in bad)
+asked_of : (past : List (StampedEntry Filing)) (ask : StampedAsk Ask) (f : StampedEntry Filing) → office_judging.added past ask ≡ Some f → filing_asked ask ≡ Some f
+asked_of past ask f = stamped_added filing_judging plainly_asked plainly_added past ask f
 
 -- what an ask adds has its place and its row
-in_placed : (position : ℕ) (o : Option Filing) (by : RowName) (entry : ℕ × Filed Filing) → Contains (placed position o by) entry → (o ≡ Some entry.1.entry) × (entry.0 ≡ position) × (entry.1.by ≡ by)
+in_placed : (position : ℕ) (o : Option (StampedEntry Filing)) (by : RowName) (entry : ℕ × Filed (StampedEntry Filing)) → Contains (placed position o by) entry → (o ≡ Some entry.1.entry) × (entry.0 ≡ position) × (entry.1.by ≡ by)
 in_placed position None by entry (k, lt, is) = absurd (omega (arith, lt))
-in_placed position (Some f) by entry (zero, lt, is) = (ap (λ (p : ℕ × Filed Filing). Some p.1.entry) is, sym (ap (λ (p : ℕ × Filed Filing). p.0) is), sym (ap (λ (p : ℕ × Filed Filing). p.1.by) is))
+in_placed position (Some f) by entry (zero, lt, is) = (ap (λ (p : ℕ × Filed (StampedEntry Filing)). Some p.1.entry) is, sym (ap (λ (p : ℕ × Filed (StampedEntry Filing)). p.0) is), sym (ap (λ (p : ℕ × Filed (StampedEntry Filing)). p.1.by) is))
 in_placed position (Some f) by entry (suc k, lt, is) = absurd (omega (arith, lt))
 
 -- the row of one answer that admits an entry
-row_admits : (by : RowName) (past : List Filing) (row : Result Ask RowError) (entry : ℕ × Filed Filing) → Contains (admitted_row office_judging by past row) entry
-    → (ask : Ask) × (row ≡ Ok ask) × (filing_asked ask ≡ Some entry.1.entry) × (entry.1.by ≡ by)
+row_admits : (by : RowName) (past : List (StampedEntry Filing)) (row : Result (StampedAsk Ask) (StampedError RowError)) (entry : ℕ × Filed (StampedEntry Filing)) → Contains (admitted_row office_judging by past row) entry
+    → (ask : StampedAsk Ask) × (row ≡ Ok ask) × (filing_asked ask ≡ Some entry.1.entry) × (entry.1.by ≡ by)
 row_admits by past (Err error) entry (k, lt, is) = absurd (omega (arith, lt))
 row_admits by past (Ok ask) entry has = let (added, at, own) = in_placed (length past + 1) (office_judging.added past ask) by entry has in (ask, refl, asked_of past ask entry.1.entry added, own)
 
 -- an answer that admits an entry has its place among the answers
-abbrev AdmitsAt : ℕ → ℕ → List (Answer Filing Ask RowError) → ℕ × Filed Filing → Type 0
-AdmitsAt desk number answers entry = (i : ℕ) × (ask : Ask) × (i < length answers) × (get_or (map (λ (a : Answer Filing Ask RowError). a.row) answers) i (Ok ask) ≡ Ok ask)
+abbrev AdmitsAt : ℕ → ℕ → List (Answer (StampedEntry Filing) (StampedAsk Ask) (StampedError RowError)) → ℕ × Filed (StampedEntry Filing) → Type 0
+AdmitsAt desk number answers entry = (i : ℕ) × (ask : StampedAsk Ask) × (i < length answers) × (get_or (map (λ (a : Answer (StampedEntry Filing) (StampedAsk Ask) (StampedError RowError)). a.row) answers) i (Ok ask) ≡ Ok ask)
     × (filing_asked ask ≡ Some entry.1.entry) × (entry.1.by.desk ≡ desk) × (entry.1.by.row ≡ number + i)
 
-first_or_later : (desk number : ℕ) (a : Answer Filing Ask RowError) (answers : List (Answer Filing Ask RowError)) (entry : ℕ × Filed Filing)
+first_or_later : (desk number : ℕ) (a : Answer (StampedEntry Filing) (StampedAsk Ask) (StampedError RowError)) (answers : List (Answer (StampedEntry Filing) (StampedAsk Ask) (StampedError RowError))) (entry : ℕ × Filed (StampedEntry Filing))
     → (Contains (admitted_of office_judging desk (number + 1) answers) entry → AdmitsAt desk (number + 1) answers entry)
     → Contains (admitted_row office_judging (record { desk = desk; row = number }) a.past a.row) entry ⊎ Contains (admitted_of office_judging desk (number + 1) answers) entry
     → AdmitsAt desk number (a ∷ answers) entry
@@ -85,41 +89,45 @@ first_or_later desk number a answers entry more (inr later) =
     let (i, ask, lt, is, files, of, row) = more later in
     (suc i, ask, omega (arith, lt), is, files, of, omega (arith, row))
 
-pub admits_at : (desk number : ℕ) (answers : List (Answer Filing Ask RowError)) (entry : ℕ × Filed Filing) → Contains (admitted_of office_judging desk number answers) entry → AdmitsAt desk number answers entry
+pub admits_at : (desk number : ℕ) (answers : List (Answer (StampedEntry Filing) (StampedAsk Ask) (StampedError RowError))) (entry : ℕ × Filed (StampedEntry Filing)) → Contains (admitted_of office_judging desk number answers) entry → AdmitsAt desk number answers entry
 admits_at desk number [] entry (k, lt, is) = absurd (omega (arith, lt))
 admits_at desk number (a ∷ answers) entry has =
     first_or_later desk number a answers entry (admits_at desk (number + 1) answers entry)
     (Contains-append_cases (admitted_row office_judging (record { desk = desk; row = number }) a.past a.row) (admitted_of office_judging desk (number + 1) answers) entry has)
 
 -- ---- a row files what it added
-files_at : (inputs : List (List Row)) (by : RowName) (k i : ℕ) (ask : Ask) (f : Filing) (taken : List (Result Ask RowError)) (rest : List desk_texts.Meaning)
+files_at : (inputs : List DeskFiles) (by : RowName) (k i : ℕ) (ask : StampedAsk Ask) (f : StampedEntry Filing) (taken : List (Result (StampedAsk Ask) (StampedError RowError))) (rest : List (stamped_texts desk_texts).Meaning)
     → by.desk ≡ k + 1 → by.row ≡ i + 1 → i < length taken → get_or taken i (Ok ask) ≡ Ok ask → filing_asked ask ≡ Some f
-    → map asked (meanings_from 1 (get_or inputs k [])) ≡ map said_by taken ++ rest → Files (row_at inputs by) f
+    → said_in (get_or inputs k no_files) ≡ map (said_under said_by) taken ++ rest → FilesUnder (row_at inputs by) f
 files_at inputs by k i ask f taken rest desk row lt at files is =
-    subst (λ (r : Row). Files r f) (ap₂ (λ (m n : ℕ). get_or ([] ∷ get_or ([] ∷ inputs) m []) n []) (let d : suc k ≡ by.desk = omega (arith, desk) in d) (let r : suc i ≡ by.row = omega (arith, row) in r))
-    (files_of (1 + i) (get_or (get_or inputs k []) i []) ask f (ap said_by (sym at) ∙ said_at 1 (get_or inputs k []) taken rest i (Ok ask) is lt) files)
+    let own = get_or inputs k no_files in
+    subst (λ (r : Stamp × Row). FilesUnder r f) (ap₂ named (let d : suc k ≡ by.desk = omega (arith, desk) in d) (let r : suc i ≡ by.row = omega (arith, row) in r))
+    (files_under (1 + i) (get_or own.1 i []) own.0 ask f (ap (said_under said_by) (sym at) ∙ said_at own.0 1 own.1 taken rest i (Ok ask) is lt) files)
+  where
+    named : ℕ → ℕ → Stamp × Row
+    named m n = row_at inputs (record { desk = m; row = n })
 
-pub row_files : {opening : Stand (Filed Filing)} (inputs : List (List Row)) (k : ℕ) (before after : View) (own : FilesOwn opening before after) (entry : ℕ × Filed Filing)
-    → IsOf (k + 1) (get_or inputs k []) before → HasNamed own entry → Files (row_at inputs entry.1.by) entry.1.entry
+pub row_files : {opening : Stand (Filed (StampedEntry Filing))} (inputs : List DeskFiles) (k : ℕ) (before after : View) (own : FilesOwn opening before after) (entry : ℕ × Filed (StampedEntry Filing))
+    → IsOf (k + 1) (get_or inputs k no_files) before → HasNamed own entry → FilesUnder (row_at inputs entry.1.by) entry.1.entry
 row_files inputs k before after own entry of (by_answer has) =
     let (i, ask, lt, is, files, desk, row) = admits_at before.number 1 own.files.answers entry has in
-    let rows = map (λ (a : Answer Filing Ask RowError). a.row) own.files.answers in
-    let many : length rows ≡ length own.files.answers = length-map own.files.answers (λ (a : Answer Filing Ask RowError). a.row) in
+    let rows = map (λ (a : Answer (StampedEntry Filing) (StampedAsk Ask) (StampedError RowError)). a.row) own.files.answers in
+    let many : length rows ≡ length own.files.answers = length-map own.files.answers (λ (a : Answer (StampedEntry Filing) (StampedAsk Ask) (StampedError RowError)). a.row) in
     files_at inputs entry.1.by k i ask entry.1.entry (rows ++ own.files.taken) own.files.rest (desk ∙ of.numbered) (omega (arith, row))
     (omega (arith, lt, many, length-append rows own.files.taken)) (get_or_append_left rows own.files.taken (Ok ask) i (omega (arith, lt, many)) ∙ is) files
     (sym of.rows_are ∙ own.files.split)
 row_files inputs k before after own entry of (by_stop left) =
     let ask = left.ask in
     let by = left.by in
-    let rows = map (λ (a : Answer Filing Ask RowError). a.row) own.files.answers in
-    let many : length rows ≡ length own.files.answers = length-map own.files.answers (λ (a : Answer Filing Ask RowError). a.row) in
+    let rows = map (λ (a : Answer (StampedEntry Filing) (StampedAsk Ask) (StampedError RowError)). a.row) own.files.answers in
+    let many : length rows ≡ length own.files.answers = length-map own.files.answers (λ (a : Answer (StampedEntry Filing) (StampedAsk Ask) (StampedError RowError)). a.row) in
     let all : rows ++ own.files.taken ≡ rows ++ Ok ask ∷ [] = ap (λ l. rows ++ l) left.taken in
     let desk : entry.1.by.desk ≡ before.number = ap (λ (r : RowName). r.desk) by in
     let row : entry.1.by.row ≡ after.answered + 1 = ap (λ (r : RowName). r.row) by in
     let counted = own.files.counted in
     files_at inputs entry.1.by k (length rows) ask entry.1.entry (rows ++ Ok ask ∷ []) own.files.rest (desk ∙ of.numbered) (omega (arith, row, counted, many))
     (omega (arith, length-append rows (Ok ask ∷ []))) (get_or_at rows (Ok ask) [] (Ok ask) (length rows) refl) left.files
-    (sym of.rows_are ∙ (own.files.split ∙ ap (λ l. map said_by l ++ own.files.rest) all))
+    (sym of.rows_are ∙ (own.files.split ∙ ap (λ l. map (said_under said_by) l ++ own.files.rest) all))
 
 -- ---- the line of a row tells of what it added
 -- in a text a row's line says that the row was accepted behind so many, or that its desk stopped at it with the next position in doubt
@@ -167,15 +175,15 @@ accepted_parted : (prefix : List ℕ) (number front : ℕ) (outcome : Outcome)
 accepted_parted prefix number front outcome = (_, parted prefix (decimal number) (codes " ") (decimal front) (codes " accepted ") (decimal (front + 1)) (codes " ") _ (codes "\n"))
 
 -- the line of a row that was accepted
-accepted_shown : (desk number count : ℕ) (past : List Filing) (row : Result Ask RowError) (entry : ℕ × Filed Filing) → entry.0 ≡ count + 1
-    → Contains (admitted_row office_judging (record { desk = desk; row = number }) past row) entry → IsShown (desk_prefix desk ++ row_line office_judging desk_texts past number row) entry.1.by count
+accepted_shown : (desk number count : ℕ) (past : List (StampedEntry Filing)) (row : Result (StampedAsk Ask) (StampedError RowError)) (entry : ℕ × Filed (StampedEntry Filing)) → entry.0 ≡ count + 1
+    → Contains (admitted_row office_judging (record { desk = desk; row = number }) past row) entry → IsShown (desk_prefix desk ++ row_line office_judging (stamped_texts desk_texts) past number row) entry.1.by count
 accepted_shown desk number count past (Err error) entry at (k, lt, is) = absurd (omega (arith, lt))
-accepted_shown desk number count past (Ok ask) entry at has = go (answer_to past ask) has
+accepted_shown desk number count past (Ok ask) entry at has = go (answer_to (entries past) ask.ask) has
   where
     own : RowName
     own = record { desk = desk; row = number }
 
-    go : (v : Verdict) → Contains (placed (length past + 1) (if is_admit v then filing_asked ask else None) own) entry → IsShown (desk_prefix desk ++ desk_texts.answer_line number (length past) v) entry.1.by count
+    go : (v : Verdict) → Contains (placed (length past + 1) (option_map (with_stamp ask.stamp) (if is_admit v then plainly_asked ask.ask else None)) own) entry → IsShown (desk_prefix desk ++ desk_texts.answer_line number (length past) v) entry.1.by count
     go (verdict.Admit outcome) there =
         let (files, place, by) = in_placed (length past + 1) (filing_asked ask) own entry there in
         let same : length past ≡ count = omega (arith, at, place) in
@@ -192,8 +200,8 @@ accepted_shown desk number count past (Ok ask) entry at has = go (answer_to past
     go (verdict.Quoted cents) (k, lt, is) = absurd (omega (arith, lt))
     go (verdict.Standing place) (k, lt, is) = absurd (omega (arith, lt))
 
-answers_shown : (desk number count : ℕ) (answers : List (Answer Filing Ask RowError)) (entry : ℕ × Filed Filing) → entry.0 ≡ count + 1
-    → Contains (admitted_of office_judging desk number answers) entry → IsShown (answer_lines office_judging desk_texts (desk_prefix desk) number answers) entry.1.by count
+answers_shown : (desk number count : ℕ) (answers : List (Answer (StampedEntry Filing) (StampedAsk Ask) (StampedError RowError))) (entry : ℕ × Filed (StampedEntry Filing)) → entry.0 ≡ count + 1
+    → Contains (admitted_of office_judging desk number answers) entry → IsShown (answer_lines office_judging (stamped_texts desk_texts) (desk_prefix desk) number answers) entry.1.by count
 answers_shown desk number count [] entry at (k, lt, is) = absurd (omega (arith, lt))
 answers_shown desk number count (a ∷ answers) entry at has =
     ⊎_elim (λ here. shown_left line behind entry.1.by count (accepted_shown desk number count a.past a.row entry at here))
@@ -201,21 +209,21 @@ answers_shown desk number count (a ∷ answers) entry at has =
     (Contains-append_cases (admitted_row office_judging (record { desk = desk; row = number }) a.past a.row) (admitted_of office_judging desk (number + 1) answers) entry has)
   where
     line : List ℕ
-    line = desk_prefix desk ++ row_line office_judging desk_texts a.past number a.row
+    line = desk_prefix desk ++ row_line office_judging (stamped_texts desk_texts) a.past number a.row
 
     behind : List ℕ
-    behind = answer_lines office_judging desk_texts (desk_prefix desk) (number + 1) answers
+    behind = answer_lines office_judging (stamped_texts desk_texts) (desk_prefix desk) (number + 1) answers
 
 -- what a desk wrote
 abbrev text_of : View → List ℕ
 text_of d = desk_text (stop_line d.prefix) d
 
-desk_shown : {opening : Stand (Filed Filing)} (number count : ℕ) (rows : List Row) (before after : View) (own : FilesOwn opening before after) (entry : ℕ × Filed Filing)
+desk_shown : {opening : Stand (Filed (StampedEntry Filing))} (number count : ℕ) (rows : DeskFiles) (before after : View) (own : FilesOwn opening before after) (entry : ℕ × Filed (StampedEntry Filing))
     → IsOf number rows before → HasNamed own entry → entry.0 ≡ count + 1 → IsShown (text_of after) entry.1.by count
 desk_shown number count rows before after own entry of (by_answer has) at =
     let prefix : before.prefix ≡ desk_prefix before.number = of.prefix ∙ ap desk_prefix (sym of.numbered) in
     shown_left after.text (stop_text (stop_line after.prefix) (stop_at after.number after.answered after.ended)) entry.1.by count
-    (subst (λ t. IsShown t entry.1.by count) (sym (own.files.text ∙ ap (λ p. answer_lines office_judging desk_texts p 1 own.files.answers) prefix))
+    (subst (λ t. IsShown t entry.1.by count) (sym (own.files.text ∙ ap (λ p. answer_lines office_judging (stamped_texts desk_texts) p 1 own.files.answers) prefix))
     (answers_shown before.number 1 count own.files.answers entry at has))
 desk_shown number count rows before after own entry of (by_stop left) at =
     shown_right after.text (stop_text (stop_line after.prefix) (stop_at after.number after.answered after.ended)) entry.1.by count
@@ -237,15 +245,15 @@ all_shown (x ∷ desks) zero d by count lt s = shown_left (text_of x) (desks_tex
 all_shown (x ∷ desks) (suc k) d by count lt s = shown_right (text_of x) (desks_text desks) by count (all_shown desks k d by count (omega (arith, lt)) s)
 
 -- a row that is named files what it added, and its line shows it
-pub record IsOwn (inputs : List (List Row)) (lines : List ℕ) (f : Filed Filing) (count : ℕ) : Type 0 where
-  pub files : Files (row_at inputs f.by) f.entry
+pub record IsOwn (inputs : List DeskFiles) (lines : List ℕ) (f : Filed (StampedEntry Filing)) (count : ℕ) : Type 0 where
+  pub files : FilesUnder (row_at inputs f.by) f.entry
   pub shown : IsShown lines f.by count
 
-pub row_shown : {opening : Stand (Filed Filing)} (inputs : List (List Row)) (desks : List View) (k count : ℕ) (before x : View) (own : FilesOwn opening before (get_or desks k x)) (entry : ℕ × Filed Filing)
-    → k < length desks → IsOf (k + 1) (get_or inputs k []) before → HasNamed own entry → entry.0 ≡ count + 1 → IsOwn inputs (desks_text desks) entry.1 count
+pub row_shown : {opening : Stand (Filed (StampedEntry Filing))} (inputs : List DeskFiles) (desks : List View) (k count : ℕ) (before x : View) (own : FilesOwn opening before (get_or desks k x)) (entry : ℕ × Filed (StampedEntry Filing))
+    → k < length desks → IsOf (k + 1) (get_or inputs k no_files) before → HasNamed own entry → entry.0 ≡ count + 1 → IsOwn inputs (desks_text desks) entry.1 count
 row_shown inputs desks k count before x own entry lt of named at = record {
   files = row_files inputs k before (get_or desks k x) own entry of named;
-  shown = all_shown desks k x entry.1.by count lt (desk_shown (k + 1) count (get_or inputs k []) before (get_or desks k x) own entry of named at);
+  shown = all_shown desks k x entry.1.by count lt (desk_shown (k + 1) count (get_or inputs k no_files) before (get_or desks k x) own entry of named at);
 }
 
 -- each entry that was added is among those that are numbered, at its place
@@ -258,15 +266,15 @@ numbered_at n (f ∷ added) (suc k) d lt =
     (suc j, omega (arith, less), is)
 
 -- ---- a line for each filing that was added
-turned : (one other : List (Filed Filing)) → entries_of (reverse_aux one other) ≡ reverse_aux (entries_of one) (entries_of other)
+turned : (one other : List (Filed (StampedEntry Filing))) → entries_of (reverse_aux one other) ≡ reverse_aux (entries_of one) (entries_of other)
 turned [] other = refl
 turned (f ∷ one) other = turned one (f ∷ other)
 
-turned_rows : (one other : List (Filed Filing)) → rows_of (reverse_aux one other) ≡ reverse_aux (rows_of one) (rows_of other)
+turned_rows : (one other : List (Filed (StampedEntry Filing))) → rows_of (reverse_aux one other) ≡ reverse_aux (rows_of one) (rows_of other)
 turned_rows [] other = refl
 turned_rows (f ∷ one) other = turned_rows one (f ∷ other)
 
-admits : (inputs : List (List Row)) (lines : List ℕ) (count : ℕ) (list : List (Filed Filing)) → ((k : ℕ) (d : Filed Filing) → k < length list → IsOwn inputs lines (get_or list k d) (count + k))
+admits : (inputs : List DeskFiles) (lines : List ℕ) (count : ℕ) (list : List (Filed (StampedEntry Filing))) → ((k : ℕ) (d : Filed (StampedEntry Filing)) → k < length list → IsOwn inputs lines (get_or list k d) (count + k))
     → Admitted inputs lines count (entries_of list) (admitted_text (count + 1) (rows_of list))
 admits inputs lines count [] each = many.none count
 admits inputs lines count (f ∷ list) each =
@@ -275,21 +283,21 @@ admits inputs lines count (f ∷ list) each =
     (admits inputs lines (count + 1) list (λ k d lt. subst (IsOwn inputs lines (get_or list k d)) (omega arith) (each (suc k) d (omega (arith, lt)))))
 
 -- the oldest first, each with the row that is told of for it
-pub admitted_lines : (inputs : List (List Row)) (lines : List ℕ) (desks : List View) (count : ℕ) (added : List (Filed Filing))
-    → ((k n : ℕ) (d : Filed Filing) → k < length added → n ≡ count + (length added - 1 - k) → IsOwn inputs lines (told_by desks (n + 1) (get_or added k d)) n)
+pub admitted_lines : (inputs : List DeskFiles) (lines : List ℕ) (desks : List View) (count : ℕ) (added : List (Filed (StampedEntry Filing)))
+    → ((k n : ℕ) (d : Filed (StampedEntry Filing)) → k < length added → n ≡ count + (length added - 1 - k) → IsOwn inputs lines (told_by desks (n + 1) (get_or added k d)) n)
     → Admitted inputs lines count (reverse (entries_of added)) (admitted_text (count + 1) (names_of desks (count + 1) (reverse (rows_of added))))
 admitted_lines inputs lines desks count added each =
     subst (λ l. Admitted inputs lines count l (admitted_text (count + 1) (names_of desks (count + 1) (reverse (rows_of added))))) (entries_told desks (count + 1) (reverse added) ∙ turned added [])
     (subst (λ l. Admitted inputs lines count (entries_of told) (admitted_text (count + 1) l)) (rows_told desks (count + 1) (reverse added) ∙ ap (names_of desks (count + 1)) (turned_rows added []))
     (admits inputs lines count told behind))
   where
-    told : List (Filed Filing)
+    told : List (Filed (StampedEntry Filing))
     told = told_all desks (count + 1) (reverse added)
 
-    behind : (k : ℕ) (d : Filed Filing) → k < length told → IsOwn inputs lines (get_or told k d) (count + k)
+    behind : (k : ℕ) (d : Filed (StampedEntry Filing)) → k < length told → IsOwn inputs lines (get_or told k d) (count + k)
     behind k d lt =
         let inside : k < length added = omega (arith, lt, length-told desks (count + 1) (reverse added), length-reverse added) in
         let turn : k < length (reverse added) = omega (arith, inside, length-reverse added) in
-        subst (λ (f : Filed Filing). IsOwn inputs lines f (count + k))
-        (ap₂ (λ (n : ℕ) (f : Filed Filing). told_by desks n f) (let same : count + k + 1 ≡ count + 1 + k = omega arith in same) (sym (get_or-reverse added k d inside)) ∙ sym (told_at desks (count + 1) (reverse added) k d turn))
+        subst (λ (f : Filed (StampedEntry Filing)). IsOwn inputs lines f (count + k))
+        (ap₂ (λ (n : ℕ) (f : Filed (StampedEntry Filing)). told_by desks n f) (let same : count + k + 1 ≡ count + 1 + k = omega arith in same) (sym (get_or-reverse added k d inside)) ∙ sym (told_at desks (count + 1) (reverse added) k d turn))
         (each (length added - 1 - k) (count + k) d (omega (arith, inside)) (omega (arith, inside)))

@@ -5,15 +5,13 @@ use Rattle.std.proofs.lemmas.List.{get_or-map, length-map, take-append-drop}
 use Rattle.aid_edges.specs.declared.source.Source.{Ghosts as SourceGhosts}
 use Rattle.aid_edges.specs.declared.sink.Sink.{Ghosts as SinkGhosts}
 use Rattle.aid_filings.specs.declared.filing.Filing.{Filing}
-use Rattle.desk_forms.specs.Rows.{meanings_from}
-use Rattle.field_rows.specs.declared.error.RowError.{RowError}
 use Rattle.disk_model.specs.Telling.{EachImage, EachMoment, IsHonest}
 use Rattle.disk_model.specs.declared.disk.Disk.{Ghosts}
 use Rattle.disk_model.proofs.Moments.{started, weaken}
 use Rattle.filing_journal.specs.declared.opening.OpenError.{OpenError}
 use Rattle.filing_journal.specs.declared.opening.OpenError.TheVariants as opening
-use Rattle.headline.specs.AtOnce.{Admitted, DeskTexts, RanAtOnce, filed, idle, row_at}
-use Rattle.headline.specs.Filed.{IsFault, Row, rows_in}
+use Rattle.headline.specs.AtOnce.{Admitted, DeskFiles, DeskTexts, FilesUnder, RanAtOnce, filed, idle, row_at}
+use Rattle.headline.specs.Filed.{IsFault, rows_in}
 use Rattle.headline.specs.Office.{Recovers}
 use Rattle.kept_desks.specs.Desks.{left_in}
 use Rattle.kept_list.specs.Names.{entries_of, filed_list, filed_pending, no_row, rows_of}
@@ -26,21 +24,21 @@ use Rattle.kept_desks.specs.declared.stop.DeskStop.TheVariants.{DiskFault}
 use Rattle.kept_desks.proofs.Going.{entries_filed}
 use Rattle.kept_list.specs.Kept.{IsSound}
 use Rattle.kept_list.proofs.Histories.{recovers_once}
-use Rattle.kept_office.specs.OfficeLaws.{alone}
+use Rattle.kept_office.specs.OfficeLaws.{office_alone}
 use Rattle.kept_office.specs.Recovers as kept
 use Rattle.kept_office.specs.Scheme.{office_scheme}
 use Rattle.kept_office.specs.Turns.{asked as filing_asked}
 use Rattle.kept_session.specs.Links.{IsOpened}
 use Rattle.kept_session.specs.declared.stop.ReadStop.{ReadStop}
 use Rattle.kept_session.specs.declared.stop.ReadStop.TheVariants as reading
-use Rattle.run_rows.specs.Asks.{asked}
 use Rattle.office_history.specs.Answer.{IsLegal}
 use Rattle.office_lock.specs.Passes.{IsOlder, numbered}
 use Rattle.office_lock.specs.declared.turned.Stand.{Stand}
-use Rattle.headline.specs.Written.{Files}
 use Rattle.headline.proofs.Office.{from_kept, to_kept}
 use Rattle.kept_runs.specs.Ends.{EndsWith, told, untold}
 use Rattle.kept_runs.specs.Statuses.{open_line, open_status, read_line, read_status}
+use Rattle.stamped_list.specs.Entries.{entries}
+use Rattle.stamped_list.specs.declared.entry.StampedEntry.{StampedEntry}
 use Rattle.run_office.specs.DeskTexts.{admitted_text, desks_status, desks_text}
 use Rattle.run_office.specs.DesksDone.{HasNamed}
 use Rattle.run_office.specs.Names.{names_of}
@@ -54,7 +52,7 @@ use Rattle.run_office.proofs.NameLists.{told_by}
 use Rattle.run_office.proofs.Naming.{told_named}
 use Rattle.run_office.proofs.Named.{of_desk, seen_in_closed, undecided_at}
 use Rattle.run_office.proofs.Reading.{some_of}
-use Rattle.run_office.proofs.Replies.{IsOf, all_desks, few_statuses, status_shown, stopped_status, text_shown}
+use Rattle.run_office.proofs.Replies.{IsOf, all_desks, few_statuses, no_files, said_in, status_shown, stopped_status, text_shown}
 
 -- of a run's last text a front was written, and all of it where the status isn't that of a failed write
 record Wrote {K : Type 0} (sink : SinkGhosts K) (text : List ℕ) (shown : ℕ) (out out' : K) (status : ℕ) : Type 0 where
@@ -102,14 +100,18 @@ other shown status n shows one four is = ⊎_elim (λ e. one (sym e ∙ is)) (λ
 module _ {D S K : Type 0} (disk : Ghosts D) (source : SourceGhosts S) (sink : SinkGhosts K)
     (only : (d : D) (c : List ℕ) → IsHonest (disk.tells d) → (disk.tells d).image_since (disk.tells d).moment c → (disk.tells d).image c)
     (here : (d : D) → IsHonest (disk.tells d) → (disk.tells d).image (disk.tells d).reads)
-    (old new : D) (inputs inputs' : List (DeskInput S)) (out out' : K) (status : ℕ) (past : List Filing) (honest : IsHonest (disk.tells old))
+    (old new : D) (inputs inputs' : List (DeskInput S)) (out out' : K) (status : ℕ) (past : List (StampedEntry Filing)) (honest : IsHonest (disk.tells old))
     (sources : (k : ℕ) (i : DeskInput S) → k < length inputs → IsTrue (source.honest (get_or inputs k i).input)) (writes : IsTrue (sink.honest out))
     (images : EachImage (disk.tells old) (λ file. Recovers file past)) where
-  abbrev rows : List (List Row)
-  rows = map (λ (i : DeskInput S). rows_in (source.left i.input)) inputs
+  -- what the desk of an input files
+  abbrev files_of : DeskInput S → DeskFiles
+  files_of i = (i.stamp, rows_in (source.left i.input))
+
+  abbrev files : List DeskFiles
+  files = map files_of inputs
 
   abbrev AtOnce : Type 0
-  AtOnce = (text : List ℕ) × (sink.text out' ≡ sink.text out ++ text) × RanAtOnce rows past (disk.tells old) (disk.tells new) text status
+  AtOnce = (text : List ℕ) × (sink.text out' ≡ sink.text out ++ text) × RanAtOnce files past (disk.tells old) (disk.tells new) text status
 
   kept_images : EachImage (disk.tells old) (λ file. kept.Recovers file past)
   kept_images c image = to_kept c past (images c image)
@@ -142,21 +144,21 @@ module _ {D S K : Type 0} (disk : Ghosts D) (source : SourceGhosts S) (sink : Si
       end = wrote sink line shown status out out' writes ends
 
   -- ---- the desks filed
-  module _ (before after : List View) (has_read : AreRead source (length inputs) inputs inputs' before) (list history : List Filing) (pending : Option Filing) (log : List RowName) (waiting : Option RowName) (at : D)
+  module _ (before after : List View) (has_read : AreRead source (length inputs) inputs inputs' before) (list history : List (StampedEntry Filing)) (pending : Option (StampedEntry Filing)) (log : List RowName) (waiting : Option RowName) (at : D)
       (opened : IsOpened disk office_scheme list old at)
       (ran : HasFiled (stand_of list None [] None (disk.faults old) (disk.tells at).honest) (stand_of history pending log waiting (disk.faults new) (disk.tells new).honest) before after)
       (sound : IsHonest (disk.tells new) → IsSound office_scheme (disk.tells new) history pending) where
-    abbrev start : Stand (Filed Filing)
+    abbrev start : Stand (Filed (StampedEntry Filing))
     start = stand_of list None [] None (disk.faults old) (disk.tells at).honest
 
-    abbrev end : Stand (Filed Filing)
+    abbrev end : Stand (Filed (StampedEntry Filing))
     end = stand_of history pending log waiting (disk.faults new) (disk.tells new).honest
 
-    abbrev added : List Filing
+    abbrev added : List (StampedEntry Filing)
     added = entries_of ran.ran.added
 
     same : list ≡ past
-    same = recovers_once office_scheme alone (disk.tells old).reads list past (opened.recovers honest) (kept_images (disk.tells old).reads (here old honest))
+    same = recovers_once office_scheme office_alone (disk.tells old).reads list past (opened.recovers honest) (kept_images (disk.tells old).reads (here old honest))
 
     still : IsHonest (disk.tells new)
     still = subst IsTrue (sym (ran.ran.fixed ∙ opened.honest)) honest
@@ -164,19 +166,19 @@ module _ {D S K : Type 0} (disk : Ghosts D) (source : SourceGhosts S) (sink : Si
     closed : history ≡ added ++ list
     closed = sym (entries_filed history log) ∙ (ap entries_of ran.ran.list ∙ (entries_append ran.ran.added (filed_list list []) ∙ ap (λ l. added ++ l) (entries_filed list [])))
 
-    legal : IsLegal history
+    legal : IsLegal (entries history)
     legal = go pending (sound still)
       where
-        go : (p : Option Filing) → IsSound office_scheme (disk.tells new) history p → IsLegal history
+        go : (p : Option (StampedEntry Filing)) → IsSound office_scheme (disk.tells new) history p → IsLegal (entries history)
         go None settled = (settled (disk.tells new).reads (here new still)).legal
         go (Some f) undecided = undecided.legal.0
 
     -- each desk has the rows of its input
-    of : (k : ℕ) (d : View) → k < length before → IsOf (k + 1) (get_or rows k []) (get_or before k d)
+    of : (k : ℕ) (d : View) → k < length before → IsOf (k + 1) (get_or files k no_files) (get_or before k d)
     of k d lt = record {
       numbered = desk.numbered;
       prefix = desk.prefix;
-      rows_are = desk.rows (sources k i inside) ∙ ap (λ r. map (asked {E = RowError}) (meanings_from 1 r)) (sym (get_or-map (λ (x : DeskInput S). rows_in (source.left x.input)) inputs k i [] inside));
+      rows_are = desk.rows (sources k i inside) ∙ ap said_in (sym (get_or-map files_of inputs k i no_files inside));
     }
       where
         inside : k < length inputs
@@ -185,7 +187,7 @@ module _ {D S K : Type 0} (disk : Ghosts D) (source : SourceGhosts S) (sink : Si
         i : DeskInput S
         i = some_of inputs k inside
 
-        desk : IsDeskOf (k + 1) (input_at source inputs inputs' k i) (get_or before k d)
+        desk : IsDeskOf (k + 1) (get_or inputs k i).stamp (input_at source inputs inputs' k i) (get_or before k d)
         desk = has_read.each k i d inside
 
     -- where a desk stopped, the status isn't 0
@@ -196,22 +198,22 @@ module _ {D S K : Type 0} (disk : Ghosts D) (source : SourceGhosts S) (sink : Si
     abbrev by : ℕ → RowName
     by = row_behind (length start.list) ran.ran.added
 
-    texts : ShowStops → DeskTexts by list (added ++ list) status 1 rows (desks_text after)
+    texts : ShowStops → DeskTexts by list (added ++ list) status 1 files (desks_text after)
     texts stopped =
-        subst (λ l. DeskTexts by list l status 1 rows (desks_text after)) closed (subst (DeskTexts by list history status 1 rows) (sym (text_shown after ran.desks ran.shown))
-        (all_desks by start list history status (entries_filed list []) legal 1 rows before ran.desks (has_read.count ∙ sym (length-map inputs (λ (x : DeskInput S). rows_in (source.left x.input)))) ran.count
-        ran.each (λ k d lt. subst (λ (n : ℕ). IsOf n (get_or rows k []) (get_or before k d)) (omega arith) (of k d lt))
+        subst (λ l. DeskTexts by list l status 1 files (desks_text after)) closed (subst (DeskTexts by list history status 1 files) (sym (text_shown after ran.desks ran.shown))
+        (all_desks by start list history status (entries_filed list []) legal 1 files before ran.desks (has_read.count ∙ sym (length-map inputs files_of)) ran.count
+        ran.each (λ k d lt. subst (λ (n : ℕ). IsOf n (get_or files k no_files) (get_or before k d)) (omega arith) (of k d lt))
         (λ k d lt. subst (IsOlder (entries_of (ran.each k d lt).known.seen)) (entries_filed history log) (entries_older (ran.each k d lt).known.seen end.list (seen_in_closed start end before after ran k d lt)))
         (λ k d lt. rows_named start end before after ran k d lt (1 + k) ((of k d lt).numbered ∙ omega arith))
         stopped))
 
     -- the row that a desk's entry is named by files it
-    named_files : (entry : ℕ × Filed Filing) → ((k : ℕ) × (d : View) × (lt : k < length before) × HasNamed (ran.each k d lt) entry) → Files (row_at rows entry.1.by) entry.1.entry
-    named_files entry (k, d, lt, named) = row_files rows k (get_or before k d) (get_or ran.desks k d) (ran.each k d lt) entry (of k d lt) named
+    named_files : (entry : ℕ × Filed (StampedEntry Filing)) → ((k : ℕ) × (d : View) × (lt : k < length before) × HasNamed (ran.each k d lt) entry) → FilesUnder (row_at files entry.1.by) entry.1.entry
+    named_files entry (k, d, lt, named) = row_files files k (get_or before k d) (get_or ran.desks k d) (ran.each k d lt) entry (of k d lt) named
 
     -- and its line shows it
-    named_shown : (count : ℕ) (entry : ℕ × Filed Filing) → entry.0 ≡ count + 1 → ((k : ℕ) × (d : View) × (lt : k < length before) × HasNamed (ran.each k d lt) entry) → IsOwn rows (desks_text ran.desks) entry.1 count
-    named_shown count entry at (k, d, lt, named) = row_shown rows ran.desks k count (get_or before k d) d (ran.each k d lt) entry (omega (arith, lt, ran.count)) (of k d lt) named at
+    named_shown : (count : ℕ) (entry : ℕ × Filed (StampedEntry Filing)) → entry.0 ≡ count + 1 → ((k : ℕ) × (d : View) × (lt : k < length before) × HasNamed (ran.each k d lt) entry) → IsOwn files (desks_text ran.desks) entry.1 count
+    named_shown count entry at (k, d, lt, named) = row_shown files ran.desks k count (get_or before k d) d (ran.each k d lt) entry (omega (arith, lt, ran.count)) (of k d lt) named at
 
     abbrev names : List RowName
     names = names_of after (length list + 1) (reverse (rows_of ran.ran.added))
@@ -219,21 +221,21 @@ module _ {D S K : Type 0} (disk : Ghosts D) (source : SourceGhosts S) (sink : Si
     numbers : (k : ℕ) (d : View) → k < length before → (get_or before k d).number ≡ k + 1
     numbers k d lt = (of k d lt).numbered
 
-    lines : Admitted rows (desks_text after) (length list) (reverse added) (admitted_text (length list + 1) names)
-    lines = subst (λ t. Admitted rows t (length list) (reverse added) (admitted_text (length list + 1) names)) (sym (text_shown after ran.desks ran.shown))
-        (admitted_lines rows (desks_text ran.desks) after (length list) ran.ran.added (λ k n d lt at.
+    lines : Admitted files (desks_text after) (length list) (reverse added) (admitted_text (length list + 1) names)
+    lines = subst (λ t. Admitted files t (length list) (reverse added) (admitted_text (length list + 1) names)) (sym (text_shown after ran.desks ran.shown))
+        (admitted_lines files (desks_text ran.desks) after (length list) ran.ran.added (λ k n d lt at.
         let many : length start.list ≡ length list = sym (length-entries start.list) ∙ ap length (entries_filed list []) in
         let here : length start.list + (length ran.ran.added - 1 - k) + 1 ≡ n + 1 = omega (arith, many, at) in
         let has = subst (λ (p : ℕ). Contains (numbered (length start.list) ran.ran.added) (p, get_or ran.ran.added k d)) here (numbered_at (length start.list) ran.ran.added k d lt) in
         named_shown n (n + 1, told_by after (n + 1) (get_or ran.ran.added k d)) refl (told_named start end before after ran numbers (n + 1, get_or ran.ran.added k d) has)))
 
     -- an undecided filing is a row's at which its desk stopped
-    undecided_files : ShowStops → (f : Filing) → pending ≡ Some f → (status ≢ 0) × (by : RowName) × Files (row_at rows by) f
+    undecided_files : ShowStops → (f : StampedEntry Filing) → pending ≡ Some f → (status ≢ 0) × (by : RowName) × FilesUnder (row_at files by) f
     undecided_files stopped f is = go waiting refl
       where
-        of_row : (by : RowName) → end.pending ≡ Some (record { entry = f; by = by }) → (status ≢ 0) × (by : RowName) × Files (row_at rows by) f
+        of_row : (by : RowName) → end.pending ≡ Some (record { entry = f; by = by }) → (status ≢ 0) × (by : RowName) × FilesUnder (row_at files by) f
         of_row by named =
-            let entry : ℕ × Filed Filing = (length end.list + 1, record { entry = f; by = by }) in
+            let entry : ℕ × Filed (StampedEntry Filing) = (length end.list + 1, record { entry = f; by = by }) in
             let (k, x, lt, at, there) = in_one (λ (v : View). left_in v.pass) ran.desks entry (ran.ran.pending (record { entry = f; by = by }) named) in
             let inside : k < length before = omega (arith, lt, ran.count) in
             let own = ran.each k x inside in
@@ -241,17 +243,17 @@ module _ {D S K : Type 0} (disk : Ghosts D) (source : SourceGhosts S) (sink : Si
             let ended = (undecided_at filing_asked _ (get_or ran.desks k x).ended own.files.taken own.files.rest own.known entry own.files.ends left).0 in
             (stopped k x (DiskFault (Some entry.0)) inside ended, by, named_files entry (of_desk start end before after ran k x entry lt at (inr there)))
 
-        go : (w : Option RowName) → waiting ≡ w → (status ≢ 0) × (by : RowName) × Files (row_at rows by) f
+        go : (w : Option RowName) → waiting ≡ w → (status ≢ 0) × (by : RowName) × FilesUnder (row_at files by) f
         go None none = of_row no_row (ap (λ p. filed_pending p waiting) is ∙ ap (λ w. filed_pending (Some f) w) none)
         go (Some by) some = of_row by (ap (λ p. filed_pending p waiting) is ∙ ap (λ w. filed_pending (Some f) w) some)
 
-    abbrev Left : List Filing → List ℕ → Type 0
-    Left l file = Recovers file l ⊎ ((status ≢ 0) × (f : Filing) × (by : RowName) × Files (row_at rows by) f × Recovers file (f ∷ l))
+    abbrev Left : List (StampedEntry Filing) → List ℕ → Type 0
+    Left l file = Recovers file l ⊎ ((status ≢ 0) × (f : StampedEntry Filing) × (by : RowName) × FilesUnder (row_at files by) f × Recovers file (f ∷ l))
 
     left : ShowStops → EachImage (disk.tells new) (Left (added ++ list))
     left stopped = subst (λ l. EachImage (disk.tells new) (Left l)) closed (go pending refl (sound still))
       where
-        go : (p : Option Filing) → pending ≡ p → IsSound office_scheme (disk.tells new) history p → EachImage (disk.tells new) (Left history)
+        go : (p : Option (StampedEntry Filing)) → pending ≡ p → IsSound office_scheme (disk.tells new) history p → EachImage (disk.tells new) (Left history)
         go None is settled = λ c image. inl (from_kept c history (settled c image))
         go (Some f) is undecided = λ c image.
             let (failed, by, files) = undecided_files stopped f is in
@@ -264,7 +266,7 @@ module _ {D S K : Type 0} (disk : Ghosts D) (source : SourceGhosts S) (sink : Si
     filed_by ends = (
       put.front,
       put.written,
-      subst (λ (p : List Filing). RanAtOnce rows p (disk.tells old) (disk.tells new) put.front status) same
+      subst (λ (p : List (StampedEntry Filing)). RanAtOnce files p (disk.tells old) (disk.tells new) put.front status) same
           (filed by added (desks_text after) (admitted_text (length list + 1) names) put.front put.cut status
           (texts stopped) lines put.whole put.all (
             other (desks_status after) status 6 put.shows (few_statuses after 6 (omega arith) (λ e. omega (arith, e)) (λ e. omega (arith, e))) (λ e. omega (arith, e)),
@@ -281,11 +283,11 @@ module _ {D S K : Type 0} (disk : Ghosts D) (source : SourceGhosts S) (sink : Si
             (λ none. stopped_status ran.desks k d stop (omega (arith, lt, ran.count)) is (sym (status_shown after ran.desks ran.shown) ∙ none)) (λ e. omega (arith, e))
 
   -- a list that was opened is the one before
-  moments_of_opened : (list : List Filing) → IsOpened disk office_scheme list old new → Stays
+  moments_of_opened : (list : List (StampedEntry Filing)) → IsOpened disk office_scheme list old new → Stays
   moments_of_opened list is =
-      let same : list ≡ past = recovers_once office_scheme alone (disk.tells old).reads list past (is.recovers honest) (kept_images (disk.tells old).reads (here old honest)) in
-      plainly (subst (λ (l : List Filing). EachMoment (disk.tells old) (disk.tells new) (λ file. kept.Recovers file l)) same
-      (is.moments honest (subst (λ (l : List Filing). EachImage (disk.tells old) (λ file. kept.Recovers file l)) (sym same) kept_images)))
+      let same : list ≡ past = recovers_once office_scheme office_alone (disk.tells old).reads list past (is.recovers honest) (kept_images (disk.tells old).reads (here old honest)) in
+      plainly (subst (λ (l : List (StampedEntry Filing)). EachMoment (disk.tells old) (disk.tells new) (λ file. kept.Recovers file l)) same
+      (is.moments honest (subst (λ (l : List (StampedEntry Filing)). EachImage (disk.tells old) (λ file. kept.Recovers file l)) (sym same) kept_images)))
 
   of_files : (before : List View) → AreRead source (length inputs) inputs inputs' before → FilesAll disk sink old new before out out' status → AtOnce
   of_files before has_read (unopened error _ is rose ends) =
@@ -301,9 +303,9 @@ module _ {D S K : Type 0} (disk : Ghosts D) (source : SourceGhosts S) (sink : Si
 pub ran_at_once : {D S K : Type 0} (disk : Ghosts D) (source : SourceGhosts S) (sink : SinkGhosts K)
     → ((d : D) (c : List ℕ) → IsHonest (disk.tells d) → (disk.tells d).image_since (disk.tells d).moment c → (disk.tells d).image c)
     → ((d : D) → IsHonest (disk.tells d) → (disk.tells d).image (disk.tells d).reads)
-    → (old new : D) (inputs inputs' : List (DeskInput S)) (out out' : K) (status : ℕ) (past : List Filing)
+    → (old new : D) (inputs inputs' : List (DeskInput S)) (out out' : K) (status : ℕ) (past : List (StampedEntry Filing))
     → IsHonest (disk.tells old) → ((k : ℕ) (i : DeskInput S) → k < length inputs → IsTrue (source.honest (get_or inputs k i).input)) → IsTrue (sink.honest out)
     → EachImage (disk.tells old) (λ file. Recovers file past) → RanDesks disk source sink old new inputs inputs' out out' status
-    → (text : List ℕ) × (sink.text out' ≡ sink.text out ++ text) × RanAtOnce (map (λ (i : DeskInput S). rows_in (source.left i.input)) inputs) past (disk.tells old) (disk.tells new) text status
+    → (text : List ℕ) × (sink.text out' ≡ sink.text out ++ text) × RanAtOnce (map (λ (i : DeskInput S). (i.stamp, rows_in (source.left i.input))) inputs) past (disk.tells old) (disk.tells new) text status
 ran_at_once disk source sink only here old new inputs inputs' out out' status past honest sources writes images ran =
     of_run disk source sink only here old new inputs inputs' out out' status past honest sources writes images ran

@@ -1,5 +1,5 @@
 -- Rounds of awards: their requests, and what their policies give.
-use Rattle.std.proofs.Common.{◌≡◌, ℕ, ℤ, ◌-◌, List, [], ◌∷◌, Some, Result, sym, subst}
+use Rattle.std.proofs.Common.{◌≡◌, ℕ, ℤ, ◌-◌, List, [], ◌∷◌, map, Some, Result, Ok, ap, refl, sym, subst}
 use Rattle.std.specs.Coded.{le_prop}
 use Rattle.std.specs.List.{slice_get}
 use Rattle.aid_types.proofs.Same.{same_with_fact}
@@ -19,7 +19,14 @@ use Rattle.kept_session.specs.declared.stop.FileStop.{FileStop}
 use Rattle.kept_session.specs.declared.stop.SessionStop.{SessionStop}
 use Rattle.kept_office.specs.Scheme.{office_scheme}
 use Rattle.kept_office.specs.Turns.{office_judging}
-use Rattle.run_office.specs.Rounds.{gives_at, round_plans, round_texts}
+use Rattle.kept_session.specs.Asks.{rows_of_asks}
+use Rattle.stamps.specs.declared.stamp.Stamp.{Stamp}
+use Rattle.stamped_list.specs.Entries.{entries}
+use Rattle.stamped_list.specs.Rows.{ask_under, stamped_rows, stamped_texts}
+use Rattle.stamped_list.specs.declared.entry.StampedAsk.{StampedAsk}
+use Rattle.stamped_list.specs.declared.entry.StampedEntry.{StampedEntry}
+use Rattle.stamped_list.specs.declared.entry.StampedError.{StampedError}
+use Rattle.run_office.specs.Rounds.{asks_of, gives_at, left_line, round_plans, round_texts}
 
 -- rounds with the same fields are the same
 pub same_round : (x y : RoundRequest) → x.school ≡ y.school → x.year ≡ y.year → x.term ≡ y.term → x.amount ≡ y.amount → x.number ≡ y.number → x ≡ y
@@ -45,22 +52,34 @@ module _ (gives other : ℕ → ℤ → ℕ → ℕ → Type 0) (also : (need : 
     payments = is.payments;
   }
 
-  plans_also : (r : RoundRequest) (past : List Filing) (asks : List Ask) (closing : List ℕ) → round_plans gives r past asks closing → round_plans other r past asks closing
-  plans_also r past asks closing (filings, left, is, asked, closed) = (filings, left, planned_also past r filings left is, asked, closed)
+  plans_also : (stamp : Stamp) (r : RoundRequest) (past : List (StampedEntry Filing)) (asks : List (StampedAsk Ask)) (closing : List ℕ) → round_plans gives stamp r past asks closing → round_plans other stamp r past asks closing
+  plans_also stamp r past asks closing (filings, left, is, asked, closed) = (filings, left, planned_also (entries past) r filings left is, asked, closed)
 
--- the same plan, of the same round and history
-pub plans_as : (gives : ℕ → ℤ → ℕ → ℕ → Type 0) (r same : RoundRequest) (past list : List Filing) (asks : List Ask) (closing : List ℕ) → r ≡ same → past ≡ list
-    → round_plans gives r past asks closing → round_plans gives same list asks closing
-plans_as gives r same past list asks closing is at plans =
-    subst (λ (h : List Filing). round_plans gives same h asks closing) at (subst (λ (k : RoundRequest). round_plans gives k past asks closing) is plans)
+-- what was planned on the filings of a list is a plan on the list: of the same round, each ask under the stamp
+pub plans_under : (gives : ℕ → ℤ → ℕ → ℕ → Type 0) (stamp : Stamp) (r same : RoundRequest) (list : List Filing) (past : List (StampedEntry Filing)) (filings : List Filing) (closing : List ℕ) → r ≡ same → list ≡ entries past
+    → (left : ℕ) × IsPlanned gives list r filings left × (closing ≡ left_line left) → round_plans gives stamp same past (map (ask_under stamp) (asks_of filings)) closing
+plans_under gives stamp r same list past filings closing is at (left, planned, closed) = (
+  filings,
+  left,
+  subst (λ (k : RoundRequest). IsPlanned gives (entries past) k filings left) is (subst (λ (h : List Filing). IsPlanned gives h r filings left) at planned),
+  refl,
+  closed,
+)
 
--- the disk was given back, and the closing text is known by other words
+-- rows that are asks, under a stamp, are those of the asks under it
+pub rows_under : {Ask Verdict Error : Type 0} (texts : Texts Ask Verdict Error) (stamp : Stamp) (asks : List Ask)
+    → stamped_rows stamp (map texts.said (rows_of_asks {Error = Error} asks)) ≡ map (stamped_texts texts).said (rows_of_asks {Error = StampedError Error} (map (ask_under stamp) asks))
+rows_under texts stamp [] = refl
+rows_under texts stamp (ask ∷ asks) = ap (λ (l : List _). (texts.said (Ok ask), stamp) ∷ l) (rows_under texts stamp asks)
+
+-- the disk was given back, and the rows and the closing text are known by other words
 pub closes_as : {D Entry Ask Verdict Error : Type 0} (disk : Ghosts D) (scheme : Scheme Entry) (judging : Judging Entry Ask Verdict) (texts : Texts Ask Verdict Error) (past : List Entry) (at new given : D) (output : Output)
-    (left : List texts.Meaning) (closing same : List ℕ) (ended : Result Unit FileStop) → given ≡ new → closing ≡ same
-    → Closes disk scheme judging texts past at new output left closing ended → Closes disk scheme judging texts past at given output left same ended
-closes_as disk scheme judging texts past at new given output left closing same ended back is closes =
-    subst (λ (d : _). Closes disk scheme judging texts past at d output left same ended) (sym back)
-    (subst (λ (t : List ℕ). Closes disk scheme judging texts past at new output left t ended) is closes)
+    (left others : List texts.Meaning) (closing same : List ℕ) (ended : Result Unit FileStop) → given ≡ new → left ≡ others → closing ≡ same
+    → Closes disk scheme judging texts past at new output left closing ended → Closes disk scheme judging texts past at given output others same ended
+closes_as disk scheme judging texts past at new given output left others closing same ended back are is closes =
+    subst (λ (d : _). Closes disk scheme judging texts past at d output others same ended) (sym back)
+    (subst (λ (t : List ℕ). Closes disk scheme judging texts past at new output others t ended) is
+    (subst (λ (l : List texts.Meaning). Closes disk scheme judging texts past at new output l closing ended) are closes))
 
 -- rows that were planned by one relation were by any that follows from it
 pub planned_by : {D Entry Ask Verdict Error : Type 0} (disk : Ghosts D) (scheme : Scheme Entry) (judging : Judging Entry Ask Verdict) (texts : Texts Ask Verdict Error) (plans other : List Entry → List Ask → List ℕ → Type 0)
@@ -71,9 +90,9 @@ planned_by disk scheme judging texts plans other also old new output ended (unpl
 planned_by disk scheme judging texts plans other also old new output ended (filed past at asks closing inner is planned closes) = filed past at asks closing inner is (also past asks closing planned) closes
 
 -- a round by the policy that stands at a place is one by what the policies give
-pub planned_at : {D Policy : Type 0} (disk : Ghosts D) (policies : List Policy) (policy : Policy) (place : ℕ) (gives : Policy → ℕ → ℤ → ℕ → ℕ → Type 0) (r : RoundRequest) (old new : D) (output : Output) (ended : Result Unit SessionStop)
-    → slice_get policies place ≡ Some policy → Planned disk office_scheme office_judging round_texts (round_plans (gives policy) r) old new output ended
-    → Planned disk office_scheme office_judging round_texts (round_plans (gives_at policies gives place) r) old new output ended
-planned_at disk policies policy place gives r old new output ended stands planned =
-    planned_by disk office_scheme office_judging round_texts (round_plans (gives policy) r) (round_plans (gives_at policies gives place) r)
-    (plans_also (gives policy) (gives_at policies gives place) (λ need sai intensity award gave. (policy, stands, gave)) r) old new output ended planned
+pub planned_at : {D Policy : Type 0} (disk : Ghosts D) (policies : List Policy) (policy : Policy) (place : ℕ) (gives : Policy → ℕ → ℤ → ℕ → ℕ → Type 0) (stamp : Stamp) (r : RoundRequest) (old new : D) (output : Output) (ended : Result Unit SessionStop)
+    → slice_get policies place ≡ Some policy → Planned disk office_scheme office_judging (stamped_texts round_texts) (round_plans (gives policy) stamp r) old new output ended
+    → Planned disk office_scheme office_judging (stamped_texts round_texts) (round_plans (gives_at policies gives place) stamp r) old new output ended
+planned_at disk policies policy place gives stamp r old new output ended stands planned =
+    planned_by disk office_scheme office_judging (stamped_texts round_texts) (round_plans (gives policy) stamp r) (round_plans (gives_at policies gives place) stamp r)
+    (plans_also (gives policy) (gives_at policies gives place) (λ need sai intensity award gave. (policy, stands, gave)) stamp r) old new output ended planned

@@ -17,6 +17,10 @@ use Rattle.kept_list.specs.declared.names.RowName.{RowName}
 use Rattle.kept_office.specs.Turns.{office_judging}
 use Rattle.office_lock.specs.Passes.{numbered}
 use Rattle.office_lock.specs.declared.turned.Stand.{Stand}
+use Rattle.stamped_list.specs.Entries.{entries}
+use Rattle.stamped_list.specs.declared.entry.StampedAsk.{StampedAsk}
+use Rattle.stamped_list.specs.declared.entry.StampedEntry.{StampedEntry}
+use Rattle.stamped_list.specs.declared.entry.StampedError.{StampedError}
 use Rattle.run_office.specs.RanDesks.{HasFiled, View}
 
 -- what is numbered is one of the list, at its place
@@ -52,16 +56,16 @@ in_all f (y ∷ xs) zero x a lt has = Contains-append_left (f y) (flat_map f xs)
 in_all f (y ∷ xs) (suc k) x a lt has = Contains-append_right (f y) (flat_map f xs) a (in_all f xs k x a (omega (arith, lt)) has)
 
 -- each row of a desk that adds a filing is the one that is named for the filing's place
-abbrev pub AreNamed : (ℕ → RowName) → ℕ → ℕ → List (Answer Filing Ask RowError) → Type 0
+abbrev pub AreNamed : (ℕ → RowName) → ℕ → ℕ → List (Answer (StampedEntry Filing) (StampedAsk Ask) (StampedError RowError)) → Type 0
 AreNamed by desk number [] = ⊤
 AreNamed by desk number (a ∷ answers) =
     (length a.past < length (after_row office_judging a.past a.row) → by (length a.past) ≡ record { desk = desk; row = number }) × AreNamed by desk (number + 1) answers
 
 module _ (by : ℕ → RowName) (desk : ℕ) where
-  abbrev Names : List (ℕ × Filed Filing) → Type 0
-  Names entries = (entry : ℕ × Filed Filing) → Contains entries entry → by (entry.0 - 1) ≡ entry.1.by
+  abbrev Names : List (ℕ × Filed (StampedEntry Filing)) → Type 0
+  Names entries = (entry : ℕ × Filed (StampedEntry Filing)) → Contains entries entry → by (entry.0 - 1) ≡ entry.1.by
 
-  row_named : (number : ℕ) (past : List Filing) (row : Result Ask RowError) → Names (admitted_row office_judging (record { desk = desk; row = number }) past row)
+  row_named : (number : ℕ) (past : List (StampedEntry Filing)) (row : Result (StampedAsk Ask) (StampedError RowError)) → Names (admitted_row office_judging (record { desk = desk; row = number }) past row)
       → length past < length (after_row office_judging past row) → by (length past) ≡ record { desk = desk; row = number }
   row_named number past (Err error) each more = absurd (omega (arith, more))
   row_named number past (Ok ask) each more = go (office_judging.added past ask) each more
@@ -69,11 +73,11 @@ module _ (by : ℕ → RowName) (desk : ℕ) where
       own : RowName
       own = record { desk = desk; row = number }
 
-      go : (o : Option Filing) → Names (placed (length past + 1) o own) → length past < length (with_entry o past) → by (length past) ≡ own
+      go : (o : Option (StampedEntry Filing)) → Names (placed (length past + 1) o own) → length past < length (with_entry o past) → by (length past) ≡ own
       go None named grown = absurd (omega (arith, grown))
       go (Some f) named grown = ap by (let same : length past ≡ length past + 1 - 1 = omega arith in same) ∙ named (length past + 1, record { entry = f; by = own }) (0, omega arith, refl)
 
-  all_named : (number : ℕ) (answers : List (Answer Filing Ask RowError)) → Names (admitted_of office_judging desk number answers) → AreNamed by desk number answers
+  all_named : (number : ℕ) (answers : List (Answer (StampedEntry Filing) (StampedAsk Ask) (StampedError RowError))) → Names (admitted_of office_judging desk number answers) → AreNamed by desk number answers
   all_named number [] each = tt
   all_named number (a ∷ answers) each =
       let here = admitted_row office_judging (record { desk = desk; row = number }) a.past a.row in
@@ -82,9 +86,9 @@ module _ (by : ℕ → RowName) (desk : ℕ) where
         all_named (number + 1) answers (λ entry has. each entry (Contains-append_right here later entry has)),
       )
 
-module _ (opening closed : Stand (Filed Filing)) (before after : List View) (filed : HasFiled opening closed before after) where
+module _ (opening closed : Stand (Filed (StampedEntry Filing))) (before after : List View) (filed : HasFiled opening closed before after) where
   -- what a desk's rows added is among what joined the list
-  in_added : (k : ℕ) (d : View) (lt : k < length before) (entry : ℕ × Filed Filing) → Contains (filed.each k d lt).known.mine entry → Contains (numbered (length opening.list) filed.ran.added) entry
+  in_added : (k : ℕ) (d : View) (lt : k < length before) (entry : ℕ × Filed (StampedEntry Filing)) → Contains (filed.each k d lt).known.mine entry → Contains (numbered (length opening.list) filed.ran.added) entry
   in_added k d lt entry has =
       let mines = flat_map (λ (v : View). mine_in v.pass) filed.desks in
       let settled = flat_map (λ (v : View). settled_in v.pass) filed.desks in

@@ -5,17 +5,17 @@ use Rattle.std.specs.Prelude.{IfErr}
 use Rattle.aid_edges.specs.Faults.{Rose}
 use Rattle.disk_model.specs.Telling.{IsHonest}
 use Rattle.disk_model.specs.declared.disk.Disk.{Ghosts}
-use Rattle.filing_journal.specs.Head.{IsBorn}
+use Rattle.filing_journal.specs.Head.{IsBorn, IsOld}
 use Rattle.filing_journal.specs.Stands.{IsUnborn}
 use Rattle.filing_journal.specs.declared.opening.OpenError.{OpenError}
 use Rattle.filing_journal.specs.declared.opening.OpenError.TheVariants as opening
-use Rattle.filing_journal.proofs.Unique.{not_unborn}
+use Rattle.filing_journal.proofs.Unique.{not_unborn, old_not_unborn}
 use Rattle.kept_list.specs.Faulty.{IsFaultyAt}
 use Rattle.kept_list.specs.Scheme.{Judging, Scheme}
 use Rattle.kept_list.specs.declared.kept.FoundFault.{FoundFault}
 use Rattle.kept_list.specs.declared.kept.FoundFault.TheVariants as fault_of
 use Rattle.kept_office.specs.Scheme.{office_scheme}
-use Rattle.kept_office.specs.Turns.{office_judging}
+use Rattle.kept_office.specs.Turns.{filing_judging, office_judging}
 use Rattle.desk_forms.specs.Lines.{fine_line}
 use Rattle.kept_session.specs.Counted.{Counted, CountedSession}
 use Rattle.kept_session.specs.Counted as counting
@@ -37,6 +37,9 @@ use Rattle.kept_session.specs.declared.stop.FoundStop.TheVariants.{Founding}
 use Rattle.kept_session.specs.declared.stop.ReadStop.{ReadStop}
 use Rattle.kept_session.specs.declared.stop.ReadStop.TheVariants as reading
 use Rattle.kept_session.specs.declared.stop.SessionStop.{SessionStop}
+use Rattle.stamps.specs.declared.stamp.Stamp.{Stamp}
+use Rattle.stamped_list.specs.Rows.{stamped_rows, stamped_texts}
+use Rattle.stamped_list.specs.Stamped.{stamped_judging}
 use Rattle.run_words.specs.declared.command.Command.{Command}
 use Rattle.generated_year.specs.Texts.{rows_of_text, year_texts}
 use Rattle.generated_year.specs.Counted.{year_counted, year_ending}
@@ -60,7 +63,11 @@ IsExcused status = (status ≡ 3) ⊎ ((status ≡ 4) ⊎ ((status ≡ 5) ⊎ (s
 -- a founding in an unborn file
 not_founded_by : {D Entry : Type 0} (disk : Ghosts D) (scheme : Scheme Entry) (old new : D) (fault : FoundFault) → IsNotFounded disk scheme fault old new → IsHonest (disk.tells old)
     → IsUnborn (disk.tells old).reads → IsExcused (found_status (Founding fault))
-not_founded_by disk scheme old new fault_of.Exists n honest unborn = absurd (not_unborn scheme.header (disk.tells old).reads (n.exists honest refl).0 unborn)
+not_founded_by disk scheme old new fault_of.Exists n honest unborn = absurd (stands (n.exists honest refl).0)
+  where
+    stands : IsBorn scheme.header (disk.tells old).reads ⊎ IsOld scheme.header (disk.tells old).reads → ⊥
+    stands (inl born) = not_unborn scheme.header (disk.tells old).reads born unborn
+    stands (inr before) = old_not_unborn scheme.header (disk.tells old).reads before unborn
 not_founded_by disk scheme old new fault_of.NotJournal n honest unborn = absurd ((n.foreign honest refl).0.not_unborn unborn)
 not_founded_by disk scheme old new fault_of.DiskFault n honest unborn = inr (inr (inl refl))
 not_founded_by disk scheme old new fault_of.NoMemory n honest unborn = inr (inr (inr refl))
@@ -82,6 +89,7 @@ module _ {D Entry : Type 0} (disk : Ghosts D) (scheme : Scheme Entry) (old new :
   unopened_by : (error : OpenError) → IsUnopened disk scheme error old new → IsExcused (open_status error)
   unopened_by opening.NoOffice u = absurd (not_unborn scheme.header (disk.tells old).reads born (u.unborn honest refl))
   unopened_by opening.NotJournal u = absurd ((u.foreign honest refl).not_born born)
+  unopened_by opening.OldVersion u = absurd ((u.old honest refl).not_born born)
   unopened_by (opening.Damaged place) u = absurd (whole place (u.damaged honest place refl).1)
   unopened_by opening.DiskFault u = inr (inr (inl refl))
   unopened_by opening.NoMemory u = inr (inr (inr refl))
@@ -161,24 +169,25 @@ book_by : (input : Input) (output : Output) (ended : Result Unit RunStop) → Ch
 book_by input output ended (run.looked_at checked checks) source short = check_ended_by checked (checked_by book_texts (book_rows 1) fine_line 16777216 input output checked checks source short)
 
 -- a command that can be done
-done_by : {D : Type 0} (gives : PolicyAnswers) (disk : Ghosts D) (old new : D) (input : Input) (output : Output) (command : Command) (ended : Result Unit RunStop) → Does gives disk old new input output command ended
+done_by : {D : Type 0} (gives : PolicyAnswers) (disk : Ghosts D) (old new : D) (input : Input) (output : Output) (stamp : Stamp) (command : Command) (ended : Result Unit RunStop)
+    → Does gives disk old new input output stamp command ended
     → CanBeDone command input.honest (length input.before) (disk.tells old) → IfErr ended (λ stop. IsExcused (status_of stop))
-done_by gives disk old new input output command ended (founding inner session) can = founded_by disk office_scheme old new _ output inner session can.0 can.1
-done_by gives disk old new input output command ended (filing inner session) can =
-    session_by disk office_scheme old new can.1.0 can.1.1 can.1.2 office_judging desk_texts output desk_rows 16777216 input inner session can.0.0 can.0.1
-done_by gives disk old new input output command ended (booking book inner session) can =
-    session_by disk office_scheme old new can.1.0 can.1.1 can.1.2 office_judging book_texts output (book_rows book.number) 16777216 input inner session can.0.0 can.0.1
-done_by gives disk old new input output command ended (quoting quote inner opens) can =
-    opened_by disk office_scheme old new can.0 can.1 can.2 office_judging quote_texts output (quote_rows quote) inner opens
-done_by gives disk old new input output command ended (reporting report inner reports) can =
+done_by gives disk old new input output stamp command ended (founding inner session) can = founded_by disk office_scheme old new _ output inner session can.0 can.1
+done_by gives disk old new input output stamp command ended (filing inner session) can =
+    session_by disk office_scheme old new can.1.0 can.1.1 can.1.2 office_judging (stamped_texts desk_texts) output (λ text. stamped_rows stamp (desk_rows text)) 16777216 input inner session can.0.0 can.0.1
+done_by gives disk old new input output stamp command ended (booking book inner session) can =
+    session_by disk office_scheme old new can.1.0 can.1.1 can.1.2 office_judging (stamped_texts book_texts) output (λ text. stamped_rows stamp (book_rows book.number text)) 16777216 input inner session can.0.0 can.0.1
+done_by gives disk old new input output stamp command ended (quoting quote inner opens) can =
+    opened_by disk office_scheme old new can.0 can.1 can.2 office_judging (stamped_texts quote_texts) output (stamped_rows stamp (quote_rows quote)) inner opens
+done_by gives disk old new input output stamp command ended (reporting report inner reports) can =
     reported_by disk office_scheme old new can.0 can.1 can.2 (report_text report) output inner reports
-done_by gives disk old new input output command ended (funding fund inner planned) can =
-    planned_by disk office_scheme old new can.0 can.1 can.2 office_judging round_texts output (fund_plans gives fund) inner planned
-done_by gives disk old new input output command ended (generating generate inner session) can =
-    counted_session_by disk office_scheme old new can.1.0 can.1.1 can.1.2 (year_judging office_judging) year_texts output year_counted year_ending no_verdicts
-    (rows_of_text generate.students generate.seed) 16777216 input inner session can.0.0 can.0.1
-done_by gives disk old new input output command ended (checking_rows _ same checks) can = rows_by input output ended checks can.0 can.1
-done_by gives disk old new input output command ended (checking_book _ same checks) can = book_by input output ended checks can.0 can.1
+done_by gives disk old new input output stamp command ended (funding fund inner planned) can =
+    planned_by disk office_scheme old new can.0 can.1 can.2 office_judging (stamped_texts round_texts) output (fund_plans gives stamp fund) inner planned
+done_by gives disk old new input output stamp command ended (generating generate inner session) can =
+    counted_session_by disk office_scheme old new can.1.0 can.1.1 can.1.2 (stamped_judging (year_judging filing_judging)) (stamped_texts year_texts) output year_counted year_ending no_verdicts
+    (λ text. stamped_rows stamp (rows_of_text generate.students generate.seed text)) 16777216 input inner session can.0.0 can.0.1
+done_by gives disk old new input output stamp command ended (checking_rows _ same checks) can = rows_by input output ended checks can.0 can.1
+done_by gives disk old new input output stamp command ended (checking_book _ same checks) can = book_by input output ended checks can.0 can.1
 
 ends_by : {K : Type 0} (sink : SinkGhosts K) (old new : K) (ended : Result Unit RunStop) (status : ℕ) → Ends sink old new ended status → IfErr ended (λ stop. IsExcused (status_of stop))
     → (status ≡ 0) ⊎ IsExcused status
@@ -194,12 +203,12 @@ unfailed status A B C (inr (inr (inr (inl five)))) a b c no_a no_b no_c = absurd
 unfailed status A B C (inr (inr (inr (inr nine)))) a b c no_a no_b no_c = inr nine
 
 -- where no edge failed, a command that can be done is done, or there was no memory
-pub complete : {D K : Type 0} (gives : PolicyAnswers) (disk : Ghosts D) (sink : SinkGhosts K) (counts : Counts) (old new : D) (input : Input) (before : Output) (at out : K) (command : Command) (ended : Result Unit RunStop) (status : ℕ)
-    → Does gives disk old new input before command ended → HasCause counts ended status → Ends sink at out ended status → CanBeDone command input.honest (length input.before) (disk.tells old)
+pub complete : {D K : Type 0} (gives : PolicyAnswers) (disk : Ghosts D) (sink : SinkGhosts K) (counts : Counts) (old new : D) (input : Input) (before : Output) (at out : K) (stamp : Stamp) (command : Command) (ended : Result Unit RunStop) (status : ℕ)
+    → Does gives disk old new input before stamp command ended → HasCause counts ended status → Ends sink at out ended status → CanBeDone command input.honest (length input.before) (disk.tells old)
     → (Rose counts.source.0 counts.source.1 → ⊥) → (Rose counts.sink.0 counts.sink.1 → ⊥) → (Rose counts.disk.0 counts.disk.1 → ⊥) → (status ≡ 0) ⊎ (status ≡ 9)
-complete gives disk sink counts old new input before at out command ended status does cause ends can =
+complete gives disk sink counts old new input before at out stamp command ended status does cause ends can =
     unfailed status (Rose counts.source.0 counts.source.1) (Rose counts.sink.0 counts.sink.1) (Rose counts.disk.0 counts.disk.1)
-    (ends_by sink at out ended status ends (done_by gives disk old new input before command ended does can))
+    (ends_by sink at out ended status ends (done_by gives disk old new input before stamp command ended does can))
     (λ three. cause.source.rose (read_cause sink at out ended status ends three))
     (λ four. cause.sink.rose (eq-eqb status 4 four))
     (λ five. cause.disk.rose (disk_cause sink at out ended status ends five))

@@ -9,7 +9,9 @@ use Rattle.kept_desks.specs.Desks.{IsReady, Ran, all_shown, shown_of}
 use Rattle.kept_office.specs.Turns.{asked as filing_asked, office_judging}
 use Rattle.office_lock.specs.declared.turned.Stand.{Stand}
 use Rattle.run_rows.specs.Asks.{desk_texts}
-use Rattle.run_office.specs.Names.{kept_ask}
+use Rattle.stamped_list.specs.Rows.{stamped_texts}
+use Rattle.stamped_list.specs.declared.entry.StampedEntry.{StampedEntry}
+use Rattle.run_office.specs.Names.{kept_stamped}
 use Rattle.run_office.specs.RanDesks.{FilesOwn, HasFiled, View, WorksHere, left_of}
 
 -- what is shown of lists of desks is shown of each of them
@@ -19,7 +21,7 @@ shown_at [] (y ∷ ys) same k d lt = absurd (let sizes : 0 ≡ suc (length (all_
 shown_at (x ∷ xs) (y ∷ ys) same zero d lt = ap (λ l. get_or l 0 (shown_of y)) same
 shown_at (x ∷ xs) (y ∷ ys) same (suc k) d lt = shown_at xs ys (ap (drop 1) same) k d (omega (arith, lt))
 
-files_own : (lock : TableId) (opening : Stand (Filed Filing)) (before opened worked : View) → shown_of opened ≡ shown_of before → IsReady lock opening opened → WorksHere lock opened worked
+files_own : (lock : TableId) (opening : Stand (Filed (StampedEntry Filing))) (before opened worked : View) → shown_of opened ≡ shown_of before → IsReady lock opening opened → WorksHere lock opened worked
     → FilesOwn opening before worked
 files_own lock opening before opened worked shown ready works =
     let ends = works.ends opening ready in
@@ -34,12 +36,12 @@ files_own lock opening before opened worked shown ready works =
       has = ends.has;
       opening_is = ends.opening_is;
       files =
-          subst (λ n. Files office_judging filing_asked kept_ask desk_texts n before.prefix (left_of before.rows) worked.text worked.answered worked.ended worked.last ends.pass) number
-          (subst (λ p. Files office_judging filing_asked kept_ask desk_texts opened.number p (left_of before.rows) worked.text worked.answered worked.ended worked.last ends.pass) prefix
-          (subst (λ l. Files office_judging filing_asked kept_ask desk_texts opened.number opened.prefix l worked.text worked.answered worked.ended worked.last ends.pass) rows (works.files ends.pass ends.has)));
+          subst (λ n. Files office_judging filing_asked kept_stamped (stamped_texts desk_texts) n before.prefix (left_of before.rows) worked.text worked.answered worked.ended worked.last ends.pass) number
+          (subst (λ p. Files office_judging filing_asked kept_stamped (stamped_texts desk_texts) opened.number p (left_of before.rows) worked.text worked.answered worked.ended worked.last ends.pass) prefix
+          (subst (λ l. Files office_judging filing_asked kept_stamped (stamped_texts desk_texts) opened.number opened.prefix l worked.text worked.answered worked.ended worked.last ends.pass) rows (works.files ends.pass ends.has)));
     }
 
-pub has_filed : (lock : TableId) (opening stand closed : Stand (Filed Filing)) (before opened worked after : List View) → opening ≡ stand → length opened ≡ length before → length worked ≡ length opened
+pub has_filed : (lock : TableId) (opening stand closed : Stand (Filed (StampedEntry Filing))) (before opened worked after : List View) → opening ≡ stand → length opened ≡ length before → length worked ≡ length opened
     → all_shown opened ≡ all_shown before → All (IsReady lock opening) opened → ((k : ℕ) (d : View) → k < length opened → WorksHere lock (slice_index_or opened k d) (slice_index_or worked k d))
     → Ran opening closed worked → all_shown after ≡ all_shown worked → HasFiled stand closed before after
 has_filed lock opening stand closed before opened worked after is one other same ready works ran shown =

@@ -24,6 +24,7 @@ use Rattle.run_office.proofs.Replies.{few_statuses}
 opened_after : (error : OpenError) → 5 ≤ open_status error
 opened_after opening.NoOffice = omega arith
 opened_after opening.NotJournal = omega arith
+opened_after opening.OldVersion = omega arith
 opened_after (opening.Damaged place) = omega arith
 opened_after opening.DiskFault = omega arith
 opened_after opening.NoMemory = omega arith

@@ -19,6 +19,7 @@ use Rattle.kept_session.specs.declared.stop.ReadStop.{ReadStop}
 use Rattle.kept_session.specs.declared.stop.ReadStop.TheVariants as reading
 use Rattle.office_lock.specs.Turning.{RoseBy}
 use Rattle.office_lock.specs.declared.turned.Stand.{Stand}
+use Rattle.stamped_list.specs.declared.entry.StampedEntry.{StampedEntry}
 use Rattle.run_office.specs.DeskTexts.{desks_status}
 use Rattle.run_office.specs.DesksDone.{CanFile, NoneRose, disk_faults, faulted_in}
 use Rattle.kept_runs.specs.Ends.{EndsWith, told, untold}
@@ -29,7 +30,7 @@ use Rattle.run_office.proofs.Following.{faulted_shown, faults_told, fewer_rose, 
 use Rattle.run_office.proofs.Reading.{some_of}
 
 -- the disk's count rose by at least the number of desks that ended in a fault of the disk
-pub counted : (start end : Stand (Filed Filing)) (before after : List View) → HasFiled start end before after → RoseBy (faulted_in after) start.faults end.faults
+pub counted : (start end : Stand (Filed (StampedEntry Filing))) (before after : List View) → HasFiled start end before after → RoseBy (faulted_in after) start.faults end.faults
 counted start end before after filed = subst (λ (n : ℕ). RoseBy n start.faults end.faults) (sums ∙ sym (faulted_shown after filed.desks filed.shown)) filed.ran.faults
   where
     one : (k : ℕ) (d : View) → k < length filed.desks → faults_in (get_or filed.desks k d).pass ≡ disk_faults (get_or filed.desks k d).ended
@@ -62,11 +63,12 @@ module _ {D S K : Type 0} (disk : Ghosts D) (source : SourceGhosts S) (sink : Si
   unopened_by : (error : OpenError) → IsUnopened disk office_scheme error old new → (error ≡ opening.DiskFault → Rose (disk.faults old) (disk.faults new)) → open_status error ≡ 9
   unopened_by opening.NoOffice u rose = absurd (not_unborn office_header (disk.tells old).reads can.office.1 (u.unborn honest refl))
   unopened_by opening.NotJournal u rose = absurd ((u.foreign honest refl).not_born can.office.1)
+  unopened_by opening.OldVersion u rose = absurd ((u.old honest refl).not_born can.office.1)
   unopened_by (opening.Damaged place) u rose = absurd (can.office.2 place (u.damaged honest place refl).1)
   unopened_by opening.DiskFault u rose = absurd (disk_still (rose_once (disk.faults old) (disk.faults new) (rose refl)))
   unopened_by opening.NoMemory u rose = refl
 
-  filed_by : (start end : Stand (Filed Filing)) (before after : List View) (text : List ℕ) (status : ℕ) → HasFiled start end before after
+  filed_by : (start end : Stand (Filed (StampedEntry Filing))) (before after : List View) (text : List ℕ) (status : ℕ) → HasFiled start end before after
       → start.faults ≡ disk.faults old → end.faults ≡ disk.faults new → EndsWith sink text (desks_status after) out out' status → (status ≡ 0) ⊎ (status ≡ 9)
   filed_by start end before after text status filed from to (untold cut) = absurd (sink_still cut.rose)
   filed_by start end before after text status filed from to (told put) = go (status_by_faults after)

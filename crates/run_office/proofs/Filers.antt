@@ -25,6 +25,7 @@ use Rattle.aid_edges.specs.declared.sink.Sink.{Ghosts as SinkGhosts}
 use Rattle.kept_list.specs.Kept.{IsSound}
 use Rattle.kept_office.specs.Scheme.{office_scheme}
 use Rattle.kept_session.specs.Links.{IsOpened}
+use Rattle.stamped_list.specs.declared.entry.StampedEntry.{StampedEntry}
 use Rattle.run_office.proofs.Reading.{some_of}
 use Rattle.run_office.specs.DeskTexts.{admitted_text, desks_status, desks_text}
 use Rattle.run_office.specs.Names.{names_of}
@@ -101,10 +102,10 @@ module _ {Entry Ask Verdict Error : Type 0} (judging : Judging Entry Ask Verdict
   left_by by (Stopped NoMemory) taken rest known entry ends has = absurd (ends.0 entry has)
 
 -- The rows of what was added are the newest that the list at the end notes.
-module _ (opening : Stand (Filed Filing)) (history : List Filing) (pending : Option Filing) (log : List RowName) (waiting : Option RowName) (faults : ℕ) (honest : Bool) (before after : List View)
+module _ (opening : Stand (Filed (StampedEntry Filing))) (history : List (StampedEntry Filing)) (pending : Option (StampedEntry Filing)) (log : List RowName) (waiting : Option RowName) (faults : ℕ) (honest : Bool) (before after : List View)
     (filed : HasFiled opening (stand_of history pending log waiting faults honest) before after) (numbers : (k : ℕ) (d : View) → k < length before → (get_or before k d).number ≡ k + 1) where
   -- what one desk's pass has was filed by that desk's rows
-  of_desk : (j : ℕ) (x : View) (entry : ℕ × Filed Filing) → j < length filed.desks → x ≡ get_or filed.desks j x → Contains (mine_in x.pass) entry ⊎ Contains (left_in x.pass) entry → entry.1.by.desk ≡ 0 → ⊥
+  of_desk : (j : ℕ) (x : View) (entry : ℕ × Filed (StampedEntry Filing)) → j < length filed.desks → x ≡ get_or filed.desks j x → Contains (mine_in x.pass) entry ⊎ Contains (left_in x.pass) entry → entry.1.by.desk ≡ 0 → ⊥
   of_desk j x entry lt is has zero_is = go has
     where
       inside : j < length before
@@ -130,31 +131,31 @@ module _ (opening : Stand (Filed Filing)) (history : List Filing) (pending : Opt
   pub rows_noted : take (length filed.ran.added) log ≡ rows_of filed.ran.added
   rows_noted = noted history log filed.ran.added opening.list filed.ran.list by
     where
-      by : (k : ℕ) (d : Filed Filing) → k < length filed.ran.added → (get_or filed.ran.added k d).by.desk ≡ 0 → ⊥
+      by : (k : ℕ) (d : Filed (StampedEntry Filing)) → k < length filed.ran.added → (get_or filed.ran.added k d).by.desk ≡ 0 → ⊥
       by k d lt zero_is = go (Contains-append_cases mines settled entry (Contains-permutation (numbered (length opening.list) filed.ran.added) (mines ++ settled) entry filed.ran.once place.1))
         where
           place : (p : ℕ) × Contains (numbered (length opening.list) filed.ran.added) (p, get_or filed.ran.added k d)
           place = numbered_has (length opening.list) filed.ran.added k d lt
 
-          entry : ℕ × Filed Filing
+          entry : ℕ × Filed (StampedEntry Filing)
           entry = (place.0, get_or filed.ran.added k d)
 
-          mines : List (ℕ × Filed Filing)
+          mines : List (ℕ × Filed (StampedEntry Filing))
           mines = flat_map (λ (v : View). mine_in v.pass) filed.desks
 
-          settled : List (ℕ × Filed Filing)
+          settled : List (ℕ × Filed (StampedEntry Filing))
           settled = flat_map (λ (v : View). settled_in v.pass) filed.desks
 
           go : Contains mines entry ⊎ Contains settled entry → ⊥
           go (inl mine) = let (j, x, less, is, there) = in_one (λ (v : View). mine_in v.pass) filed.desks entry mine in of_desk j x entry less is (inl there) zero_is
           go (inr was) = let (j, x, less, is, there) = in_one (λ (v : View). left_in v.pass) filed.desks entry (filed.ran.settled entry was) in of_desk j x entry less is (inr there) zero_is
 
-  pub named : (h : List Filing) (l : List RowName) → length (filed_list h l) ≡ length h
+  pub named : (h : List (StampedEntry Filing)) (l : List RowName) → length (filed_list h l) ≡ length h
   named [] l = refl
   named (f ∷ h) [] = ap suc (named h [])
   named (f ∷ h) (row ∷ l) = ap suc (named h l)
 
-  pub rows_told : (past : List Filing) → opening.list ≡ filed_list past [] → reverse (take (length history - length past) log) ≡ reverse (rows_of filed.ran.added)
+  pub rows_told : (past : List (StampedEntry Filing)) → opening.list ≡ filed_list past [] → reverse (take (length history - length past) log) ≡ reverse (rows_of filed.ran.added)
   rows_told past is =
       let whole : length (filed_list history log) ≡ length filed.ran.added + length opening.list = ap length filed.ran.list ∙ length-append filed.ran.added opening.list in
       let now : length (filed_list history log) ≡ length history = named history log in
@@ -176,7 +177,7 @@ new_desks source old new desks few read = record {
 }
 
 -- the desks filed, and what they did was told
-pub files_worked : {D K : Type 0} (disk : DiskGhosts D) (sink : SinkGhosts K) (old at closed new : D) (before after : List View) (past history : List Filing) (pending : Option Filing) (log : List RowName) (waiting : Option RowName)
+pub files_worked : {D K : Type 0} (disk : DiskGhosts D) (sink : SinkGhosts K) (old at closed new : D) (before after : List View) (past history : List (StampedEntry Filing)) (pending : Option (StampedEntry Filing)) (log : List RowName) (waiting : Option RowName)
     (front status : ℕ) (out out' : K) → AreNew before → IsOpened disk office_scheme past old at → disk.faults at ≡ disk.faults old
     → HasFiled (stand_of past None [] None (disk.faults at) (disk.tells at).honest) (stand_of history pending log waiting (disk.faults closed) (disk.tells closed).honest) before after
     → new ≡ closed → (IsHonest (disk.tells new) → IsSound office_scheme (disk.tells new) history pending) → front ≡ length past

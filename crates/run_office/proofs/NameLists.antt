@@ -4,6 +4,7 @@ use Rattle.aid_filings.specs.declared.filing.Filing.{Filing}
 use Rattle.kept_list.specs.Names.{entries_of, rows_of}
 use Rattle.kept_list.specs.declared.names.Filed.{Filed}
 use Rattle.kept_list.specs.declared.names.RowName.{RowName}
+use Rattle.stamped_list.specs.declared.entry.StampedEntry.{StampedEntry}
 use Rattle.run_office.specs.Names.{name_of, names_of}
 use Rattle.run_office.specs.RanDesks.{View}
 
@@ -25,26 +26,26 @@ module _ (desks : List View) where
       told ∙ (ap₂ (λ (n : ℕ) (r : RowName). name_of desks n r) here is ∙ sym (names_at position rows k name by lt))
 
   -- an entry with the row that is told of for it
-  abbrev pub told_by : ℕ → Filed Filing → Filed Filing
+  abbrev pub told_by : ℕ → Filed (StampedEntry Filing) → Filed (StampedEntry Filing)
   told_by position f = record { entry = f.entry; by = name_of desks position f.by }
 
-  abbrev pub told_all : ℕ → List (Filed Filing) → List (Filed Filing)
+  abbrev pub told_all : ℕ → List (Filed (StampedEntry Filing)) → List (Filed (StampedEntry Filing))
   told_all position [] = []
   told_all position (f ∷ list) = told_by position f ∷ told_all (position + 1) list
 
-  pub entries_told : (position : ℕ) (list : List (Filed Filing)) → entries_of (told_all position list) ≡ entries_of list
+  pub entries_told : (position : ℕ) (list : List (Filed (StampedEntry Filing))) → entries_of (told_all position list) ≡ entries_of list
   entries_told position [] = refl
   entries_told position (f ∷ list) = ap (λ l. f.entry ∷ l) (entries_told (position + 1) list)
 
-  pub rows_told : (position : ℕ) (list : List (Filed Filing)) → rows_of (told_all position list) ≡ names_of desks position (rows_of list)
+  pub rows_told : (position : ℕ) (list : List (Filed (StampedEntry Filing))) → rows_of (told_all position list) ≡ names_of desks position (rows_of list)
   rows_told position [] = refl
   rows_told position (f ∷ list) = ap (λ l. name_of desks position f.by ∷ l) (rows_told (position + 1) list)
 
-  pub length-told : (position : ℕ) (list : List (Filed Filing)) → length (told_all position list) ≡ length list
+  pub length-told : (position : ℕ) (list : List (Filed (StampedEntry Filing))) → length (told_all position list) ≡ length list
   length-told position [] = refl
   length-told position (f ∷ list) = ap suc (length-told (position + 1) list)
 
-  pub told_at : (position : ℕ) (list : List (Filed Filing)) (k : ℕ) (d : Filed Filing) → k < length list → get_or (told_all position list) k d ≡ told_by (position + k) (get_or list k d)
+  pub told_at : (position : ℕ) (list : List (Filed (StampedEntry Filing))) (k : ℕ) (d : Filed (StampedEntry Filing)) → k < length list → get_or (told_all position list) k d ≡ told_by (position + k) (get_or list k d)
   told_at position [] k d lt = absurd (omega (arith, lt))
   told_at position (f ∷ list) zero d lt = ap (λ (n : ℕ). told_by n f) (let same : position ≡ position + 0 = omega arith in same)
   told_at position (f ∷ list) (suc k) d lt =

@@ -15,6 +15,10 @@ use Rattle.kept_desks.specs.Desks.{all_shown, left_in, mine_in, seen_in, settled
 use Rattle.kept_list.specs.Names.{entries_of, filed_by}
 use Rattle.kept_office.specs.Turns.{asked as filing_asked, office_judging}
 use Rattle.run_rows.specs.Asks.{desk_texts}
+use Rattle.stamped_list.specs.Rows.{stamped_texts}
+use Rattle.stamped_list.specs.declared.entry.StampedAsk.{StampedAsk}
+use Rattle.stamped_list.specs.declared.entry.StampedEntry.{StampedEntry}
+use Rattle.stamped_list.specs.declared.entry.StampedError.{StampedError}
 use Rattle.run_office.specs.DesksDone.{HasNamed, by_answer, by_stop}
 use Rattle.run_office.specs.RanDesks.{FilesOwn, HasFiled, View}
 use Rattle.run_office.proofs.Crew.{shown_at}
@@ -44,9 +48,9 @@ undecided_at own by (Stopped (DiskFault undecided)) taken rest known entry ends 
     (ap (λ u. Stopped (DiskFault u)) named, filed.0, ends.ask, ends.row, filed.1)
 undecided_at own by (Stopped NoMemory) taken rest known entry ends has = absurd (ends.0 entry has)
 
-module _ (opening closed : Stand (Filed Filing)) (before after : List View) (filed : HasFiled opening closed before after) where
+module _ (opening closed : Stand (Filed (StampedEntry Filing))) (before after : List View) (filed : HasFiled opening closed before after) where
   -- what one desk's pass has is that of its rows
-  pub of_desk : (k : ℕ) (x : View) (entry : ℕ × Filed Filing) → k < length filed.desks → x ≡ get_or filed.desks k x → Contains (mine_in x.pass) entry ⊎ Contains (left_in x.pass) entry
+  pub of_desk : (k : ℕ) (x : View) (entry : ℕ × Filed (StampedEntry Filing)) → k < length filed.desks → x ≡ get_or filed.desks k x → Contains (mine_in x.pass) entry ⊎ Contains (left_in x.pass) entry
       → (j : ℕ) × (d : View) × (lt : j < length before) × HasNamed (filed.each j d lt) entry
   of_desk k x entry lt is has = (k, x, inside, go has)
     where
@@ -65,14 +69,14 @@ module _ (opening closed : Stand (Filed Filing)) (before after : List View) (fil
           let (ended, by, ask, row, is_own) = undecided_at filing_asked _ (get_or filed.desks k x).ended own.files.taken own.files.rest own.known entry own.files.ends (subst (λ l. Contains l entry) (ap left_in pass) left) in
           by_stop (record { ask = ask; taken = row; files = is_own; by = by; ended = ended })
 
-  pub added_named : (entry : ℕ × Filed Filing) → Contains (numbered (length opening.list) filed.ran.added) entry
+  pub added_named : (entry : ℕ × Filed (StampedEntry Filing)) → Contains (numbered (length opening.list) filed.ran.added) entry
       → (k : ℕ) × (d : View) × (lt : k < length before) × HasNamed (filed.each k d lt) entry
   added_named entry has = go (Contains-append_cases mines settled entry (Contains-permutation (numbered (length opening.list) filed.ran.added) (mines ++ settled) entry filed.ran.once has))
     where
-      mines : List (ℕ × Filed Filing)
+      mines : List (ℕ × Filed (StampedEntry Filing))
       mines = flat_map (λ (v : View). mine_in v.pass) filed.desks
 
-      settled : List (ℕ × Filed Filing)
+      settled : List (ℕ × Filed (StampedEntry Filing))
       settled = flat_map (λ (v : View). settled_in v.pass) filed.desks
 
       go : Contains mines entry ⊎ Contains settled entry → (k : ℕ) × (d : View) × (lt : k < length before) × HasNamed (filed.each k d lt) entry
@@ -84,14 +88,14 @@ module _ (opening closed : Stand (Filed Filing)) (before after : List View) (fil
   older_than_seen k d lt =
       let own = filed.each k d lt in
       follows_older office_judging (entries_of opening.list) (entries_of own.known.seen) own.files.answers
-      (subst (λ (o : Stand (Filed Filing)). Follows office_judging (entries_of o.list) own.files.answers (entries_of own.known.seen)) own.opening_is own.files.follows)
+      (subst (λ (o : Stand (Filed (StampedEntry Filing))). Follows office_judging (entries_of o.list) own.files.answers (entries_of own.known.seen)) own.opening_is own.files.follows)
 
   pub seen_in_closed : (k : ℕ) (d : View) (lt : k < length before) → IsOlder (filed.each k d lt).known.seen closed.list
   seen_in_closed k d lt =
       let own = filed.each k d lt in
       subst (λ l. IsOlder l closed.list) (ap seen_in own.has) (filed.ran.seen k d (omega (arith, lt, filed.count)))
 
-  pub answered_in_closed : (k : ℕ) (d : View) (lt : k < length before) (i : ℕ) (a : Answer Filing Ask RowError) → i < length (filed.each k d lt).files.answers
+  pub answered_in_closed : (k : ℕ) (d : View) (lt : k < length before) (i : ℕ) (a : Answer (StampedEntry Filing) (StampedAsk Ask) (StampedError RowError)) → i < length (filed.each k d lt).files.answers
       → IsOlder (get_or (filed.each k d lt).files.answers i a).past (entries_of closed.list)
   answered_in_closed k d lt i a less =
       let own = filed.each k d lt in
@@ -106,7 +110,7 @@ module _ (opening closed : Stand (Filed Filing)) (before after : List View) (fil
       sizes : length after ≡ length filed.desks
       sizes = sym (length-map after shown_of) ∙ (ap length filed.shown ∙ length-map filed.desks shown_of)
 
-  position_named : (by : RowName) (ended : DeskEnd) (taken : List (Result Ask RowError)) (rest : List desk_texts.Meaning) (known : Known (Filed Filing)) (position : ℕ)
+  position_named : (by : RowName) (ended : DeskEnd) (taken : List (Result (StampedAsk Ask) (StampedError RowError))) (rest : List (stamped_texts desk_texts).Meaning) (known : Known (Filed (StampedEntry Filing))) (position : ℕ)
       → Ends filing_asked by ended taken rest known → ended ≡ Stopped (DiskFault (Some position)) → position ≡ length known.seen + 1
   position_named by Open taken rest known position ends is = absurd (let bad : ⊥ = cc in bad)
   position_named by Done taken rest known position ends is = absurd (let bad : ⊥ = cc in bad)
@@ -135,7 +139,7 @@ module _ (opening closed : Stand (Filed Filing)) (before after : List View) (fil
       less = older_length own.known.seen closed.list (seen_in_closed k d inside)
 
 -- no row was answered on fewer filings than one before it
-pub fronts_rising : (opening : Stand (Filed Filing)) (before after : View) (own : FilesOwn opening before after) (i j : ℕ) (a : Answer Filing Ask RowError)
+pub fronts_rising : (opening : Stand (Filed (StampedEntry Filing))) (before after : View) (own : FilesOwn opening before after) (i j : ℕ) (a : Answer (StampedEntry Filing) (StampedAsk Ask) (StampedError RowError))
     → i ≤ j → j < length own.files.answers → length (get_or own.files.answers i a).past ≤ length (get_or own.files.answers j a).past
 fronts_rising opening before after own i j a le lt =
     older_length (get_or own.files.answers i a).past (get_or own.files.answers j a).past

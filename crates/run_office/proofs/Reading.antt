@@ -12,9 +12,12 @@ use Rattle.kept_session.specs.declared.stop.ReadStop.TheVariants as reading
 use Rattle.std.specs.Prelude.{None}
 use Rattle.kept_desks.specs.declared.stop.DeskEnd.TheVariants.{Open}
 use Rattle.run_rows.specs.Asks.{desk_rows}
+use Rattle.stamped_list.specs.Rows.{stamped_rows}
+use Rattle.stamps.specs.declared.stamp.Stamp.{Stamp}
 use Rattle.run_office.specs.DeskTexts.{desk_prefix}
 use Rattle.run_office.specs.RanDesks.{AreRead, HasStood, IsDeskOf, IsUnreadAt, Joins, View, input_at, left_of}
 use Rattle.run_rows.specs.declared.desk.DeskRows.{DeskRows}
+use Rattle.stamped_list.specs.declared.rows.StampedRows.{StampedRows}
 use Rattle.run_office.specs.declared.desks.DeskInput.{DeskInput}
 
 -- a place of a list has an item
@@ -43,6 +46,10 @@ module _ {S : Type 0} (source : Ghosts S) where
         let new_is : now ≡ get_or (set mid n now) n i = sym (get_or-set_same mid n now i inside) in
         ap (λ w. of w now) old_is ∙ ap (λ w. of (get_or old n i) w) new_is
 
+    -- and so is its stamp
+    stamp_is : (i : DeskInput S) → was.stamp ≡ (get_or old n i).stamp
+    stamp_is i = ap (λ (w : DeskInput S). w.stamp) (is ∙ (same n was (omega arith) lt ∙ get_or_default old n was i lt))
+
     -- the others are as they were
     other : (k : ℕ) (i : DeskInput S) → (k ≡ n → ⊥) → input_at source old mid k i ≡ input_at source old (set mid n now) k i
     other k i ne = ap (λ w. of (get_or old k i) w) (sym (get_or-set_other mid n k now i ne))
@@ -60,7 +67,7 @@ module _ {S : Type 0} (source : Ghosts S) where
     pub read_behind : (k : ℕ) (i : DeskInput S) → n + 1 ≤ k → k < length old → get_or (set mid n now) k i ≡ get_or old k i
     read_behind k i le less = get_or-set_other mid n k now i (λ (e : k ≡ n). omega (arith, e, le)) ∙ same k i (omega (arith, le)) less
 
-    pub read_more : (desks desks' : List View) → AreRead source n old mid desks → Joins (n + 1) (of was now) desks desks' → source.faults now.input ≡ source.faults was.input
+    pub read_more : (desks desks' : List View) → AreRead source n old mid desks → Joins (n + 1) was.stamp (of was now) desks desks' → source.faults now.input ≡ source.faults was.input
         → AreRead source (n + 1) old (set mid n now) desks'
     read_more desks desks' read joined still = record { count = count; unmoved = unmoved; each = each }
       where
@@ -73,17 +80,19 @@ module _ {S : Type 0} (source : Ghosts S) where
             (λ (e : k ≡ n). subst (λ m. HasStood source old (set mid n now) m i) (sym e) (count_here (λ a b. b ≡ a) still i))
             (λ (ne : ¬ (k ≡ n)). stood_other k i ne (read.unmoved k i (omega (arith, less, ne))))
 
-        each : (k : ℕ) (i : DeskInput S) (d : View) → k < n + 1 → IsDeskOf (k + 1) (input_at source old (set mid n now) k i) (get_or desks' k d)
+        each : (k : ℕ) (i : DeskInput S) (d : View) → k < n + 1 → IsDeskOf (k + 1) (get_or old k i).stamp (input_at source old (set mid n now) k i) (get_or desks' k d)
         each k i d less =
             dite (ℕ_discrete k n)
             (λ (e : k ≡ n).
             let desk_is : joined.desk ≡ get_or desks' n d = sym (ap (λ ds. get_or ds n d) joined.behind ∙ get_or_at desks joined.desk [] d n read.count) in
-            subst (λ m. IsDeskOf (m + 1) (input_at source old (set mid n now) m i) (get_or desks' m d)) (sym e)
-            (subst (λ input. IsDeskOf (n + 1) input (get_or desks' n d)) (here i) (subst (λ desk. IsDeskOf (n + 1) (of was now) desk) desk_is joined.of)))
+            subst (λ m. IsDeskOf (m + 1) (get_or old m i).stamp (input_at source old (set mid n now) m i) (get_or desks' m d)) (sym e)
+            (subst (λ (s : Stamp). IsDeskOf (n + 1) s (input_at source old (set mid n now) n i) (get_or desks' n d)) (stamp_is i)
+            (subst (λ input. IsDeskOf (n + 1) was.stamp input (get_or desks' n d)) (here i) (subst (λ desk. IsDeskOf (n + 1) was.stamp (of was now) desk) desk_is joined.of))))
             (λ (ne : ¬ (k ≡ n)).
             let less_n : k < n = omega (arith, less, ne) in
             let desk_is : get_or desks k d ≡ get_or desks' k d = sym (ap (λ ds. get_or ds k d) joined.behind ∙ get_or_append_left desks (joined.desk ∷ []) d k (omega (arith, less_n, read.count))) in
-            subst (λ input. IsDeskOf (k + 1) input (get_or desks' k d)) (other k i ne) (subst (λ desk. IsDeskOf (k + 1) (input_at source old mid k i) desk) desk_is (read.each k i d less_n)))
+            subst (λ input. IsDeskOf (k + 1) (get_or old k i).stamp input (get_or desks' k d)) (other k i ne)
+            (subst (λ desk. IsDeskOf (k + 1) (get_or old k i).stamp (input_at source old mid k i) desk) desk_is (read.each k i d less_n)))
 
     pub unread_here : (desks : List View) (stop : ReadStop) → AreRead source n old mid desks → IsUnread stop 16777216 (of was now)
         → (stop ≡ reading.Read → Rose (source.faults was.input) (source.faults now.input)) → (stop ≢ reading.Read → source.faults now.input ≡ source.faults was.input)
@@ -104,10 +113,10 @@ pub whole_within : (input : Input) → IsReadWhole 16777216 input → IsUnread r
 whole_within input whole = λ honest. let short = whole.short honest in omega (arith, short)
 
 -- a new desk with the rows of an input that was read
-pub joins_of : (number : ℕ) (input : Input) (rows : DeskRows) (prefix : List ℕ) (desk : View) (before after : List View)
+pub joins_of : (number : ℕ) (stamp : Stamp) (input : Input) (rows : StampedRows DeskRows) (prefix : List ℕ) (desk : View) (before after : List View)
     → desk ≡ record { number = number; prefix = prefix; rows = rows; text = []; answered = 0; ended = Open; last = None; pass = None } → prefix ≡ desk_prefix number
-    → IsReadWhole 16777216 input → (IsTrue input.honest → left_of rows ≡ desk_rows input.before) → after ≡ before ++ desk ∷ [] → Joins number input before after
-joins_of number input rows prefix desk before after is prefix_is whole said behind = record {
+    → IsReadWhole 16777216 input → (IsTrue input.honest → left_of rows ≡ stamped_rows stamp (desk_rows input.before)) → after ≡ before ++ desk ∷ [] → Joins number stamp input before after
+joins_of number stamp input rows prefix desk before after is prefix_is whole said behind = record {
   desk = desk;
   of = record {
     numbered = ap (λ (v : View). v.number) is;

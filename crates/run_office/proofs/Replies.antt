@@ -8,10 +8,10 @@ use Rattle.aid_filings.specs.declared.filing.Filing.{Filing}
 use Rattle.aid_filings.specs.declared.reply.Ask.{Ask}
 use Rattle.desk_forms.specs.Rows.{meanings_from, row_meaning}
 use Rattle.field_rows.specs.declared.error.RowError.{RowError}
-use Rattle.headline.specs.AtOnce.{DeskText, DeskTexts, Replies}
+use Rattle.headline.specs.AtOnce.{DeskFiles, DeskText, DeskTexts, Replies}
 use Rattle.headline.specs.AtOnce as many
 use Rattle.headline.specs.Filed.{IsFault, Row}
-use Rattle.headline.proofs.Office.{answered as row_answered}
+use Rattle.headline.proofs.Office.{answered_under}
 use Rattle.kept_desks.specs.Answered.{Answer, Ends, Follows, answer_lines}
 use Rattle.kept_desks.specs.DeskTexts.{desk_text, stop_at, stop_text}
 use Rattle.kept_desks.specs.Desks.{all_shown, shown_of}
@@ -26,31 +26,52 @@ use Rattle.kept_office.specs.Turns.{asked as filing_asked, office_judging}
 use Rattle.kept_list.specs.Texts.{after_row, row_line}
 use Rattle.run_rows.specs.Asks.{asked, desk_texts, said_by}
 use Rattle.office_history.specs.Answer.{IsLegal}
-use Rattle.office_history.proofs.Legal.{older_legal}
 use Rattle.office_lock.specs.Passes.{IsOlder}
 use Rattle.office_lock.specs.declared.turned.Stand.{Stand}
+use Rattle.stamps.specs.Stamps.{plain_stamp}
+use Rattle.stamped_list.specs.Entries.{entries}
+use Rattle.stamped_list.specs.Rows.{said_under, stamped_rows, stamped_texts}
+use Rattle.stamped_list.specs.declared.entry.StampedAsk.{StampedAsk}
+use Rattle.stamped_list.specs.declared.entry.StampedEntry.{StampedEntry}
+use Rattle.stamped_list.specs.declared.entry.StampedError.{StampedError}
+use Rattle.stamps.specs.declared.stamp.Stamp.{Stamp}
 use Rattle.run_office.specs.DeskTexts.{desk_prefix, desks_status, desks_text, had_disk_fault, had_no_memory, stop_line, stop_words}
 use Rattle.run_office.specs.RanDesks.{FilesOwn, View, left_of}
 use Rattle.run_office.proofs.ByPlace.{AreNamed}
 use Rattle.run_office.proofs.Following.{follows_older, older_refl, older_trans}
 
 -- a part of a legal history is legal
-legal_part : (old new : List Filing) → IsOlder old new → IsLegal new → IsLegal old
-legal_part old new (added, is) legal = older_legal added old (subst IsLegal is legal)
+legal_behind : (added old : List (StampedEntry Filing)) → IsLegal (entries (added ++ old)) → IsLegal (entries old)
+legal_behind [] old legal = legal
+legal_behind (e ∷ added) old legal = legal_behind added old legal.0
+
+legal_part : (old new : List (StampedEntry Filing)) → IsOlder old new → IsLegal (entries new) → IsLegal (entries old)
+legal_part old new (added, is) legal = legal_behind added old (subst (λ (l : List (StampedEntry Filing)). IsLegal (entries l)) is legal)
+
+-- what a desk files where there is none
+abbrev pub no_files : DeskFiles
+no_files = (plain_stamp, [])
+
+-- what rows say under a stamp, the first of them with this number
+abbrev pub said_from : ℕ → Stamp → List Row → List (stamped_texts desk_texts).Meaning
+said_from number stamp rows = stamped_rows stamp (map asked (meanings_from number rows))
+
+abbrev pub said_in : DeskFiles → List (stamped_texts desk_texts).Meaning
+said_in files = said_from 1 files.0 files.1
 
 -- what rows that mean nothing leave
-none_meant : (number : ℕ) (rows : List Row) → map asked (meanings_from number rows) ≡ [] → rows ≡ []
-none_meant number [] is = refl
-none_meant number (row ∷ rows) is = absurd (let bad : ⊥ = cc in bad)
+none_meant : (number : ℕ) (stamp : Stamp) (rows : List Row) → said_from number stamp rows ≡ [] → rows ≡ []
+none_meant number stamp [] is = refl
+none_meant number stamp (row ∷ rows) is = absurd (let bad : ⊥ = cc in bad)
 
 -- rows in front were answered by these lines; none is left where what is left says nothing
-record Replied (by : ℕ → RowName) (desk : ℕ) (closed : List Filing) (number : ℕ) (rows : List Row) (seen : List Filing) (count : ℕ) (left : List desk_texts.Meaning) (lines : List ℕ) : Type 0 where
+record Replied (by : ℕ → RowName) (desk : ℕ) (stamp : Stamp) (closed : List (StampedEntry Filing)) (number : ℕ) (rows : List Row) (seen : List (StampedEntry Filing)) (count : ℕ) (left : List (stamped_texts desk_texts).Meaning) (lines : List ℕ) : Type 0 where
   pub front : List Row
   pub behind : List Row
   pub whole : rows ≡ front ++ behind
   pub counted : length front ≡ count
   pub last : left ≡ [] → behind ≡ []
-  pub replies : Replies by desk closed number front seen lines
+  pub replies : Replies by desk stamp closed number front seen lines
 
 -- why a desk stopped, behind the row's number
 abbrev pub fault_of : DeskStop → List ℕ
@@ -73,19 +94,19 @@ stop_begins prefix row stop = ap (λ l. prefix ++ l) (words stop) ∙ (sym (appe
     words NoMemory = refl
 
 -- one row more, in front
-reply : (by : ℕ → RowName) (desk number : ℕ) (closed seen now : List Filing) (a : Answer Filing Ask RowError) (answers : List (Answer Filing Ask RowError)) (row : Row) (rows : List Row) (left : List desk_texts.Meaning)
-    → IsLegal closed → IsOlder now closed → Follows office_judging seen (a ∷ answers) now → AreNamed by desk number (a ∷ answers) → said_by a.row ≡ asked (row_meaning number row)
-    → Replied by desk closed (number + 1) rows (after_row office_judging a.past a.row) (length answers) left (answer_lines office_judging desk_texts (desk_prefix desk) (number + 1) answers)
-    → Replied by desk closed number (row ∷ rows) seen (length (a ∷ answers)) left (answer_lines office_judging desk_texts (desk_prefix desk) number (a ∷ answers))
-reply by desk number closed seen now a answers row rows left legal older follows named means more = record {
+reply : (by : ℕ → RowName) (desk number : ℕ) (stamp : Stamp) (closed seen now : List (StampedEntry Filing)) (a : Answer (StampedEntry Filing) (StampedAsk Ask) (StampedError RowError)) (answers : List (Answer (StampedEntry Filing) (StampedAsk Ask) (StampedError RowError))) (row : Row) (rows : List Row) (left : List (stamped_texts desk_texts).Meaning)
+    → IsLegal (entries closed) → IsOlder now closed → Follows office_judging seen (a ∷ answers) now → AreNamed by desk number (a ∷ answers) → said_under said_by a.row ≡ (asked (row_meaning number row), stamp)
+    → Replied by desk stamp closed (number + 1) rows (after_row office_judging a.past a.row) (length answers) left (answer_lines office_judging (stamped_texts desk_texts) (desk_prefix desk) (number + 1) answers)
+    → Replied by desk stamp closed number (row ∷ rows) seen (length (a ∷ answers)) left (answer_lines office_judging (stamped_texts desk_texts) (desk_prefix desk) number (a ∷ answers))
+reply by desk number stamp closed seen now a answers row rows left legal older follows named means more = record {
   front = row ∷ more.front;
   behind = more.behind;
   whole = ap (λ l. row ∷ l) more.whole;
   counted = ap suc more.counted;
   last = more.last;
-  replies = many.more number row more.front seen a.past (after_row office_judging a.past a.row) (row_line office_judging desk_texts a.past number a.row)
-      (answer_lines office_judging desk_texts (desk_prefix desk) (number + 1) answers) follows.0
-      (row_answered a.past number row a.row (legal_part a.past closed (older_trans a.past now closed before older) legal) means) named.0
+  replies = many.more number row more.front seen a.past (after_row office_judging a.past a.row) (row_line office_judging (stamped_texts desk_texts) a.past number a.row)
+      (answer_lines office_judging (stamped_texts desk_texts) (desk_prefix desk) (number + 1) answers) follows.0
+      (answered_under stamp a.past number row a.row (legal_part a.past closed (older_trans a.past now closed before older) legal) means) named.0
       (older_trans (after_row office_judging a.past a.row) now closed (follows_older office_judging (after_row office_judging a.past a.row) now answers follows.1) older) more.replies;
 }
   where
@@ -93,52 +114,52 @@ reply by desk number closed seen now a answers row rows left legal older follows
     before = follows_older office_judging a.past now (a ∷ answers) (older_refl a.past, follows.1)
 
 -- the answers of a desk are replies to its rows in front
-replied : (by : ℕ → RowName) (desk number : ℕ) (closed seen now : List Filing) (answers : List (Answer Filing Ask RowError)) (taken : List (Result Ask RowError)) (rest : List desk_texts.Meaning) (rows : List Row)
-    → IsLegal closed → IsOlder now closed → Follows office_judging seen answers now → AreNamed by desk number answers
-    → map asked (meanings_from number rows) ≡ map said_by (map (λ (a : Answer Filing Ask RowError). a.row) answers ++ taken) ++ rest
-    → Replied by desk closed number rows seen (length answers) (map said_by taken ++ rest) (answer_lines office_judging desk_texts (desk_prefix desk) number answers)
-replied by desk number closed seen now [] taken rest rows legal older follows named is = record {
+replied : (by : ℕ → RowName) (desk number : ℕ) (stamp : Stamp) (closed seen now : List (StampedEntry Filing)) (answers : List (Answer (StampedEntry Filing) (StampedAsk Ask) (StampedError RowError))) (taken : List (Result (StampedAsk Ask) (StampedError RowError))) (rest : List (stamped_texts desk_texts).Meaning) (rows : List Row)
+    → IsLegal (entries closed) → IsOlder now closed → Follows office_judging seen answers now → AreNamed by desk number answers
+    → said_from number stamp rows ≡ map (said_under said_by) (map (λ (a : Answer (StampedEntry Filing) (StampedAsk Ask) (StampedError RowError)). a.row) answers ++ taken) ++ rest
+    → Replied by desk stamp closed number rows seen (length answers) (map (said_under said_by) taken ++ rest) (answer_lines office_judging (stamped_texts desk_texts) (desk_prefix desk) number answers)
+replied by desk number stamp closed seen now [] taken rest rows legal older follows named is = record {
   front = [];
   behind = rows;
   whole = refl;
   counted = refl;
-  last = λ none. none_meant number rows (is ∙ none);
+  last = λ none. none_meant number stamp rows (is ∙ none);
   replies = many.none number seen;
 }
-replied by desk number closed seen now (a ∷ answers) taken rest [] legal older follows named is = absurd (let bad : ⊥ = cc in bad)
-replied by desk number closed seen now (a ∷ answers) taken rest (row ∷ rows) legal older follows named is =
-    let means : said_by a.row ≡ asked (row_meaning number row) = cc in
-    let others : map asked (meanings_from (suc number) rows) ≡ map said_by (map (λ (x : Answer Filing Ask RowError). x.row) answers ++ taken) ++ rest = cc in
-    reply by desk number closed seen now a answers row rows (map said_by taken ++ rest) legal older follows named means
-    (replied by desk (number + 1) closed (after_row office_judging a.past a.row) now answers taken rest rows legal older follows.1 named.1
-    (subst (λ (n : ℕ). map asked (meanings_from n rows) ≡ map said_by (map (λ (x : Answer Filing Ask RowError). x.row) answers ++ taken) ++ rest) (omega arith) others))
+replied by desk number stamp closed seen now (a ∷ answers) taken rest [] legal older follows named is = absurd (let bad : ⊥ = cc in bad)
+replied by desk number stamp closed seen now (a ∷ answers) taken rest (row ∷ rows) legal older follows named is =
+    let means : said_under said_by a.row ≡ (asked (row_meaning number row), stamp) = cc in
+    let others : said_from (suc number) stamp rows ≡ map (said_under said_by) (map (λ (x : Answer (StampedEntry Filing) (StampedAsk Ask) (StampedError RowError)). x.row) answers ++ taken) ++ rest = cc in
+    reply by desk number stamp closed seen now a answers row rows (map (said_under said_by) taken ++ rest) legal older follows named means
+    (replied by desk (number + 1) stamp closed (after_row office_judging a.past a.row) now answers taken rest rows legal older follows.1 named.1
+    (subst (λ (n : ℕ). said_from n stamp rows ≡ map (said_under said_by) (map (λ (x : Answer (StampedEntry Filing) (StampedAsk Ask) (StampedError RowError)). x.row) answers ++ taken) ++ rest) (omega arith) others))
 
--- the desk has this number, and files these rows
-pub record IsOf (number : ℕ) (rows : List Row) (desk : View) : Type 0 where
+-- the desk has this number, and files these rows under their stamp
+pub record IsOf (number : ℕ) (files : DeskFiles) (desk : View) : Type 0 where
   pub numbered : desk.number ≡ number
   pub prefix : desk.prefix ≡ desk_prefix number
-  pub rows_are : left_of desk.rows ≡ map asked (meanings_from 1 rows)
+  pub rows_are : left_of desk.rows ≡ said_in files
 
-module _ (by : ℕ → RowName) (opening : Stand (Filed Filing)) (past closed : List Filing) (status : ℕ) (opens : entries_of opening.list ≡ past) (legal : IsLegal closed) where
+module _ (by : ℕ → RowName) (opening : Stand (Filed (StampedEntry Filing))) (past closed : List (StampedEntry Filing)) (status : ℕ) (opens : entries_of opening.list ≡ past) (legal : IsLegal (entries closed)) where
   -- what a desk writes
-  one_desk : (number : ℕ) (rows : List Row) (before after : View) (own : FilesOwn opening before after) → IsOf number rows before → IsOlder (entries_of own.known.seen) closed
-      → AreNamed by number 1 own.files.answers → ((stop : DeskStop) → after.ended ≡ Stopped stop → status ≢ 0) → DeskText by number rows past closed status (desk_text (stop_line after.prefix) after)
-  one_desk number rows before after own of older named stopped = record {
+  one_desk : (number : ℕ) (files : DeskFiles) (before after : View) (own : FilesOwn opening before after) → IsOf number files before → IsOlder (entries_of own.known.seen) closed
+      → AreNamed by number 1 own.files.answers → ((stop : DeskStop) → after.ended ≡ Stopped stop → status ≢ 0) → DeskText by number files.0 files.1 past closed status (desk_text (stop_line after.prefix) after)
+  one_desk number files before after own of older named stopped = record {
     answered = replies.front;
     left = replies.behind;
     whole = replies.whole;
-    lines = answer_lines office_judging desk_texts (desk_prefix number) 1 own.files.answers;
+    lines = answer_lines office_judging (stamped_texts desk_texts) (desk_prefix number) 1 own.files.answers;
     stop = stop_text (stop_line after.prefix) (stop_at after.number after.answered after.ended);
     written = ap (λ t. t ++ stop_text (stop_line after.prefix) (stop_at after.number after.answered after.ended))
-        (own.files.text ∙ ap (λ p. answer_lines office_judging desk_texts p 1 own.files.answers) of.prefix);
+        (own.files.text ∙ ap (λ p. answer_lines office_judging (stamped_texts desk_texts) p 1 own.files.answers) of.prefix);
     replies = replies.replies;
     stops = ends after.ended refl own.files.ends;
   }
     where
-      replies : Replied by number closed 1 rows past (length own.files.answers) (map said_by own.files.taken ++ own.files.rest)
-          (answer_lines office_judging desk_texts (desk_prefix number) 1 own.files.answers)
-      replies = replied by number 1 closed past (entries_of own.known.seen) own.files.answers own.files.taken own.files.rest rows legal older
-          (subst (λ l. Follows office_judging l own.files.answers (entries_of own.known.seen)) (ap (λ (s : Stand (Filed Filing)). entries_of s.list) own.opening_is ∙ opens) own.files.follows) named
+      replies : Replied by number files.0 closed 1 files.1 past (length own.files.answers) (map (said_under said_by) own.files.taken ++ own.files.rest)
+          (answer_lines office_judging (stamped_texts desk_texts) (desk_prefix number) 1 own.files.answers)
+      replies = replied by number 1 files.0 closed past (entries_of own.known.seen) own.files.answers own.files.taken own.files.rest files.1 legal older
+          (subst (λ l. Follows office_judging l own.files.answers (entries_of own.known.seen)) (ap (λ (s : Stand (Filed (StampedEntry Filing))). entries_of s.list) own.opening_is ∙ opens) own.files.follows) named
           (sym of.rows_are ∙ own.files.split)
 
       stop_is : (stop : DeskStop) → stop_line after.prefix (record { desk = after.number; row = after.answered + 1 }) stop
@@ -150,27 +171,27 @@ module _ (by : ℕ → RowName) (opening : Stand (Filed Filing)) (past closed : 
           ⊎ ((status ≢ 0) × (line : List ℕ) × IsFault line [] × (stop_text (stop_line after.prefix) (stop_at after.number after.answered end)
           ≡ codes "desk " ++ decimal number ++ codes " " ++ decimal (length replies.front + 1) ++ codes " " ++ line))
       ends Open is clean = absurd (own.ended is)
-      ends Done is done = inl (replies.last (ap₂ (λ t r. map said_by t ++ r) done.0 done.1), refl)
+      ends Done is done = inl (replies.last (ap₂ (λ t r. map (said_under said_by) t ++ r) done.0 done.1), refl)
       ends (Stopped stop) is at = inr (stopped stop is, fault_of stop, fault_said stop, stop_is stop)
 
   -- what all desks write, the first of them with this number
-  pub all_desks : (number : ℕ) (inputs : List (List Row)) (before desks : List View) → length before ≡ length inputs → length desks ≡ length before
+  pub all_desks : (number : ℕ) (inputs : List DeskFiles) (before desks : List View) → length before ≡ length inputs → length desks ≡ length before
       → (each : (k : ℕ) (d : View) → k < length before → FilesOwn opening (get_or before k d) (get_or desks k d))
-      → ((k : ℕ) (d : View) → k < length before → IsOf (number + k) (get_or inputs k []) (get_or before k d))
+      → ((k : ℕ) (d : View) → k < length before → IsOf (number + k) (get_or inputs k no_files) (get_or before k d))
       → ((k : ℕ) (d : View) (lt : k < length before) → IsOlder (entries_of (each k d lt).known.seen) closed)
       → ((k : ℕ) (d : View) (lt : k < length before) → AreNamed by (number + k) 1 (each k d lt).files.answers)
       → ((k : ℕ) (d : View) (stop : DeskStop) → k < length before → (get_or desks k d).ended ≡ Stopped stop → status ≢ 0) → DeskTexts by past closed status number inputs (desks_text desks)
   all_desks number [] [] [] one two each of older named stopped = many.none number
   all_desks number [] [] (d ∷ desks) one two each of older named stopped = absurd (omega (arith, two))
   all_desks number [] (b ∷ before) desks one two each of older named stopped = absurd (omega (arith, one))
-  all_desks number (rows ∷ inputs) [] desks one two each of older named stopped = absurd (omega (arith, one))
-  all_desks number (rows ∷ inputs) (b ∷ before) [] one two each of older named stopped = absurd (omega (arith, two))
-  all_desks number (rows ∷ inputs) (b ∷ before) (d ∷ desks) one two each of older named stopped =
-      many.more number rows inputs (desk_text (stop_line d.prefix) d) (desks_text desks)
-      (one_desk number rows b d (each 0 b (omega arith)) (subst (λ (n : ℕ). IsOf n rows b) (omega arith) (of 0 b (omega arith))) (older 0 b (omega arith))
+  all_desks number (files ∷ inputs) [] desks one two each of older named stopped = absurd (omega (arith, one))
+  all_desks number (files ∷ inputs) (b ∷ before) [] one two each of older named stopped = absurd (omega (arith, two))
+  all_desks number (files ∷ inputs) (b ∷ before) (d ∷ desks) one two each of older named stopped =
+      many.more number files inputs (desk_text (stop_line d.prefix) d) (desks_text desks)
+      (one_desk number files b d (each 0 b (omega arith)) (subst (λ (n : ℕ). IsOf n files b) (omega arith) (of 0 b (omega arith))) (older 0 b (omega arith))
       (subst (λ (n : ℕ). AreNamed by n 1 (each 0 b (omega arith)).files.answers) (omega arith) (named 0 b (omega arith))) (λ stop is. stopped 0 b stop (omega arith) is))
       (all_desks (number + 1) inputs before desks (omega (arith, one)) (omega (arith, two)) (λ k x lt. each (suc k) x (omega (arith, lt)))
-      (λ k x lt. subst (λ (n : ℕ). IsOf n (get_or inputs k []) (get_or before k x)) (omega arith) (of (suc k) x (omega (arith, lt))))
+      (λ k x lt. subst (λ (n : ℕ). IsOf n (get_or inputs k no_files) (get_or before k x)) (omega arith) (of (suc k) x (omega (arith, lt))))
       (λ k x lt. older (suc k) x (omega (arith, lt)))
       (λ k x lt. subst (λ (n : ℕ). AreNamed by n 1 (each (suc k) x (omega (arith, lt))).files.answers) (omega arith) (named (suc k) x (omega (arith, lt)))) (λ k x stop lt is. stopped (suc k) x stop (omega (arith, lt)) is))
 

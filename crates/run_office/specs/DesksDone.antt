@@ -1,5 +1,5 @@
 -- When the rows of many desks can all be filed, which counts of faults rose, and which rows filed what was added.
-use Rattle.std.specs.Prelude.{◌≡◌, ◌≢◌, ◌+◌, ◌<◌, ◌≤◌, ℕ, List, [], ◌∷◌, length, get_or, sum_by, Contains, Some, None, Ok}
+use Rattle.std.specs.Prelude.{◌≡◌, ◌≢◌, ◌+◌, ◌<◌, ℕ, List, [], ◌∷◌, length, get_or, sum_by, Contains, Some, None, Ok}
 use Rattle.std.specs.List.{All}
 use Rattle.aid_edges.specs.Faults.{Rose}
 use Rattle.aid_edges.specs.declared.source.Source.{Ghosts as SourceGhosts}
@@ -16,6 +16,8 @@ use Rattle.kept_desks.specs.declared.stop.DeskEnd.TheVariants.{Stopped}
 use Rattle.kept_desks.specs.declared.stop.DeskStop.TheVariants.{DiskFault}
 use Rattle.kept_office.specs.Turns.{asked as filing_asked, office_judging}
 use Rattle.office_lock.specs.declared.turned.Stand.{Stand}
+use Rattle.stamped_list.specs.declared.entry.StampedAsk.{StampedAsk}
+use Rattle.stamped_list.specs.declared.entry.StampedEntry.{StampedEntry}
 use Rattle.kept_office.specs.Openable.{IsOffice}
 use Rattle.kept_runs.specs.Ends.{IsShort}
 use Rattle.run_office.specs.Names.{kept_ask}
@@ -49,26 +51,26 @@ abbrev pub faulted_in : {Entry Lines : Type 0} → List (DeskView Entry Lines) �
 faulted_in {Entry} {Lines} desks = sum_by (λ (d : DeskView Entry Lines). disk_faults d.ended) desks
 
 -- an answer of a desk admits this entry at its position
-abbrev pub HasAdmitted : {opening : Stand (Filed Filing)} {old new : View} → FilesOwn opening old new → ℕ × Filed Filing → Type 0
+abbrev pub HasAdmitted : {opening : Stand (Filed (StampedEntry Filing))} {old new : View} → FilesOwn opening old new → ℕ × Filed (StampedEntry Filing) → Type 0
 HasAdmitted {opening} {old} {new} own entry = Contains (admitted_of office_judging old.number 1 own.files.answers) entry
 
 -- a desk's row files this entry, and the desk ended at the row in a fault of the disk that named the position
-pub record HasLeft {opening : Stand (Filed Filing)} {old new : View} (own : FilesOwn opening old new) (entry : ℕ × Filed Filing) : Type 0 where
-  pub ask : Ask
+pub record HasLeft {opening : Stand (Filed (StampedEntry Filing))} {old new : View} (own : FilesOwn opening old new) (entry : ℕ × Filed (StampedEntry Filing)) : Type 0 where
+  pub ask : StampedAsk Ask
   pub taken : own.files.taken ≡ Ok ask ∷ []
   pub files : filing_asked ask ≡ Some entry.1.entry
   pub by : entry.1.by ≡ record { desk = old.number; row = new.answered + 1 }
   pub ended : new.ended ≡ Stopped (DiskFault (Some entry.0))
 
 -- a desk's row filed this entry, which stands at a position, in one of these two ways
-pub data HasNamed {opening : Stand (Filed Filing)} {old new : View} (own : FilesOwn opening old new) (entry : ℕ × Filed Filing) : Type 0 where
+pub data HasNamed {opening : Stand (Filed (StampedEntry Filing))} {old new : View} (own : FilesOwn opening old new) (entry : ℕ × Filed (StampedEntry Filing)) : Type 0 where
   by_answer : HasAdmitted own entry → HasNamed own entry
   by_stop : HasLeft own entry → HasNamed own entry
 
 -- A row is told of for a filing at a position: it was answered as admitted there; or its desk ended at it with the position in
--- doubt, and no desk in front of that desk ended so at a row that files the same (no row is a book).
-pub data IsToldOf {opening closed : Stand (Filed Filing)} {before after : List View} (filed : HasFiled opening closed before after) (position : ℕ) (filing : Filing) (by : RowName) : Type 0 where
+-- doubt, and no desk in front of that desk ended so at a row that files the same with the same stamp (no row is a book).
+pub data IsToldOf {opening closed : Stand (Filed (StampedEntry Filing))} {before after : List View} (filed : HasFiled opening closed before after) (position : ℕ) (filing : StampedEntry Filing) (by : RowName) : Type 0 where
   accepted : (k : ℕ) (d : View) (lt : k < length before) → HasAdmitted (filed.each k d lt) (position, record { entry = filing; by = by }) → IsToldOf filed position filing by
   in_doubt : (k : ℕ) (d : View) (lt : k < length before) → HasLeft (filed.each k d lt) (position, record { entry = filing; by = by })
-      → (kept_ask (File filing) ≢ None → (j : ℕ) (e : View) (less : j < length before) (other : RowName) → j < k → HasLeft (filed.each j e less) (position, record { entry = filing; by = other }) → ⊥)
+      → (kept_ask (File filing.entry) ≢ None → (j : ℕ) (e : View) (less : j < length before) (other : RowName) → j < k → HasLeft (filed.each j e less) (position, record { entry = filing; by = other }) → ⊥)
       → IsToldOf filed position filing by

@@ -6,7 +6,7 @@ use Rattle.aid_filings.specs.declared.reply.Verdict.{Verdict}
 use Rattle.disk_model.specs.Telling.{EachImage, Telling}
 use Rattle.kept_office.specs.Recovers.{Recovers}
 use Rattle.kept_office.specs.Scheme.{office_scheme}
-use Rattle.kept_office.specs.Turns.{office_judging}
+use Rattle.kept_office.specs.Turns.{filing_judging, office_judging}
 use Rattle.generated_year.specs.Texts.{rows_of_text, year_texts}
 use Rattle.generated_year.specs.Payments.{year_judging}
 use Rattle.generated_year.specs.declared.ask.YearAsk.{YearAsk}
@@ -22,18 +22,25 @@ use Rattle.run_words.specs.declared.command.Command.TheVariants.{Found, File, Bo
 use Rattle.run_rows.specs.Asks.{book_rows, book_texts, desk_rows, desk_texts}
 use Rattle.run_office.specs.Rounds.{PolicyAnswers, asks_of, fund_plans, round_of, round_texts}
 use Rattle.award_rounds.specs.Planned.{IsPlanned}
+use Rattle.stamps.specs.declared.stamp.Stamp.{Stamp}
+use Rattle.stamped_list.specs.Entries.{entries}
+use Rattle.stamped_list.specs.Rows.{ask_under, stamped_rows, stamped_texts}
+use Rattle.stamped_list.specs.Stamped.{stamped_judging}
+use Rattle.stamped_list.specs.declared.entry.StampedAsk.{StampedAsk}
+use Rattle.stamped_list.specs.declared.entry.StampedEntry.{StampedEntry}
 
--- A file at a moment of a command over an input recovers the list before it, with what some rows in front of the input's add, or
--- some payments in front of a round's.
-abbrev pub MayRecover : PolicyAnswers → Command → Input → List Filing → List ℕ → Type 0
-MayRecover gives File input past file = RecoversOf office_scheme office_judging desk_texts desk_rows input past file
-MayRecover gives (Book book) input past file = RecoversOf office_scheme office_judging book_texts (book_rows book.number) input past file
-MayRecover gives (Fund fund) input past file = RecoversPlanned office_scheme office_judging round_texts (fund_plans gives fund) past file
-MayRecover gives (Generate generate) input past file = RecoversOf office_scheme (year_judging office_judging) year_texts (rows_of_text generate.students generate.seed) input past file
-MayRecover gives _ input past file = Recovers file past
+-- A file at a moment of a command under a stamp over an input recovers the list before it, with what some rows in front of the
+-- input's add, or some payments in front of a round's.
+abbrev pub MayRecover : PolicyAnswers → Stamp → Command → Input → List (StampedEntry Filing) → List ℕ → Type 0
+MayRecover gives stamp File input past file = RecoversOf office_scheme office_judging (stamped_texts desk_texts) (λ text. stamped_rows stamp (desk_rows text)) input past file
+MayRecover gives stamp (Book book) input past file = RecoversOf office_scheme office_judging (stamped_texts book_texts) (λ text. stamped_rows stamp (book_rows book.number text)) input past file
+MayRecover gives stamp (Fund fund) input past file = RecoversPlanned office_scheme office_judging (stamped_texts round_texts) (fund_plans gives stamp fund) past file
+MayRecover gives stamp (Generate generate) input past file =
+    RecoversOf office_scheme (stamped_judging (year_judging filing_judging)) (stamped_texts year_texts) (λ text. stamped_rows stamp (rows_of_text generate.students generate.seed text)) input past file
+MayRecover gives stamp _ input past file = Recovers file past
 
 -- the list before a command that works on an office: the disk reads as it
-abbrev pub StoodBefore : Command → List ℕ → List Filing → Type 0
+abbrev pub StoodBefore : Command → List ℕ → List (StampedEntry Filing) → Type 0
 StoodBefore File file past = Recovers file past
 StoodBefore (Book book) file past = Recovers file past
 StoodBefore (Quote quote) file past = Recovers file past
@@ -43,30 +50,30 @@ StoodBefore (Generate generate) file past = Recovers file past
 StoodBefore _ file past = Unit {0}
 
 -- each image recovers the list with what these rows add, which are all of the input's where its source is honest
-abbrev pub AllStand : {Error : Type 0} → (texts : Texts Ask Verdict Error) → (List ℕ → List texts.Meaning) → Input → List Filing → Telling → Type 0
-AllStand {Error} texts rows_of input past told = (rows : List (Result Ask Error)) × (IsTrue input.honest → map texts.said rows ≡ rows_of input.before)
+abbrev pub AllStand : {Error : Type 0} → (texts : Texts (StampedAsk Ask) Verdict Error) → (List ℕ → List texts.Meaning) → Input → List (StampedEntry Filing) → Telling → Type 0
+AllStand {Error} texts rows_of input past told = (rows : List (Result (StampedAsk Ask) Error)) × (IsTrue input.honest → map texts.said rows ≡ rows_of input.before)
     × EachImage told (λ file. Recovers file (after_rows office_judging past rows))
 
 -- Each image recovers the list with what these asks add, which are the rows of a generated year: all of them, or, where the text
 -- of its book is none, those before the row that says so.
-abbrev pub YearStands : GenerateRequest → Input → List Filing → Telling → Type 0
-YearStands generate input past told = (asks : List YearAsk) × (rest : List year_texts.Meaning) × IsEnd year_texts rest
-    × (IsTrue input.honest → rows_of_text generate.students generate.seed input.before ≡ map year_texts.said (rows_of_asks asks) ++ rest)
-    × EachImage told (λ file. Recovers file (after_asks (year_judging office_judging) past asks))
+abbrev pub YearStands : Stamp → GenerateRequest → Input → List (StampedEntry Filing) → Telling → Type 0
+YearStands stamp generate input past told = (asks : List (StampedAsk YearAsk)) × (rest : List (stamped_texts year_texts).Meaning) × IsEnd (stamped_texts year_texts) rest
+    × (IsTrue input.honest → stamped_rows stamp (rows_of_text generate.students generate.seed input.before) ≡ map (stamped_texts year_texts).said (rows_of_asks asks) ++ rest)
+    × EachImage told (λ file. Recovers file (after_asks (stamped_judging (year_judging filing_judging)) past asks))
 
--- each image recovers the list with what the payments of a round on it add
-abbrev pub RoundStands : PolicyAnswers → FundRequest → List Filing → Telling → Type 0
-RoundStands gives fund past told = (filings : List Filing) × (left : ℕ) × IsPlanned (gives fund.policy) past (round_of fund) filings left
-    × EachImage told (λ file. Recovers file (after_asks office_judging past (asks_of filings)))
+-- each image recovers the list with what the payments of a round on it add under the stamp
+abbrev pub RoundStands : PolicyAnswers → Stamp → FundRequest → List (StampedEntry Filing) → Telling → Type 0
+RoundStands gives stamp fund past told = (filings : List Filing) × (left : ℕ) × IsPlanned (gives fund.policy) (entries past) (round_of fund) filings left
+    × EachImage told (λ file. Recovers file (after_asks office_judging past (map (ask_under stamp) (asks_of filings))))
 
 -- what each image recovers after a command that was done; a check makes no call on the disk
-abbrev pub Stands : PolicyAnswers → Command → Input → List Filing → Telling → Type 0
-Stands gives Found input past told = EachImage told (λ file. Recovers file [])
-Stands gives File input past told = AllStand desk_texts desk_rows input past told
-Stands gives (Book book) input past told = AllStand book_texts (book_rows book.number) input past told
-Stands gives (Quote quote) input past told = EachImage told (λ file. Recovers file past)
-Stands gives (Report report) input past told = EachImage told (λ file. Recovers file past)
-Stands gives (Fund fund) input past told = RoundStands gives fund past told
-Stands gives (Generate generate) input past told = YearStands generate input past told
-Stands gives CheckRows input past told = Unit {0}
-Stands gives CheckBook input past told = Unit {0}
+abbrev pub Stands : PolicyAnswers → Stamp → Command → Input → List (StampedEntry Filing) → Telling → Type 0
+Stands gives stamp Found input past told = EachImage told (λ file. Recovers file [])
+Stands gives stamp File input past told = AllStand (stamped_texts desk_texts) (λ text. stamped_rows stamp (desk_rows text)) input past told
+Stands gives stamp (Book book) input past told = AllStand (stamped_texts book_texts) (λ text. stamped_rows stamp (book_rows book.number text)) input past told
+Stands gives stamp (Quote quote) input past told = EachImage told (λ file. Recovers file past)
+Stands gives stamp (Report report) input past told = EachImage told (λ file. Recovers file past)
+Stands gives stamp (Fund fund) input past told = RoundStands gives stamp fund past told
+Stands gives stamp (Generate generate) input past told = YearStands stamp generate input past told
+Stands gives stamp CheckRows input past told = Unit {0}
+Stands gives stamp CheckBook input past told = Unit {0}

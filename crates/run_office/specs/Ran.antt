@@ -6,7 +6,7 @@ use Rattle.disk_model.specs.declared.disk.Disk.{Ghosts}
 use Rattle.filing_journal.specs.Stands.{IsUnborn}
 use Rattle.kept_office.specs.Openable.{IsOffice}
 use Rattle.kept_office.specs.Scheme.{office_scheme}
-use Rattle.kept_office.specs.Turns.{office_judging}
+use Rattle.kept_office.specs.Turns.{filing_judging, office_judging}
 use Rattle.generated_year.specs.Texts.{rows_of_text, year_texts}
 use Rattle.generated_year.specs.Counted.{year_counted, year_ending}
 use Rattle.generated_year.specs.Payments.{year_judging}
@@ -24,7 +24,7 @@ use Rattle.kept_session.specs.declared.stop.ReadStop.TheVariants as reading
 use Rattle.kept_session.specs.declared.stop.SessionStop.{SessionStop}
 use Rattle.kept_session.specs.declared.stop.SessionStop.TheVariants.{Reading}
 use Rattle.desk_forms.specs.Lines.{fine_line, tally_line}
-use Rattle.run_words.specs.Words.{IsRow}
+use Rattle.run_words.specs.Stamped.{IsStampedRow}
 use Rattle.run_words.specs.declared.command.BookNumber.{BookNumber}
 use Rattle.run_words.specs.declared.command.Command.{Command}
 use Rattle.run_words.specs.declared.command.Command.TheVariants.{Found, File, Book, Quote, Report, Fund, Generate, CheckRows, CheckBook}
@@ -35,6 +35,9 @@ use Rattle.run_words.specs.declared.command.ReportRequest.{ReportRequest}
 use Rattle.run_rows.specs.Asks.{book_rows, book_texts, desk_rows, desk_texts, quote_rows, quote_texts}
 use Rattle.run_office.specs.Texts.{no_verdicts, report_text}
 use Rattle.run_office.specs.Rounds.{PolicyAnswers, fund_plans, round_texts}
+use Rattle.stamps.specs.declared.stamp.Stamp.{Stamp}
+use Rattle.stamped_list.specs.Rows.{stamped_rows, stamped_texts}
+use Rattle.stamped_list.specs.Stamped.{stamped_judging}
 use Rattle.kept_runs.specs.Ends.{Ends, EndsWith, IsShort, Moved}
 use Rattle.kept_runs.specs.Statuses.{ended_check, ended_file, ended_found, is_disk_fault, is_read_fault, session_line, session_status}
 use Rattle.kept_runs.specs.declared.stop.RunStop.{RunStop}
@@ -67,38 +70,40 @@ pub data ChecksRows (input : Input) (output : Output) : Result Unit RunStop → 
 pub data ChecksBook (input : Input) (output : Output) : Result Unit RunStop → Type 0 where
   looked_at : (checked : Result CheckTally CheckStop) → Checks book_texts (book_rows 1) fine_line 16777216 input output checked → ChecksBook input output (ended_check checked)
 
--- What a command does, up to how it ends: to the disk, of the input, and with what it writes. `gives` tells what a call of the
--- policy at a place may give.
-pub data Does {D : Type 0} (gives : PolicyAnswers) (disk : Ghosts D) (old new : D) (input : Input) (output : Output) : Command → Result Unit RunStop → Type 0 where
+-- What a command under a stamp does, up to how it ends: to the disk, of the input, and with what it writes. `gives` tells what a call
+-- of the policy at a place may give.
+pub data Does {D : Type 0} (gives : PolicyAnswers) (disk : Ghosts D) (old new : D) (input : Input) (output : Output) (stamp : Stamp) : Command → Result Unit RunStop → Type 0 where
   -- `found`: an office is founded, and `founded` is written
   founding : (ended : Result Unit FoundStop) → FoundSession disk office_scheme old new (codes "founded\n") output ended
-      → Does gives disk old new input output Found (ended_found ended)
+      → Does gives disk old new input output stamp Found (ended_found ended)
   -- `file`: the rows of the input are filed, and a line is written for each
-  filing : (ended : Result Unit SessionStop) → Session disk office_scheme office_judging desk_texts desk_rows 16777216 old new input output ended
-      → Does gives disk old new input output File (ended_file ended)
+  filing : (ended : Result Unit SessionStop)
+      → Session disk office_scheme office_judging (stamped_texts desk_texts) (λ text. stamped_rows stamp (desk_rows text)) 16777216 old new input output ended
+      → Does gives disk old new input output stamp File (ended_file ended)
   -- `book`: the text of the input is filed as one book
   booking : (book : BookNumber) (ended : Result Unit SessionStop)
-      → Session disk office_scheme office_judging book_texts (book_rows book.number) 16777216 old new input output ended
-      → Does gives disk old new input output (Book book) (ended_file ended)
+      → Session disk office_scheme office_judging (stamped_texts book_texts) (λ text. stamped_rows stamp (book_rows book.number text)) 16777216 old new input output ended
+      → Does gives disk old new input output stamp (Book book) (ended_file ended)
   -- `quote`: the office is asked, and the quote is written
-  quoting : (quote : QuoteRequest) (ended : Result Unit SessionStop) → Opens disk office_scheme office_judging quote_texts old new output (quote_rows quote) ended
-      → Does gives disk old new input output (Quote quote) (ended_file ended)
+  quoting : (quote : QuoteRequest) (ended : Result Unit SessionStop)
+      → Opens disk office_scheme office_judging (stamped_texts quote_texts) old new output (stamped_rows stamp (quote_rows quote)) ended
+      → Does gives disk old new input output stamp (Quote quote) (ended_file ended)
   -- `report`: the office is opened, and the report on it is written
   reporting : (report : ReportRequest) (ended : Result Unit SessionStop) → Reports disk office_scheme (report_text report) old new output ended
-      → Does gives disk old new input output (Report report) (ended_file ended)
+      → Does gives disk old new input output stamp (Report report) (ended_file ended)
   -- `fund`: the payments of a round on the office are filed, a line is written for each, and behind them what is left of the fund
   funding : (fund : FundRequest) (ended : Result Unit SessionStop)
-      → Planned disk office_scheme office_judging round_texts (fund_plans gives fund) old new output ended
-      → Does gives disk old new input output (Fund fund) (ended_file ended)
+      → Planned disk office_scheme office_judging (stamped_texts round_texts) (fund_plans gives stamp fund) old new output ended
+      → Does gives disk old new input output stamp (Fund fund) (ended_file ended)
   -- `generate`: the rows of a generated year are filed, whose book is the text of the input, and what they come to is written; where
   -- the text is no book, its line alone is
   generating : (generate : GenerateRequest) (ended : Result Unit SessionStop)
-      → CountedSession disk office_scheme (year_judging office_judging) year_texts year_counted year_ending no_verdicts
-      (rows_of_text generate.students generate.seed) 16777216 old new input output ended
-      → Does gives disk old new input output (Generate generate) (ended_file ended)
+      → CountedSession disk office_scheme (stamped_judging (year_judging filing_judging)) (stamped_texts year_texts) year_counted year_ending no_verdicts
+      (λ text. stamped_rows stamp (rows_of_text generate.students generate.seed text)) 16777216 old new input output ended
+      → Does gives disk old new input output stamp (Generate generate) (ended_file ended)
   -- `check rows` and `check book`: lines are written, and no call is made on the disk
-  checking_rows : (ended : Result Unit RunStop) → new ≡ old → ChecksRows input output ended → Does gives disk old new input output CheckRows ended
-  checking_book : (ended : Result Unit RunStop) → new ≡ old → ChecksBook input output ended → Does gives disk old new input output CheckBook ended
+  checking_rows : (ended : Result Unit RunStop) → new ≡ old → ChecksRows input output ended → Does gives disk old new input output stamp CheckRows ended
+  checking_book : (ended : Result Unit RunStop) → new ≡ old → ChecksBook input output ended → Does gives disk old new input output stamp CheckBook ended
 
 -- the counts of faults before and after: of the source, the sink and the disk
 pub record Counts : Type 0 where
@@ -127,24 +132,24 @@ no_memory = stops.File (Reading reading.NoMemory)
 -- A run with these words over a disk and a sink. `names` are those of the policies, in their order.
 pub data Ran {D K : Type 0} (names : List (List ℕ)) (gives : PolicyAnswers) (disk : Ghosts D) (sink : SinkGhosts K) (counts : Counts) (words : List (List ℕ)) (old new : D) (input : Input) (out out' : K) : ℕ → Type 0 where
   -- the words are no row: nothing is read, and no call is made on the disk
-  no_row : (status : ℕ) → ((command : Command) → IsRow names words command → ⊥) → new ≡ old → input.after ≡ input.before
+  no_row : (status : ℕ) → ((stamp : Stamp) (command : Command) → IsStampedRow names words stamp command → ⊥) → new ≡ old → input.after ≡ input.before
       → HasCause counts (Err stops.Usage) status → Ends sink out out' (Err stops.Usage) status
       → Ran names gives disk sink counts words old new input out out' status
   -- there was no memory to read the words: nothing is read, and no call is made on the disk
   unread_words : (status : ℕ) → new ≡ old → input.after ≡ input.before
       → HasCause counts (Err no_memory) status → Ends sink out out' (Err no_memory) status
       → Ran names gives disk sink counts words old new input out out' status
-  -- they are the row of a command, which has written its text when the run ends
-  did : (command : Command) (at : K) (ended : Result Unit RunStop) (status : ℕ) → IsRow names words command
-      → Does gives disk old new input (written sink out at) command ended → sink.honest at ≡ sink.honest out
+  -- they are the row of a command behind a stamp, which has written its text when the run ends
+  did : (stamp : Stamp) (command : Command) (at : K) (ended : Result Unit RunStop) (status : ℕ) → IsStampedRow names words stamp command
+      → Does gives disk old new input (written sink out at) stamp command ended → sink.honest at ≡ sink.honest out
       → HasCause counts ended status → Ends sink at out' ended status
       → Ran names gives disk sink counts words old new input out out' status
 
--- A run of `file` over a disk and a sink: a session over the rows of the input, and behind what it writes, where it stopped, the line of the stop.
-pub record FileRan {D K : Type 0} (disk : Ghosts D) (sink : SinkGhosts K) (old new : D) (input : Input) (out out' : K) (status : ℕ) : Type 0 where
+-- A run of `file` under a stamp over a disk and a sink: a session over the rows of the input, and behind what it writes, where it stopped, the line of the stop.
+pub record FileRan {D K : Type 0} (disk : Ghosts D) (sink : SinkGhosts K) (stamp : Stamp) (old new : D) (input : Input) (out out' : K) (status : ℕ) : Type 0 where
   pub at : K
   pub ended : Result Unit SessionStop
-  pub session : Session disk office_scheme office_judging desk_texts desk_rows 16777216 old new input (written sink out at) ended
+  pub session : Session disk office_scheme office_judging (stamped_texts desk_texts) (λ text. stamped_rows stamp (desk_rows text)) 16777216 old new input (written sink out at) ended
   pub honest : sink.honest at ≡ sink.honest out
   pub done : ended ≡ Ok tt → (out' ≡ at) × (status ≡ 0)
   pub early : (stop : SessionStop) → ended ≡ Err stop → EndsWith sink (session_line stop) (session_status stop) at out' status

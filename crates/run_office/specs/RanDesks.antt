@@ -30,8 +30,12 @@ use Rattle.kept_list.specs.declared.names.Filed.{Filed}
 use Rattle.kept_list.specs.declared.names.RowName.{RowName}
 use Rattle.kept_desks.specs.declared.stop.DeskEnd.TheVariants.{Open}
 use Rattle.run_rows.specs.Asks.{asked, desk_rows, desk_texts}
+use Rattle.stamps.specs.declared.stamp.Stamp.{Stamp}
+use Rattle.stamped_list.specs.Rows.{stamped_rows, stamped_texts}
+use Rattle.stamped_list.specs.declared.entry.StampedEntry.{StampedEntry}
+use Rattle.stamped_list.specs.declared.rows.StampedRows.{StampedRows}
 use Rattle.run_office.specs.DeskTexts.{admitted_text, desk_prefix, desks_status, desks_text}
-use Rattle.run_office.specs.Names.{kept_ask, names_of}
+use Rattle.run_office.specs.Names.{kept_stamped, names_of}
 use Rattle.kept_runs.specs.Ends.{EndsWith}
 use Rattle.kept_runs.specs.Statuses.{open_line, open_status, read_line, read_status}
 use Rattle.run_rows.specs.declared.desk.DeskRows.{DeskRows}
@@ -39,11 +43,11 @@ use Rattle.run_office.specs.declared.desks.DeskInput.{DeskInput}
 
 -- a desk of the office
 abbrev pub View : Type 0
-View = DeskView Filing DeskRows
+View = DeskView (StampedEntry Filing) (StampedRows DeskRows)
 
--- what its rows say that weren't taken yet
-abbrev pub left_of : DeskRows → List (Result (Option (Kind × List ℤ)) RowError)
-left_of r = map asked r.rows
+-- what its rows say that weren't taken yet, with its stamp
+abbrev pub left_of : StampedRows DeskRows → List (Result (Option (Kind × List ℤ)) RowError × Stamp)
+left_of r = stamped_rows r.stamp (map asked r.rows.rows)
 
 -- the input of the desk at a place, counted from 0, before and after
 abbrev pub input_at : {S : Type 0} → SourceGhosts S → List (DeskInput S) → List (DeskInput S) → ℕ → DeskInput S → Input
@@ -58,25 +62,25 @@ pub record AreFew (desks : ℕ) : Type 0 where
   pub some : 1 ≤ desks
   pub most : desks ≤ 16
 
--- a desk that hasn't begun, with the rows of an input that was read whole
-pub record IsDeskOf (number : ℕ) (input : Input) (desk : View) : Type 0 where
+-- a desk that hasn't begun, with the rows of an input that was read whole, each under the desk's stamp
+pub record IsDeskOf (number : ℕ) (stamp : Stamp) (input : Input) (desk : View) : Type 0 where
   pub numbered : desk.number ≡ number
   pub prefix : desk.prefix ≡ desk_prefix number
   pub unbegun : desk.ended ≡ Open
   pub whole : IsReadWhole 16777216 input
-  pub rows : IsTrue input.honest → left_of desk.rows ≡ desk_rows input.before
+  pub rows : IsTrue input.honest → left_of desk.rows ≡ stamped_rows stamp (desk_rows input.before)
 
 -- such a desk was made, behind others
-pub record Joins (number : ℕ) (input : Input) (before after : List View) : Type 0 where
+pub record Joins (number : ℕ) (stamp : Stamp) (input : Input) (before after : List View) : Type 0 where
   pub desk : View
-  pub of : IsDeskOf number input desk
+  pub of : IsDeskOf number stamp input desk
   pub behind : after ≡ before ++ desk ∷ []
 
 -- the first n inputs were read, their counts of faults stood still, and each has its desk, numbered from 1
 pub record AreRead {S : Type 0} (source : SourceGhosts S) (n : ℕ) (old new : List (DeskInput S)) (desks : List View) : Type 0 where
   pub count : length desks ≡ n
   pub unmoved : (k : ℕ) (i : DeskInput S) → k < n → HasStood source old new k i
-  pub each : (k : ℕ) (i : DeskInput S) (d : View) → k < n → IsDeskOf (k + 1) (input_at source old new k i) (get_or desks k d)
+  pub each : (k : ℕ) (i : DeskInput S) (d : View) → k < n → IsDeskOf (k + 1) (get_or old k i).stamp (input_at source old new k i) (get_or desks k d)
 
 -- One input couldn't be read. Those before it were read whole, and nothing of those behind it was. No count of faults rose but
 -- that of its source, and that one where a read failed.
@@ -92,20 +96,20 @@ pub record IsUnreadAt {S : Type 0} (source : SourceGhosts S) (stop : ReadStop) (
 
 -- a desk that has a pass files its rows by it
 abbrev pub WorksHere : TableId → View → View → Type 0
-WorksHere lock old new = Works office_judging filing_asked kept_ask desk_texts left_of lock old new
+WorksHere lock old new = Works office_judging filing_asked kept_stamped (stamped_texts desk_texts) left_of lock old new
 
 -- What a desk filed: each row was answered on a list that goes on from the list that the desk had seen, and has its line.
-pub record FilesOwn (opening : Stand (Filed Filing)) (old new : View) : Type 0 where
+pub record FilesOwn (opening : Stand (Filed (StampedEntry Filing))) (old new : View) : Type 0 where
   pub number : new.number ≡ old.number
   pub prefix : new.prefix ≡ old.prefix
   pub ended : new.ended ≢ Open
-  pub known : Known (Filed Filing)
+  pub known : Known (Filed (StampedEntry Filing))
   pub has : new.pass ≡ Some known
   pub opening_is : known.opening ≡ opening
-  pub files : Files office_judging filing_asked kept_ask desk_texts old.number old.prefix (left_of old.rows) new.text new.answered new.ended new.last known
+  pub files : Files office_judging filing_asked kept_stamped (stamped_texts desk_texts) old.number old.prefix (left_of old.rows) new.text new.answered new.ended new.last known
 
 -- What the desks filed. `desks` are they as they were before they gave their passes back.
-pub record HasFiled (opening closed : Stand (Filed Filing)) (before after : List View) : Type 0 where
+pub record HasFiled (opening closed : Stand (Filed (StampedEntry Filing))) (before after : List View) : Type 0 where
   pub desks : List View
   pub count : length desks ≡ length before
   pub each : (k : ℕ) (d : View) → k < length before → FilesOwn opening (get_or before k d) (get_or desks k d)
@@ -125,10 +129,10 @@ pub data FilesAll {D K : Type 0} (disk : Ghosts D) (sink : SinkGhosts K) (old ne
       → EndsWith sink (open_line error) (open_status error) out out' status
       → FilesAll disk sink old new before out out' status
   -- there was no memory for the desks: nothing was filed
-  starved : (past : List Filing) (status : ℕ) → IsOpened disk office_scheme past old new → EndsWith sink (codes "fault memory\n") 9 out out' status
+  starved : (past : List (StampedEntry Filing)) (status : ℕ) → IsOpened disk office_scheme past old new → EndsWith sink (codes "fault memory\n") 9 out out' status
       → FilesAll disk sink old new before out out' status
   -- The desks filed. Each image of the disk then recovers the list at the end, with or without one undecided filing.
-  worked : (after : List View) (past history : List Filing) (pending : Option Filing) (log : List RowName) (waiting : Option RowName) (at : D) (status : ℕ)
+  worked : (after : List View) (past history : List (StampedEntry Filing)) (pending : Option (StampedEntry Filing)) (log : List RowName) (waiting : Option RowName) (at : D) (status : ℕ)
       → IsOpened disk office_scheme past old at
       → (filed : HasFiled (stand_of past None [] None (disk.faults old) (disk.tells at).honest) (stand_of history pending log waiting (disk.faults new) (disk.tells new).honest) before after)
       → (IsHonest (disk.tells new) → IsSound office_scheme (disk.tells new) history pending)

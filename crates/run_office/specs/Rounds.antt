@@ -14,6 +14,11 @@ use Rattle.run_words.specs.declared.command.Command.{Command}
 use Rattle.run_words.specs.declared.command.Command.TheVariants.{Fund}
 use Rattle.run_words.specs.declared.command.FundRequest.{FundRequest}
 use Rattle.desk_forms.specs.Replies.{line_of}
+use Rattle.stamps.specs.declared.stamp.Stamp.{Stamp}
+use Rattle.stamped_list.specs.Entries.{entries}
+use Rattle.stamped_list.specs.Rows.{ask_under}
+use Rattle.stamped_list.specs.declared.entry.StampedAsk.{StampedAsk}
+use Rattle.stamped_list.specs.declared.entry.StampedEntry.{StampedEntry}
 
 -- the payments of a round say themselves, and each has the line of its answer
 abbrev pub round_texts : Texts Ask Verdict RowError
@@ -32,10 +37,10 @@ asks_of filings = map (λ filing. File filing) filings
 abbrev pub left_line : ℕ → List ℕ
 left_line left = codes "left " ++ decimal left ++ codes "\n"
 
--- the asks of a round on a history, and its last line, by what a call of the policy may give
-abbrev pub round_plans : (ℕ → ℤ → ℕ → ℕ → Type 0) → RoundRequest → List Filing → List Ask → List ℕ → Type 0
-round_plans gives request past asks closing = (filings : List Filing) × (left : ℕ) × IsPlanned gives past request filings left
-    × (asks ≡ asks_of filings) × (closing ≡ left_line left)
+-- the asks of a round on a history, each under this stamp, and its last line, by what a call of the policy may give
+abbrev pub round_plans : (ℕ → ℤ → ℕ → ℕ → Type 0) → Stamp → RoundRequest → List (StampedEntry Filing) → List (StampedAsk Ask) → List ℕ → Type 0
+round_plans gives stamp request past asks closing = (filings : List Filing) × (left : ℕ) × IsPlanned gives (entries past) request filings left
+    × (asks ≡ map (ask_under stamp) (asks_of filings)) × (closing ≡ left_line left)
 
 -- the round that is asked for
 abbrev pub round_of : FundRequest → RoundRequest
@@ -57,8 +62,8 @@ abbrev pub gives_at : {Policy : Type 0} → List Policy → (Policy → ℕ → 
 gives_at {Policy} policies gives place need sai intensity award = (policy : Policy) × (slice_get policies place ≡ Some policy) × gives policy need sai intensity award
 
 -- the asks and the last line of the round that a command asks for
-abbrev pub fund_plans : PolicyAnswers → FundRequest → List Filing → List Ask → List ℕ → Type 0
-fund_plans gives fund = round_plans (gives fund.policy) (round_of fund)
+abbrev pub fund_plans : PolicyAnswers → Stamp → FundRequest → List (StampedEntry Filing) → List (StampedAsk Ask) → List ℕ → Type 0
+fund_plans gives stamp fund = round_plans (gives fund.policy) stamp (round_of fund)
 
 -- the policy of a command, if it has one, is among so many
 abbrev pub IsPolicyAmong : ℕ → Command → Type 0

@@ -5,10 +5,14 @@ ghost use Rattle.aid_edges.specs.Faults.{Rose};
 ghost use Rattle.disk_model.specs.Telling.{EachImage, EachMoment, IsHonest};
 ghost use Rattle.headline.specs.Filed.{HasFiled, rows_in};
 ghost use Rattle.headline.specs.Office.{Recovers};
+ghost use Rattle.headline.specs.Written.{Says};
 ghost use Rattle.kept_office.specs.Recovers.{Recovers as KeptRecovers};
 ghost use Rattle.office_history.specs.Within.{IsWithinEveryLimit};
-ghost use Rattle.run_words.specs.Words.{IsRow};
+ghost use Rattle.run_words.specs.Stamped.{IsStampedRow};
 ghost use Rattle.run_words.specs.declared.command.Command.{Command as CommandData};
+ghost use Rattle.stamps.specs.declared.stamp.Stamp.{Stamp as StampData};
+ghost use Rattle.stamped_list.specs.Entries.{entries};
+ghost use Rattle.stamped_list.specs.declared.entry.StampedEntry.{StampedEntry};
 ghost use Rattle.run_office.specs.Moments.{MayRecover, Stands, StoodBefore};
 ghost use Rattle.run_office.specs.Ran.{CanBeDone, Does, FileRan, Ran, Shows, reads_input};
 ghost use Rattle.kept_runs.specs.Ends.{Moved};
@@ -22,16 +26,19 @@ use aid_edges::{Sink, Source};
 use disk_model::Disk;
 use fund_policy::{Policies, Rule};
 use generated_year::{GeneratedOffice, YearForms, YearTally};
-use kept_office::FiledOffice;
+use kept_office::{FiledOffice, StampedOffice};
 use kept_runs::{RunStop, end, ended_filing, ended_founding};
 use kept_session::{ReadStop, SessionStop, answer, file, file_counted, found, write_report};
 use run_rows::{BookForms, DeskForms, QuoteRow};
 use run_words::{Command, command_of};
+use stamped_list::{StampedForms, StampedRows, Stamping};
+use stamps::Stamp;
 use std::alloc::Global;
 
-// Does what a command says, up to how it ends.
+// Does what a command says under a stamp, up to how it ends.
 fn do_command<D: Disk, S: Source, K: Sink>(
     alloc: Global,
+    stamp: Stamp,
     command: Command,
     policies: &Policies,
     disk: D,
@@ -41,7 +48,7 @@ fn do_command<D: Disk, S: Source, K: Sink>(
     requires policy { IsPolicyAmong (length policies.now.list.items) command }
     ensures does { Does (gives_at policies.now.list.items (λ p. ⟦<Rule as Fn(u32, i32, u8) -> u32>⟧.post p.rule)) D.Disk disk result.1
         (record { honest = S.honest input.old; before = S.left input.old; after = S.left input.new })
-        (record { honest = K.honest out.old; before = K.text out.old; after = K.text out.new }) command result.0 }
+        (record { honest = K.honest out.old; before = K.text out.old; after = K.text out.new }) stamp command result.0 }
     ensures unread { reads_input command ≡ false → input.new ≡ input.old }
     ensures source { Moved (is_read_fault result.0) (S.faults input.old, S.faults input.new) }
     ensures sink { Moved (is_write_fault result.0) (K.faults out.old, K.faults out.new) }
@@ -55,50 +62,63 @@ fn do_command<D: Disk, S: Source, K: Sink>(
 {
     match command {
         Command::Found => {
-            let (ended, disk) = found::<D, K, FiledOffice>(alloc, disk, b"founded\n", out);
+            let (ended, disk) = found::<D, K, StampedOffice>(alloc, disk, b"founded\n", out);
             (ended_founding(ended), disk)
         }
         Command::File => {
-            let (ended, disk) = file::<D, S, K, FiledOffice, DeskForms>(
-                alloc, disk, &DeskForms, input, out,
+            let forms = StampedForms {
+                forms: DeskForms,
+                stamp,
+            };
+            let (ended, disk) = file::<D, S, K, StampedOffice, StampedForms<DeskForms>>(
+                alloc, disk, &forms, input, out,
             );
             (ended_filing(ended), disk)
         }
         Command::Book(book) => {
-            let forms = BookForms { book };
-            let (ended, disk) = file::<D, S, K, FiledOffice, BookForms>(
+            let forms = StampedForms {
+                forms: BookForms { book },
+                stamp,
+            };
+            let (ended, disk) = file::<D, S, K, StampedOffice, StampedForms<BookForms>>(
                 alloc, disk, &forms, input, out,
             );
             (ended_filing(ended), disk)
         }
         Command::Quote(quote) => {
-            let row = QuoteRow::new(quote);
-            let (ended, disk) = answer::<D, K, FiledOffice, QuoteRow>(alloc, disk, row, out);
+            let rows = QuoteRow::new(quote);
+            let (ended, disk) = answer::<D, K, StampedOffice, StampedRows<QuoteRow>>(
+                alloc,
+                disk,
+                StampedRows { rows, stamp },
+                out,
+            );
             (ended_filing(ended), disk)
         }
         Command::Report(request) => {
             let report = OfficeReport { request };
-            let (ended, disk) = write_report::<D, K, FiledOffice, OfficeReport>(
+            let (ended, disk) = write_report::<D, K, StampedOffice, OfficeReport>(
                 alloc, disk, &report, out,
             );
             (ended_filing(ended), disk)
         }
         Command::Fund(fund) => {
             let policy = &policies.list[fund.policy];
-            let (ended, disk) = file_round(alloc, disk, fund, policy, out);
+            let (ended, disk) = file_round(alloc, disk, fund, policy, stamp, out);
             (ended_filing(ended), disk)
         }
         Command::Generate(generate) => {
-            let forms = YearForms {
+            let year = YearForms {
                 students: generate.students,
                 seed: generate.seed,
             };
+            let forms = StampedForms { forms: year, stamp };
             let (ended, disk) = file_counted::<
                 D,
                 S,
                 K,
-                GeneratedOffice<FiledOffice>,
-                YearForms,
+                Stamping<GeneratedOffice<FiledOffice>>,
+                StampedForms<YearForms>,
                 YearTally,
             >(alloc, disk, &forms, YearTally::EMPTY, input, out);
             (ended_filing(ended), disk)
@@ -108,12 +128,12 @@ fn do_command<D: Disk, S: Source, K: Sink>(
     }
 }
 
-/// Does what the words say, and answers the status and the disk as it is then: `found` founds an office in the disk's
-/// file; `file` files the rows of the input, and `book` its text as a book; `quote` asks for one; `report` writes a
-/// report on the office, and files nothing; `fund` files the payments of a round of awards by the first of the policies
-/// that has its name; `generate` files a generated year, whose book is the input's text, and writes what it comes to;
-/// `check rows` and `check book` say what is wrong with the input, and make no call on the disk. The whole input is read
-/// before the journal is, and the line of a row is written before the next row is filed.
+/// Does what the words say, and answers the status and the disk as it is then. In front may stand `at DAY CLERK`, the stamp of what
+/// is filed; without it this is the plain one. `found` founds an office in the disk's file; `file` files the rows of the input, and
+/// `book` its text as a book; `quote` asks for one; `report` writes a report on the office, and files nothing; `fund` files the
+/// payments of a round of awards by the first of the policies that has its name; `generate` files a generated year, whose book is
+/// the input's text, and writes what it comes to; `check rows` and `check book` say what is wrong with the input, and make no call on
+/// the disk. The whole input is read before the journal is, and the line of a row is written before the next row is filed.
 ///
 /// The status is 0 where all was done, 2 where the words are no row, 3 where a read failed, 4 where a write failed, 5
 /// where the disk failed, 6 where the file is none for the command, 7 where it is damaged, 8 where the input has more
@@ -128,16 +148,17 @@ pub fn run<D: Disk, S: Source, K: Sink>(
     policies: &Policies,
 ) -> (u8, D)
     // The headline, in few words. Over an honest disk each image of which recovers a history, the rows of the input are answered one
-    // after the other, each by a line that the law gives, and none that was answered is lost at any moment from then on. No command loses
-    // what stood. What a file recovers is one history at most, in which no student stands above a limit.
-    ensures founded { map string_bytes words.now.items ≡ codes "found" ∷ [] → result.0 ≡ 0 → IsHonest (D.tells disk) → EachImage (D.tells result.1) (λ file. Recovers file []) }
-    ensures headline { (past : List Filing) → map string_bytes words.now.items ≡ codes "file" ∷ [] → IsHonest (D.tells disk) → IsTrue (S.honest input.old) → IsTrue (K.honest out.old)
+    // after the other, each by a line that the law gives, what they add joins under the stamp that the words say, and none that was
+    // answered is lost at any moment from then on. No command loses what stood. What a file recovers is one history at most, in which
+    // no student stands above a limit.
+    ensures founded { (stamp : StampData) → Says stamp (codes "found" ∷ []) (map string_bytes words.now.items) → result.0 ≡ 0 → IsHonest (D.tells disk) → EachImage (D.tells result.1) (λ file. Recovers file []) }
+    ensures headline { (stamp : StampData) (past : List (StampedEntry Filing)) → Says stamp (codes "file" ∷ []) (map string_bytes words.now.items) → IsHonest (D.tells disk) → IsTrue (S.honest input.old) → IsTrue (K.honest out.old)
         → EachImage (D.tells disk) (λ file. Recovers file past)
-        → (text : List ℕ) × (K.text out.new ≡ K.text out.old ++ text) × HasFiled D.Disk (rows_in (S.left input.old)) past text result.0 disk result.1 }
-    ensures keeps { (past : List Filing) → IsHonest (D.tells disk) → EachImage (D.tells disk) (λ file. Recovers file past)
-        → EachMoment (D.tells disk) (D.tells result.1) (λ file. (added : List Filing) × Recovers file (added ++ past)) }
-    ensures within { (file : List ℕ) (history : List Filing) → Recovers file history → IsWithinEveryLimit history }
-    ensures one { (file : List ℕ) (history other : List Filing) → Recovers file history → Recovers file other → history ≡ other }
+        → (text : List ℕ) × (K.text out.new ≡ K.text out.old ++ text) × HasFiled D.Disk stamp (rows_in (S.left input.old)) past text result.0 disk result.1 }
+    ensures keeps { (past : List (StampedEntry Filing)) → IsHonest (D.tells disk) → EachImage (D.tells disk) (λ file. Recovers file past)
+        → EachMoment (D.tells disk) (D.tells result.1) (λ file. (added : List (StampedEntry Filing)) × Recovers file (added ++ past)) }
+    ensures within { (file : List ℕ) (history : List (StampedEntry Filing)) → Recovers file history → IsWithinEveryLimit (entries history) }
+    ensures one { (file : List ℕ) (history other : List (StampedEntry Filing)) → Recovers file history → Recovers file other → history ≡ other }
 
     // All that a run does, by its words and by how it ended: the text, the disk at every moment, the counts, and the status.
     ensures ran { Ran (map (λ p. p.name) policies.now.list.items) (gives_at policies.now.list.items (λ p. ⟦<Rule as Fn(u32, i32, u8) -> u32>⟧.post p.rule)) D.Disk K.Sink
@@ -145,19 +166,19 @@ pub fn run<D: Disk, S: Source, K: Sink>(
         (map string_bytes words.now.items) disk result.1
         (record { honest = S.honest input.old; before = S.left input.old; after = S.left input.new }) out.old out.new result.0 }
     // The input is read by a command that has one alone.
-    ensures unread { ((command : CommandData) → IsRow (map (λ p. p.name) policies.now.list.items) (map string_bytes words.now.items) command → reads_input command ≡ false) → input.new ≡ input.old }
+    ensures unread { ((stamp : StampData) (command : CommandData) → IsStampedRow (map (λ p. p.name) policies.now.list.items) (map string_bytes words.now.items) stamp command → reads_input command ≡ false) → input.new ≡ input.old }
 
     // Whatever a run comes to, each image at each moment of it recovers the list before it, with what some rows in front of
     // the input's add; where it was done, with what all of them add.
-    ensures moments { (command : CommandData) (past : List Filing) → IsRow (map (λ p. p.name) policies.now.list.items) (map string_bytes words.now.items) command
+    ensures moments { (stamp : StampData) (command : CommandData) (past : List (StampedEntry Filing)) → IsStampedRow (map (λ p. p.name) policies.now.list.items) (map string_bytes words.now.items) stamp command
         → IsHonest (D.tells disk) → EachImage (D.tells disk) (λ file. KeptRecovers file past)
         → EachMoment (D.tells disk) (D.tells result.1)
-        (MayRecover (gives_at policies.now.list.items (λ p. ⟦<Rule as Fn(u32, i32, u8) -> u32>⟧.post p.rule)) command (record { honest = S.honest input.old; before = S.left input.old; after = S.left input.new }) past) }
-    ensures stands { (command : CommandData) (past : List Filing) → IsRow (map (λ p. p.name) policies.now.list.items) (map string_bytes words.now.items) command → result.0 ≡ 0
+        (MayRecover (gives_at policies.now.list.items (λ p. ⟦<Rule as Fn(u32, i32, u8) -> u32>⟧.post p.rule)) stamp command (record { honest = S.honest input.old; before = S.left input.old; after = S.left input.new }) past) }
+    ensures stands { (stamp : StampData) (command : CommandData) (past : List (StampedEntry Filing)) → IsStampedRow (map (λ p. p.name) policies.now.list.items) (map string_bytes words.now.items) stamp command → result.0 ≡ 0
         → IsHonest (D.tells disk) → StoodBefore command (D.tells disk).reads past
-        → Stands (gives_at policies.now.list.items (λ p. ⟦<Rule as Fn(u32, i32, u8) -> u32>⟧.post p.rule)) command (record { honest = S.honest input.old; before = S.left input.old; after = S.left input.new }) past (D.tells result.1) }
+        → Stands (gives_at policies.now.list.items (λ p. ⟦<Rule as Fn(u32, i32, u8) -> u32>⟧.post p.rule)) stamp command (record { honest = S.honest input.old; before = S.left input.old; after = S.left input.new }) past (D.tells result.1) }
     // What `file` acknowledges, at every end: the rows that were filed, a line for each, and how it ended.
-    ensures file_ran { map string_bytes words.now.items ≡ codes "file" ∷ [] → FileRan D.Disk K.Sink disk result.1
+    ensures file_ran { (stamp : StampData) → Says stamp (codes "file" ∷ []) (map string_bytes words.now.items) → FileRan D.Disk K.Sink stamp disk result.1
         (record { honest = S.honest input.old; before = S.left input.old; after = S.left input.new }) out.old out.new result.0 }
 
     // 3, 4 and 5 come only where the count of the source, the sink or the disk rose, and no fault is passed over.
@@ -165,7 +186,7 @@ pub fn run<D: Disk, S: Source, K: Sink>(
         (record { source = (S.faults input.old, S.faults input.new); sink = (K.faults out.old, K.faults out.new); disk = (D.faults disk, D.faults result.1) }) result.0 }
 
     // Where no count rose, a command that can be done is done, if there is memory.
-    ensures complete { (command : CommandData) → IsRow (map (λ p. p.name) policies.now.list.items) (map string_bytes words.now.items) command
+    ensures complete { (stamp : StampData) (command : CommandData) → IsStampedRow (map (λ p. p.name) policies.now.list.items) (map string_bytes words.now.items) stamp command
         → CanBeDone command (S.honest input.old) (length (S.left input.old)) (D.tells disk) → ¬ (Rose (S.faults input.old) (S.faults input.new))
         → ¬ (Rose (K.faults out.old) (K.faults out.new)) → ¬ (Rose (D.faults disk) (D.faults result.1))
         → (result.0 ≡ 0) ⊎ (result.0 ≡ 9) }
@@ -178,8 +199,16 @@ pub fn run<D: Disk, S: Source, K: Sink>(
     ensures disk_honest { (D.tells result.1).honest ≡ (D.tells disk).honest }
 {
     match command_of(alloc, words, policies) {
-        Ok(Some(command)) => {
-            let (ended, disk) = do_command(alloc, command, policies, disk, input, out);
+        Ok(Some(row)) => {
+            let (ended, disk) = do_command(
+                alloc,
+                row.stamp,
+                row.command,
+                policies,
+                disk,
+                input,
+                out,
+            );
             (end(ended, out), disk)
         }
         Ok(None) => (end(Err(RunStop::Usage), out), disk),

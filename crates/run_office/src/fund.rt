@@ -1,5 +1,5 @@
 // A round of awards that is asked for.
-ghost use Rattle.std.specs.Prelude.{◌≡◌, ◌≢◌, ◌≤◌, ◌<◌, ◌^◌, false, Err, IsTrue, IfErr, IfOk, OnOk, length, map};
+ghost use Rattle.std.specs.Prelude.{◌≡◌, ◌≢◌, ◌≤◌, ◌<◌, ◌^◌, ℕ, false, Err, IsTrue, IfErr, IfOk, OnOk, length, map};
 ghost use Rattle.std.specs.Vec.Iter.{into_iter_items};
 ghost use Rattle.aid_edges.specs.Faults.{Rose};
 ghost use Rattle.award_rounds.specs.Planned.{IsPlanned};
@@ -7,6 +7,7 @@ ghost use Rattle.kept_office.specs.Scheme.{office_scheme};
 ghost use Rattle.kept_office.specs.Turns.{office_judging};
 ghost use Rattle.kept_session.specs.Planned.{Planned};
 ghost use Rattle.kept_session.specs.Sessions.{is_disk_fault};
+ghost use Rattle.stamped_list.specs.Rows.{stamped_texts};
 ghost use Rattle.run_office.specs.Rounds.{left_line as left_line_of, round_of as round_of_fund, round_plans, round_texts};
 
 use aid_edges::Sink;
@@ -19,11 +20,13 @@ use field_rows::RowError;
 use filing_rules::MOST_FILINGS;
 use fund_policy::{Policy, Rule};
 use kept_list::Rows;
-use kept_office::FiledOffice;
+use kept_office::{FiledOffice, StampedOffice};
 use kept_runs::number_line;
 use kept_session::{FileStop, SessionStop, file_planned, open};
 use office_core::Office;
 use run_words::FundRequest;
+use stamped_list::StampedRows;
+use stamps::Stamp;
 use std::alloc::{AllocError, Global};
 use std::vec::IntoIter;
 
@@ -105,8 +108,8 @@ fn plan(
     request: &RoundRequest,
     policy: &Policy,
 ) -> Result<(RoundRows, ArrayString<40>), AllocError>
-    ensures { IfOk result (λ planned. round_plans (⟦<Rule as Fn(u32, i32, u8) -> u32>⟧.post policy.now.rule) request.now office.now.history
-        (map (λ filing. Ask.File filing) (into_iter_items planned.0.filings)) planned.1.bytes) }
+    ensures { IfOk result (λ planned. (left : ℕ) × IsPlanned (⟦<Rule as Fn(u32, i32, u8) -> u32>⟧.post policy.now.rule) office.now.history request.now
+        (into_iter_items planned.0.filings) left × (planned.1.bytes ≡ left_line_of left)) }
 {
     let planned = plan_round(alloc, office, request, policy)?;
     let rows = RoundRows {
@@ -115,17 +118,18 @@ fn plan(
     Ok((rows, left_line(planned.left)))
 }
 
-/// Opens the journal's office, plans a round on it by a policy, and files its payments: the line of each is written before the
-/// next is filed, and behind the last what is left of the fund.
+/// Opens the journal's office, plans a round on it by a policy, and files its payments under a stamp: the line of each is written
+/// before the next is filed, and behind the last what is left of the fund.
 pub fn file_round<D: Disk, K: Sink>(
     alloc: Global,
     disk: D,
     fund: FundRequest,
     policy: &Policy,
+    stamp: Stamp,
     out: &mut K,
 ) -> (Result<(), SessionStop>, D)
-    ensures planned { Planned D.Disk office_scheme office_judging round_texts
-        (round_plans (⟦<Rule as Fn(u32, i32, u8) -> u32>⟧.post policy.now.rule) (round_of_fund fund)) disk result.1
+    ensures planned { Planned D.Disk office_scheme office_judging (stamped_texts round_texts)
+        (round_plans (⟦<Rule as Fn(u32, i32, u8) -> u32>⟧.post policy.now.rule) stamp (round_of_fund fund)) disk result.1
         (record { honest = K.honest out.old; before = K.text out.old; after = K.text out.new }) result.0 }
     ensures write_fault { result.0 ≡ Err (SessionStop.Filing FileStop.Write) → Rose (K.faults out.old) (K.faults out.new) }
     ensures disk_fault { IfErr result.0 (λ stop. IsTrue (is_disk_fault stop) → Rose (D.faults disk) (D.faults result.1)) }
@@ -138,21 +142,22 @@ pub fn file_round<D: Disk, K: Sink>(
     ensures disk_honest { (D.tells result.1).honest ≡ (D.tells disk).honest }
     ensures sink_honest { K.honest out.new ≡ K.honest out.old }
 {
-    let mut kept = match open::<D, FiledOffice>(alloc, disk) {
+    let mut kept = match open::<D, StampedOffice>(alloc, disk) {
         Ok(kept) => kept,
         Err((error, disk)) => return (Err(SessionStop::Opening(error)), disk),
     };
-    let (rows, closing) = match plan(alloc, kept.docket().office(), &round_of(fund), policy) {
+    let office = kept.docket().inner().office();
+    let (rows, closing) = match plan(alloc, office, &round_of(fund), policy) {
         Ok(planned) => planned,
         Err(_) => return (
             Err(SessionStop::Filing(FileStop::NoMemory)),
             kept.into_disk(),
         ),
     };
-    match file_planned::<D, K, FiledOffice, RoundRows>(
+    match file_planned::<D, K, StampedOffice, StampedRows<RoundRows>>(
         alloc,
         &mut kept,
-        rows,
+        StampedRows { rows, stamp },
         closing.as_bytes(),
         out,
     ) {

@@ -16,6 +16,9 @@ ghost use Rattle.run_office.specs.Names.{name_of};
 ghost use Rattle.run_office.specs.RanDesks.{AreFew, AreNew, FilesOwn, HasFiled, HasStood, RanDesks, View};
 ghost use Rattle.run_office.specs.declared.desks.DeskInput.{DeskInput};
 ghost use Rattle.aid_edges.specs.Faults.{Rose};
+ghost use Rattle.stamped_list.specs.declared.entry.StampedAsk.{StampedAsk};
+ghost use Rattle.stamped_list.specs.declared.entry.StampedEntry.{StampedEntry};
+ghost use Rattle.stamped_list.specs.declared.entry.StampedError.{StampedError};
 
 use aid_edges::{Sink, Source};
 use disk_model::Disk;
@@ -37,28 +40,28 @@ pub fn desk_causes<D: Disk, S: Source, K: Sink>()
 /// The disk's count of faults rose by at least the number of desks that ended in a fault of the disk, or stands at its
 /// last value.
 pub fn faults_are_counted()
-    ensures { (opening closed : Stand (Filed Filing)) (before after : List View) → HasFiled opening closed before after
+    ensures { (opening closed : Stand (Filed (StampedEntry Filing))) (before after : List View) → HasFiled opening closed before after
         → RoseBy (faulted_in after) opening.faults closed.faults }
 {}
 
 /// The position that the last line of a desk names is past the list before the desks filed, and at most one past the
 /// list at the end.
 pub fn undecided_is_next()
-    ensures { (opening closed : Stand (Filed Filing)) (before after : List View) → HasFiled opening closed before after
+    ensures { (opening closed : Stand (Filed (StampedEntry Filing))) (before after : List View) → HasFiled opening closed before after
         → (k : ℕ) (d : View) (position : ℕ) → k < length after → (get_or after k d).ended ≡ Stopped (DiskFault (Some position))
         → (length opening.list < position) × (position ≤ length closed.list + 1) }
 {}
 
 /// Each row of a desk was answered on an older part of the list at the end.
 pub fn answered_on_closed()
-    ensures { (opening closed : Stand (Filed Filing)) (before after : List View) (filed : HasFiled opening closed before after)
-        (k : ℕ) (d : View) (lt : k < length before) (i : ℕ) (a : Answer Filing Ask RowError) → i < length (filed.each k d lt).files.answers
+    ensures { (opening closed : Stand (Filed (StampedEntry Filing))) (before after : List View) (filed : HasFiled opening closed before after)
+        (k : ℕ) (d : View) (lt : k < length before) (i : ℕ) (a : Answer (StampedEntry Filing) (StampedAsk Ask) (StampedError RowError)) → i < length (filed.each k d lt).files.answers
         → IsOlder (get_or (filed.each k d lt).files.answers i a).past (entries_of closed.list) }
 {}
 
 /// No row of a desk was answered on fewer filings than one before it.
 pub fn fronts_rise()
-    ensures { (opening : Stand (Filed Filing)) (before after : View) (own : FilesOwn opening before after) (i j : ℕ) (a : Answer Filing Ask RowError)
+    ensures { (opening : Stand (Filed (StampedEntry Filing))) (before after : View) (own : FilesOwn opening before after) (i j : ℕ) (a : Answer (StampedEntry Filing) (StampedAsk Ask) (StampedError RowError))
         → i ≤ j → j < length own.files.answers
         → length (get_or own.files.answers i a).past ≤ length (get_or own.files.answers j a).past }
 {}
@@ -66,17 +69,18 @@ pub fn fronts_rise()
 /// Each filing that was added is that of a row which was answered as admitted at its position, or at which a desk ended in
 /// a fault of the disk that named the position.
 pub fn added_are_named()
-    ensures { (opening closed : Stand (Filed Filing)) (before after : List View) (filed : HasFiled opening closed before after) (entry : ℕ × Filed Filing)
+    ensures { (opening closed : Stand (Filed (StampedEntry Filing))) (before after : List View) (filed : HasFiled opening closed before after) (entry : ℕ × Filed (StampedEntry Filing))
         → Contains (numbered (length opening.list) filed.ran.added) entry
         → (k : ℕ) × (d : View) × (lt : k < length before) × HasNamed (filed.each k d lt) entry }
 {}
 
 /// Which row a line `admitted` names, where the desks are numbered from 1: that which was answered as admitted at the
-/// position; or else the first, in desk order, that files the same and at which a desk ended with the position in doubt.
+/// position; or else the first, in desk order, that files the same under the same stamp and at which a desk ended with the
+/// position in doubt.
 pub fn first_is_named()
-    ensures answered { (opening closed : Stand (Filed Filing)) (before after : List View) (filed : HasFiled opening closed before after) → AreNew before
-        → (k : ℕ) (d : View) (lt : k < length before) (entry : ℕ × Filed Filing) → HasAdmitted (filed.each k d lt) entry → name_of after entry.0 entry.1.by ≡ entry.1.by }
-    ensures named { (opening closed : Stand (Filed Filing)) (before after : List View) (filed : HasFiled opening closed before after) → AreNew before
-        → (entry : ℕ × Filed Filing) → Contains (numbered (length opening.list) filed.ran.added) entry
+    ensures answered { (opening closed : Stand (Filed (StampedEntry Filing))) (before after : List View) (filed : HasFiled opening closed before after) → AreNew before
+        → (k : ℕ) (d : View) (lt : k < length before) (entry : ℕ × Filed (StampedEntry Filing)) → HasAdmitted (filed.each k d lt) entry → name_of after entry.0 entry.1.by ≡ entry.1.by }
+    ensures named { (opening closed : Stand (Filed (StampedEntry Filing))) (before after : List View) (filed : HasFiled opening closed before after) → AreNew before
+        → (entry : ℕ × Filed (StampedEntry Filing)) → Contains (numbered (length opening.list) filed.ran.added) entry
         → IsToldOf filed entry.0 entry.1.entry (name_of after entry.0 entry.1.by) }
 {}

@@ -1,16 +1,17 @@
 // The rows that are told of as those that filed what the desks added.
 ghost use Rattle.std.specs.Prelude.{◌≡◌, Bool, Option, option_copied};
 ghost use Rattle.std.specs.List.{find};
-ghost use Rattle.run_office.specs.Names.{end_row_or as end_row_or_of, ends_at as ends_at_of, is_filing as is_filing_of, kept_filing, kept_in, kept_what, leaves as leaves_of, name_of as name_of_row, names_position as names_position_of};
+ghost use Rattle.run_office.specs.Names.{end_row_or as end_row_or_of, ends_at as ends_at_of, is_filing as is_filing_of, kept_ask, kept_filing, kept_in, kept_what, leaves as leaves_of, name_of as name_of_row, names_position as names_position_of, same_stamped};
 
 use aid_filings::{Ask, Filing, What};
 use kept_desks::{Copies, Desk, DeskEnd, DeskStop};
 use kept_list::RowName;
-use kept_office::FiledOffice;
+use kept_office::{Stamped, StampedFiling, StampedOffice};
 use run_rows::DeskRows;
+use stamped_list::StampedRows;
 
-/// A desk that files rows into the office.
-pub type OfficeDesk = Desk<FiledOffice, DeskRows>;
+/// A desk that files rows into the office, all under its stamp.
+pub type OfficeDesk = Desk<StampedOffice, StampedRows<DeskRows>>;
 
 /// Copies of what rows file.
 pub struct FilingCopies;
@@ -45,16 +46,27 @@ fn copy_filing(filing: &Filing) -> Option<Filing>
     })
 }
 
-impl Copies<FiledOffice> for FilingCopies {
-    ghost use Rattle.run_office.specs.Names.{kept_ask};
+// A copy of what is asked to be filed.
+fn copy_ask(ask: &Ask) -> Option<Filing>
+    ensures { result ≡ kept_ask ask.now }
+{
+    match ask {
+        Ask::File(filing) => copy_filing(filing),
+        _ => None,
+    }
+}
 
-    ghost copied = { kept_ask };
+impl Copies<StampedOffice> for FilingCopies {
+    ghost use Rattle.run_office.specs.Names.{kept_stamped};
 
-    fn copy(ask: &Ask) -> Option<Filing> {
-        match ask {
-            Ask::File(filing) => copy_filing(filing),
-            _ => None,
-        }
+    ghost copied = { kept_stamped };
+
+    fn copy(ask: &Stamped) -> Option<StampedFiling> {
+        let entry = copy_ask(&ask.ask)?;
+        Some(StampedFiling {
+            entry,
+            stamp: ask.stamp,
+        })
     }
 }
 
@@ -79,18 +91,25 @@ fn ends_at(desk: &OfficeDesk, position: u64, by: RowName) -> bool
     names_position(desk, position) && desk.end_row() == by
 }
 
-// Whether what a desk kept is this filing.
-fn is_filing(filing: &Filing, kept: Option<&Filing>) -> bool
+// Whether these are the same filing with the same stamp.
+fn is_same(filing: &StampedFiling, other: &StampedFiling) -> bool
+    ensures { result ≡ same_stamped filing.now other.now }
+{
+    filing.entry == other.entry && filing.stamp == other.stamp
+}
+
+// Whether what a desk kept is this filing, with this stamp.
+fn is_filing(filing: &StampedFiling, kept: Option<&StampedFiling>) -> bool
     ensures { result ≡ is_filing_of filing.now (option_copied kept.entry) }
 {
     match kept {
-        Some(other) => filing == other,
+        Some(other) => is_same(filing, other),
         None => false,
     }
 }
 
 // Whether the desk ended with this position in doubt, at a row that files this.
-fn leaves(desk: &OfficeDesk, position: u64, filing: &Filing) -> bool
+fn leaves(desk: &OfficeDesk, position: u64, filing: &StampedFiling) -> bool
     ensures { result ≡ leaves_of position filing.now desk.now }
 {
     names_position(desk, position) && is_filing(filing, desk.last())
@@ -104,7 +123,7 @@ fn desk_at(desks: &[OfficeDesk], position: u64, by: RowName) -> Option<&OfficeDe
 }
 
 // What this row files, where a desk ended at it with this position in doubt.
-fn left_by(desks: &[OfficeDesk], position: u64, by: RowName) -> Option<&Filing>
+fn left_by(desks: &[OfficeDesk], position: u64, by: RowName) -> Option<&StampedFiling>
     ensures { option_copied result ≡ kept_in (find (ends_at_of position by) desks.now) }
 {
     match desk_at(desks, position, by) {
@@ -114,7 +133,11 @@ fn left_by(desks: &[OfficeDesk], position: u64, by: RowName) -> Option<&Filing>
 }
 
 // The first desk that ended with this position in doubt, at a row that files this.
-fn first_left<'a>(desks: &'a [OfficeDesk], position: u64, filing: &Filing) -> Option<&'a OfficeDesk>
+fn first_left<'a>(
+    desks: &'a [OfficeDesk],
+    position: u64,
+    filing: &StampedFiling,
+) -> Option<&'a OfficeDesk>
     ensures { option_copied result ≡ find (leaves_of position filing.now) desks.now }
 {
     desks.iter().find(|desk| leaves(desk, position, filing))

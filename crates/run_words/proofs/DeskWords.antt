@@ -1,5 +1,5 @@
 -- The row of words of many desks.
-use Rattle.std.proofs.Common.{◌≡◌, ◌↔◌, ℕ, ◌<◌, ◌≤◌, Bool, not, List, [], ◌∷◌, map, length, refl, sym, ap, ◌∙◌, subst, arith, codes}
+use Rattle.std.proofs.Common.{◌≡◌, ◌↔◌, ℕ, ◌<◌, ◌≤◌, Bool, not, List, [], ◌∷◌, map, length, refl, sym, ◌∙◌, subst, arith, codes}
 use Rattle.std.specs.Prelude.{IsTrue}
 use Rattle.std.specs.List.{list_all}
 use Rattle.stamps.specs.declared.stamp.Stamp.{Stamp}

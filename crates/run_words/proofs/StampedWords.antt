@@ -1,12 +1,12 @@
 -- Words behind a stamp.
-use Rattle.std.proofs.Common.{◌≡◌, ◌↔◌, ℕ, ◌+◌, ◌-◌, ◌≤◌, ◌<◌, Bool, true, false, List, [], ◌∷◌, Option, Some, None, Result, Ok, Err, IfSome, codes, get_or, drop, take, length, map, refl, sym, ap, subst, ◌∙◌, arith}
+use Rattle.std.proofs.Common.{◌≡◌, ◌↔◌, ℕ, ◌+◌, ◌-◌, ◌≤◌, ◌<◌, Bool, true, false, List, [], ◌∷◌, Option, Some, None, Ok, IfSome, codes, get_or, drop, take, length, map, refl, sym, ap, subst, ◌∙◌, arith}
 use Rattle.std.specs.Prelude.{IsTrue}
 use Rattle.std.specs.Str.{bytes_eq}
 use Rattle.std.proofs.Math.Seq.{take-length}
 use Rattle.std.proofs.lemmas.Bool.{true≢false}
 use Rattle.std.proofs.lemmas.List.{length-map}
 use Rattle.std.proofs.lemmas.Slice.Eq.{bytes_eq-Decides}
-use Rattle.enrolment.specs.DayText.{IsDayText, day_in}
+use Rattle.enrolment.specs.DayText.{IsDayText}
 use Rattle.enrolment.proofs.DayTextLaws.{IsDayReading-day_in}
 use Rattle.stamps.specs.Clerks.{IsClerk}
 use Rattle.stamps.specs.Stamps.{plain_stamp}

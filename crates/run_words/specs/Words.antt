@@ -107,6 +107,10 @@ abbrev pub AreDesks : List (List ℕ) → ℕ → Type 0
 AreDesks [] files = ⊥
 AreDesks (first ∷ paths) files = (first ≡ codes "desks") × (files ≡ length paths) × IsBetween 1 16 files × ArePlain paths
 
+-- the words are `upgrade` and this file, which doesn't begin with a hyphen
+abbrev pub IsUpgrade : List (List ℕ) → List ℕ → Type 0
+IsUpgrade words file = (words ≡ codes "upgrade" ∷ file ∷ []) × (begins_with_hyphen file ≡ false)
+
 -- the words of a server: PORT WORKERS SESSIONS
 abbrev pub serve_words : ℕ → ℕ → ℕ → List (List ℕ)
 serve_words port workers sessions = codes "serve" ∷ decimal port ∷ decimal workers ∷ decimal sessions ∷ []

@@ -115,4 +115,6 @@ pub enum MainRow {
         sessions: u32,
         stamp: Stamp,
     },
+    /// `upgrade FILE`: the journal of an older version in the file is copied. No stamp stands in front.
+    Upgrade,
 }

@@ -3,8 +3,8 @@ ghost use Rattle.std.specs.Prelude.{◌≡◌, not, string_bytes};
 ghost use Rattle.std.specs.List.{list_all};
 ghost use Rattle.run_words.specs.Words.{begins_with_hyphen};
 
-// Whether the word begins with a hyphen.
-fn is_hyphened(word: &str) -> bool
+/// Whether the word begins with a hyphen.
+pub(crate) fn is_hyphened(word: &str) -> bool
     ensures { result ≡ begins_with_hyphen word.now }
 {
     match word.as_bytes().first() {

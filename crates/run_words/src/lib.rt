@@ -8,6 +8,7 @@ mod hyphen;
 mod main_row;
 mod number;
 mod stamped;
+mod upgrade;
 mod words;
 
 pub use at::behind_at;
@@ -17,3 +18,4 @@ pub use command::{
 };
 pub use main_row::{MOST_DESKS, needs_journal, row_of};
 pub use stamped::{command_of, is_found};
+pub use upgrade::upgrade_file;

@@ -2,7 +2,7 @@
 ghost use Rattle.std.specs.Prelude.{◌≡◌, ◌≢◌, ◌↔◌, ◌⊎◌, ◌∷◌, [], ℕ, List, codes, false, map, string_bytes};
 ghost use Rattle.stamps.specs.declared.stamp.Stamp.{Stamp as StampData};
 ghost use Rattle.run_words.specs.Stamped.{AreStampedDesks, AreStampedServe, IsStampedRow};
-ghost use Rattle.run_words.specs.Words.{AreDesks, AreServe, IsRow, ReadsServe, words_of};
+ghost use Rattle.run_words.specs.Words.{AreDesks, AreServe, IsRow, IsUpgrade, ReadsServe, words_of};
 ghost use Rattle.run_words.specs.declared.command.Command.{Command as CommandData};
 ghost use Rattle.run_words.specs.declared.command.Command.TheVariants.{CheckBook, CheckRows};
 
@@ -10,6 +10,7 @@ use crate::at::behind_at;
 use crate::command::MainRow;
 use crate::hyphen::are_plain;
 use crate::number::number_in;
+use crate::upgrade::upgrade_file;
 use stamps::Stamp;
 
 /// At most so many desks file at once.
@@ -19,6 +20,7 @@ pub const MOST_DESKS: usize = 16;
 fn desks_row(stamp: &Stamp, first: &str, files: &[String]) -> MainRow
     ensures desks { (count : ℕ) (s : StampData) → (result ≡ MainRow.Desks count s) ↔ ((stamp.now ≡ s) × AreDesks (first.now ∷ map string_bytes files.now) count) }
     ensures other { (port workers sessions : ℕ) (s : StampData) → result ≢ MainRow.Serve port workers sessions s }
+    ensures no_upgrade { result ≢ MainRow.Upgrade }
 {
     if first == "desks" && !files.is_empty() && files.len() <= MOST_DESKS && are_plain(files) {
         MainRow::Desks {
@@ -80,6 +82,7 @@ fn row_behind(stamp: &Stamp, words: &[String]) -> MainRow
     ensures desks { (files : ℕ) (s : StampData) → (result ≡ MainRow.Desks files s) ↔ ((stamp.now ≡ s) × AreDesks (map string_bytes words.now) files) }
     ensures serve { (port workers sessions : ℕ) (s : StampData) → (result ≡ MainRow.Serve port workers sessions s)
         ↔ ((stamp.now ≡ s) × AreServe (map string_bytes words.now) port workers sessions) }
+    ensures no_upgrade { result ≢ MainRow.Upgrade }
 {
     if let Some(row) = serve_row(stamp, words) {
         return row;
@@ -90,17 +93,31 @@ fn row_behind(stamp: &Stamp, words: &[String]) -> MainRow
     }
 }
 
-/// The call that the words need, which may stand behind `at DAY CLERK`: `desks FILE..` with 1 to 16 files, of which none begins with
-/// a hyphen, `serve PORT WORKERS SESSIONS` with a port from 1, 1 to 16 workers and 1 to 1,000,000 sessions, or a run. It takes no
-/// memory.
-pub fn row_of(words: &[String]) -> MainRow
+// The row of the words, which may stand behind a stamp.
+fn stamped_row(words: &[String]) -> MainRow
     ensures desks { (files : ℕ) (stamp : StampData) → (result ≡ MainRow.Desks files stamp) ↔ AreStampedDesks (map string_bytes words.now) files stamp }
     ensures serve { (port workers sessions : ℕ) (stamp : StampData) → (result ≡ MainRow.Serve port workers sessions stamp)
         ↔ AreStampedServe (map string_bytes words.now) port workers sessions stamp }
+    ensures no_upgrade { result ≢ MainRow.Upgrade }
 {
     match behind_at(words) {
         Some((stamp, rest)) => row_behind(&stamp, rest),
         None => MainRow::Run,
+    }
+}
+
+/// The call that the words need. `upgrade FILE` has nothing in front, and its file doesn't begin with a hyphen. Behind
+/// `at DAY CLERK` may stand `desks FILE..` with 1 to 16 files, of which none begins with a hyphen, and `serve PORT WORKERS SESSIONS`
+/// with a port from 1, 1 to 16 workers and 1 to 1,000,000 sessions. All else is a run. It takes no memory.
+pub fn row_of(words: &[String]) -> MainRow
+    ensures desks { (files : ℕ) (stamp : StampData) → (result ≡ MainRow.Desks files stamp) ↔ AreStampedDesks (map string_bytes words.now) files stamp }
+    ensures serve { (port workers sessions : ℕ) (stamp : StampData) → (result ≡ MainRow.Serve port workers sessions stamp)
+        ↔ AreStampedServe (map string_bytes words.now) port workers sessions stamp }
+    ensures upgrade { (result ≡ MainRow.Upgrade) ↔ ((file : List ℕ) × IsUpgrade (map string_bytes words.now) file) }
+{
+    match upgrade_file(words) {
+        Some(_) => MainRow::Upgrade,
+        None => stamped_row(words),
     }
 }
 

@@ -5,4 +5,4 @@ mod runs;
 mod texts;
 
 pub use runs::{EMPTY, Run, disk, ran, ran_over, words_of};
-pub use texts::{BOTH, CUT, long_input};
+pub use texts::{BOTH, CUT, OLD, long_input};

@@ -12,7 +12,7 @@ use std::alloc::{AllocError, Global};
 pub type Run = (&'static str, &'static str, u8, &'static str);
 
 /// A founded file without filings.
-pub const EMPTY: &[u8] = b"\x01AIDPELL1\x01\0\0\0\0\0\0\0";
+pub const EMPTY: &[u8] = b"\x01AIDPELL1\x02\0\0\0\0\0\0\0";
 
 /// A disk with these bytes, of which the calls with these numbers fail, counted from 1.
 pub fn disk(

@@ -1,5 +1,5 @@
-use Rattle.headline.proofs.Office.{answered}
+use Rattle.headline.proofs.Office.{answered_under}
 use Rattle.headline.proofs.laws.row_is_answered.Goals as goal
 
 pub returns : goal.returns
-returns c past number row said legal is = answered past number row said legal is
+returns c stamp past number row said legal is = answered_under stamp past number row said legal is

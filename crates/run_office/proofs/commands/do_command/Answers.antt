@@ -19,7 +19,7 @@ returns-in-Book-clause-does g c =
 
 pub returns-in-Quote-clause-does : goal.returns-in-Quote-clause-does
 returns-in-Quote-clause-does g c =
-    rw (c.in-Quote.is, c.ended_filing-in-Quote.ensures) (quoting c.in-Quote.quote c.answer-ended.result.0 (rw c.new-row.ensures at c.answer-ended.ensures.session))
+    rw (c.in-Quote.is, c.ended_filing-in-Quote.ensures) (quoting c.in-Quote.quote c.answer-ended.result.0 (rw c.new-rows.ensures at c.answer-ended.ensures.session))
 
 pub returns-in-Report-clause-does : goal.returns-in-Report-clause-does
 returns-in-Report-clause-does g c =
@@ -30,7 +30,7 @@ returns-in-Fund-clause-does g c =
     let policies = c.args.policies.now.list.items in
     let place = c.in-Fund.fund.policy in
     rw (c.in-Fund.is, c.ended_filing-in-Fund.ensures) (funding c.in-Fund.fund c.file_round-ended.result.0
-    (planned_at g.D.Disk policies c.index-policy.result.now place _ _ _ _ _ _
+    (planned_at g.D.Disk policies c.index-policy.result.now place _ c.args.stamp _ _ _ _ _
     (slice_get-get_or policies place c.index-policy.result.now (subst (IsPolicyAmong (length policies)) c.in-Fund.is c.requires.policy) ∙ ap Some (sym c.index-policy.ensures))
     c.file_round-ended.ensures.planned))
 

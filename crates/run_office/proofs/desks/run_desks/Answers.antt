@@ -7,6 +7,7 @@ use Rattle.headline.specs.Office.{Recovers}
 use Rattle.run_office.specs.RanDesks.{AreNew, FilesAll, RanDesks, read, unasked, unread}
 use Rattle.run_office.specs.declared.desks.DeskInput.{DeskInput}
 use Rattle.kept_runs.specs.Ends.{EndsWith}
+use Rattle.stamped_list.specs.declared.entry.StampedEntry.{StampedEntry}
 use Rattle.kept_runs.specs.Statuses.{fault_line, status_of}
 use Rattle.kept_runs.specs.declared.stop.RunStop.TheVariants.{File}
 use Rattle.run_office.proofs.AtOnce.{ran_at_once}
@@ -45,11 +46,11 @@ returns-in-Err-clause-complete g c can none sink_still disk_still =
 
 -- the headline of a run that ended so, by what an honest disk tells of its images
 shown : (g : Over) (old new : g.row.D.Denot) (inputs inputs' : List (DeskInput g.row.S.Denot)) (out out' : g.row.K.Denot) (status : ℕ)
-    → RanDesks g.D.Disk g.S.Source g.K.Sink old new inputs inputs' out out' status → (past : List Filing) → IsHonest (g.D.Disk.tells old)
+    → RanDesks g.D.Disk g.S.Source g.K.Sink old new inputs inputs' out out' status → (past : List (StampedEntry Filing)) → IsHonest (g.D.Disk.tells old)
     → ((k : ℕ) (i : DeskInput g.row.S.Denot) → k < length inputs → IsTrue (g.S.Source.honest (get_or inputs k i).input)) → IsTrue (g.K.Sink.honest out)
     → EachImage (g.D.Disk.tells old) (λ file. Recovers file past)
     → (text : List ℕ) × (g.K.Sink.text out' ≡ g.K.Sink.text out ++ text)
-    × RanAtOnce (map (λ (i : DeskInput g.row.S.Denot). rows_in (g.S.Source.left i.input)) inputs) past (g.D.Disk.tells old) (g.D.Disk.tells new) text status
+    × RanAtOnce (map (λ (i : DeskInput g.row.S.Denot). (i.stamp, rows_in (g.S.Source.left i.input))) inputs) past (g.D.Disk.tells old) (g.D.Disk.tells new) text status
 shown g old new inputs inputs' out out' status ran past honest sources writes images =
     let laws = (g.met.D.Disk g.world.𝓛 g.world.𝓜 g.world.𝓡 ((λ s x. x), (λ x. x), (λ x. x), λ x. x)) in
     ran_at_once g.D.Disk g.S.Source g.K.Sink laws.only_now laws.reads_as_image old new inputs inputs' out out' status past honest sources writes images ran

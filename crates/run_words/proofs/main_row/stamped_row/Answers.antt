@@ -1,7 +1,7 @@
 use Rattle.std.proofs.Common.{Global, map, string_bytes}
 use Rattle.run_words.specs.Words.{AreDesks, AreServe}
 use Rattle.run_words.proofs.StampedWords.{behind_stamp}
-use Rattle.run_words.proofs.main_row.row_of.Goals as goal
+use Rattle.run_words.proofs.main_row.stamped_row.Goals as goal
 
 pub returns-in-Some-clause-desks : goal.returns-in-Some-clause-desks
 returns-in-Some-clause-desks c files s =
