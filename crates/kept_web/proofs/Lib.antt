@@ -9,3 +9,5 @@ pub mod Closing
 pub mod AllTelling
 pub mod Creating
 pub mod Parts
+pub mod Forgetting
+pub mod Stamped

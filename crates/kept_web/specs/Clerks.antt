@@ -8,6 +8,9 @@ use Rattle.kept_list.specs.declared.names.Filed.{Filed}
 use Rattle.kept_list.specs.declared.names.RowName.{RowName}
 use Rattle.web_desk.specs.Asks.{Scheme, Request, Answers, IsAsked, Reaches}
 use Rattle.web_desk.specs.Responses.{Answer}
+use Rattle.stamps.specs.declared.stamp.Stamp.{Stamp}
+use Rattle.stamped_list.specs.declared.entry.StampedEntry.{StampedEntry}
+use Rattle.stamped_list.specs.Rows.{judging_under, own_under}
 
 -- the name under which entries are filed, and what the pass knows
 pub record Clerking (Entry : Type 0) : Type 0 where
@@ -32,3 +35,22 @@ PassAnswers judging own scheme = Answers scheme (AsksTurn judging own) clerk_fau
 -- the clerk came from one to the other by asks alone
 abbrev pub PassReaches : {Entry Ask Verdict : Type 0} → Judging Entry Ask Verdict → (Ask → Option Entry) → Scheme Ask (ListReply Verdict) → Clerking Entry → Clerking Entry → Type 0
 PassReaches judging own scheme = Reaches (IsAsked (AsksTurn judging own) clerk_faults scheme.status)
+
+-- a clerk who files all asks under one stamp
+pub record StampedClerk (Entry : Type 0) : Type 0 where
+  pub by : RowName
+  pub pass : Known (Filed (StampedEntry Entry))
+  pub stamp : Stamp
+
+-- the same clerk without the stamp
+abbrev pub clerking : {Entry : Type 0} → StampedClerk Entry → Clerking (StampedEntry Entry)
+clerking clerk = record { by = clerk.by; pass = clerk.pass }
+
+-- one ask: its turn is of asks under the clerk's stamp, and the clerk keeps the stamp
+pub record AsksUnder {Entry Ask Verdict : Type 0} (judging : Judging Entry Ask Verdict) (own : Ask → Option Entry) (before : StampedClerk Entry) (ask : Ask) (reply : ListReply Verdict) (after : StampedClerk Entry) : Type 0 where
+  pub turn : AsksTurn (judging_under before.stamp judging) (own_under before.stamp own) (clerking before) ask reply (clerking after)
+  pub stamp : after.stamp ≡ before.stamp
+
+-- the pass's own count of replies that told of a fault
+abbrev pub stamped_faults : {Entry : Type 0} → StampedClerk Entry → ℕ
+stamped_faults clerk = clerk_faults (clerking clerk)

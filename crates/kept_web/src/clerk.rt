@@ -3,6 +3,7 @@ ghost use Rattle.std.specs.Prelude.{◌≡◌, ◌≤◌};
 ghost use Rattle.aid_edges.specs.Faults.{Rose};
 ghost use Rattle.web_desk.specs.Exchange.{ServesNear};
 ghost use Rattle.web_edges.specs.LinkTelling.{IsHonest};
+ghost use Rattle.stamped_list.specs.Rows.{judging_under, own_under};
 ghost use Rattle.kept_web.specs.Clerks.{PassAnswers, PassReaches};
 
 use crate::{DocketForms, FormsOf};
@@ -10,69 +11,77 @@ use disk_model::Disk;
 use kept_desks::SharedList;
 use kept_list::{Docket, Filed, ListReply, OwnDocket, RowAsk, RowName};
 use office_lock::{Pass, Turned, Turns};
+use stamped_list::{Stampable, StampedAsk, StampedEntry, Stamping};
+use stamps::Stamp;
 use std::alloc::Global;
 use std::marker::Model;
 use std::sync::Wait;
 use web_desk::{Clerk, End, serve};
 use web_edges::Link;
 
-// The clerk of one connection. Each ask is a turn of the lock, under one name.
+// The clerk of one connection. Each ask is a turn of the lock, under one name and one stamp.
 #[derive(Drop)]
-struct PassClerk<'a, D: Disk, R: OwnDocket, H> {
+struct PassClerk<'a, D: Disk, R: Stampable + OwnDocket, H> {
     rt: &'a H,
-    turns: &'a Turns<SharedList<D, R>>,
-    pass: Pass<Filed<R::Entry>>,
+    turns: &'a Turns<SharedList<D, Stamping<R>>>,
+    pass: Pass<Filed<StampedEntry<R::Entry>>>,
     by: RowName,
+    stamp: Stamp,
 }
 
-impl<'a, D: Disk, R: OwnDocket, H> Model for PassClerk<'a, D, R, H> {
+impl<'a, D: Disk, R: Stampable + OwnDocket, H> Model for PassClerk<'a, D, R, H> {
     ghost use Rattle.std.specs.Prelude.{◌≡◌};
-    ghost use Rattle.kept_web.specs.Clerks.{Clerking};
+    ghost use Rattle.kept_web.specs.Clerks.{StampedClerk};
 
-    ghost Value = { Clerking R.Entry };
+    ghost Value = { StampedClerk R.Entry };
 
-    ghost view = { λ c. record { by = c.by; pass = c.pass } };
+    ghost view = { λ c. record { by = c.by; pass = c.pass; stamp = c.stamp } };
 
     ghost invariant = { λ c. c.pass.lock ≡ c.turns.now.id };
 }
 
-impl<'a, D: Disk, R: OwnDocket, H> PassClerk<'a, D, R, H> {
+impl<'a, D: Disk, R: Stampable + OwnDocket, H> PassClerk<'a, D, R, H> {
     // The pass.
-    fn into_pass(self) -> Pass<Filed<R::Entry>>
+    fn into_pass(self) -> Pass<Filed<StampedEntry<R::Entry>>>
         ensures { result ≡ self.entry.pass }
     {
         self.pass
     }
 }
 
-impl<'a, D: Disk, R: OwnDocket, T: DocketForms<R>, H: Wait> Clerk<FormsOf<R, T>>
+impl<'a, D: Disk, R: Stampable + OwnDocket, T: DocketForms<R>, H: Wait> Clerk<FormsOf<R, T>>
     for PassClerk<'a, D, R, H> {
-    ghost use Rattle.kept_web.specs.Clerks.{AsksTurn, clerk_faults};
+    ghost use Rattle.kept_web.specs.Clerks.{AsksUnder, stamped_faults};
 
-    ghost asked = { AsksTurn R.judging R.own };
+    ghost asked = { AsksUnder R.judging R.own };
 
-    ghost faults = { clerk_faults };
+    ghost faults = { stamped_faults };
 
     fn ask(&mut self, ask: R::Ask) -> ListReply<R::Verdict> {
+        let ask = StampedAsk {
+            ask,
+            stamp: self.stamp,
+        };
         let ask = RowAsk { ask, by: self.by };
         self.turns.turn(self.rt, &mut self.pass, ask)
     }
 }
 
-/// Serves a connection: each ask is a turn of the lock by this pass, under this name. It gives the pass back, and says how
-/// the session ended.
-pub fn serve_desk<D: Disk, R: OwnDocket, T: DocketForms<R>, L: Link, H: Wait>(
+/// Serves a connection: each ask is a turn of the lock by this pass, under this name and this stamp, and what joins has the
+/// stamp. It gives the pass back, and says how the session ended.
+pub fn serve_desk<D: Disk, R: Stampable + OwnDocket, T: DocketForms<R>, L: Link, H: Wait>(
     rt: &H,
     alloc: Global,
-    turns: &Turns<SharedList<D, R>>,
-    pass: Pass<Filed<R::Entry>>,
+    turns: &Turns<SharedList<D, Stamping<R>>>,
+    pass: Pass<Filed<StampedEntry<R::Entry>>>,
     by: RowName,
+    stamp: Stamp,
     link: &mut L,
-) -> (Pass<Filed<R::Entry>>, End)
+) -> (Pass<Filed<StampedEntry<R::Entry>>>, End)
     requires { pass.lock ≡ turns.now.id }
     ensures exchange { IsHonest (L.tells link.old)
-        → ServesNear (PassAnswers R.judging R.own T.scheme) 10000 (L.tells link.old).left (L.tells link.new).left (record { by = by; pass = pass }) (record { by = by; pass = result.0 }) (L.tells link.old).text (L.tells link.new).text result.1 }
-    ensures reached { PassReaches R.judging R.own T.scheme (record { by = by; pass = pass }) (record { by = by; pass = result.0 }) }
+        → ServesNear (PassAnswers (judging_under stamp R.judging) (own_under stamp R.own) T.scheme) 10000 (L.tells link.old).left (L.tells link.new).left (record { by = by; pass = pass }) (record { by = by; pass = result.0 }) (L.tells link.old).text (L.tells link.new).text result.1 }
+    ensures reached { PassReaches (judging_under stamp R.judging) (own_under stamp R.own) T.scheme (record { by = by; pass = pass }) (record { by = by; pass = result.0 }) }
     ensures later { L.faults link.old ≤ L.faults link.new }
     ensures cause { result.1 ≡ End.LinkFault → Rose (L.faults link.old) (L.faults link.new) }
     ensures lock { result.0.lock ≡ pass.lock }
@@ -84,6 +93,7 @@ pub fn serve_desk<D: Disk, R: OwnDocket, T: DocketForms<R>, L: Link, H: Wait>(
         turns,
         pass,
         by,
+        stamp,
     };
     let end = serve::<FormsOf<R, T>, PassClerk<D, R, H>, L>(alloc, &mut clerk, link);
     (clerk.into_pass(), end)

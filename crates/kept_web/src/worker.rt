@@ -1,5 +1,6 @@
 //! A worker behind a port: it serves the connections of the port one after the other.
 ghost use Rattle.std.specs.Prelude.{◌≡◌, ◌+◌, ◌≤◌, ◌<◌, ◌^◌, [], ℕ, None, Some, false};
+ghost use Rattle.stamped_list.specs.Rows.{judging_under, own_under};
 ghost use Rattle.kept_web.specs.Workers.{HoldsPass, Works, worker_of};
 
 use crate::serving::serve_all;
@@ -8,6 +9,8 @@ use disk_model::Disk;
 use kept_desks::SharedList;
 use kept_list::{Docket, Filed, OwnDocket};
 use office_lock::{Pass, Turned, Turns};
+use stamped_list::{Stampable, StampedEntry, Stamping};
+use stamps::Stamp;
 use std::alloc::Global;
 use std::marker::Model;
 use std::sync::Wait;
@@ -100,18 +103,21 @@ impl<R: OwnDocket, P: Port> Worker<R, P> {
     {
         self.starved
     }
+}
 
-    /// Serves so many connections of the port, one after the other, each by turns of the lock. It ends early only where
-    /// the port fails.
+impl<R: Stampable + OwnDocket, P: Port> Worker<Stamping<R>, P> {
+    /// Serves so many connections of the port, one after the other, each by turns of the lock, and files all their asks
+    /// under this stamp. It ends early only where the port fails.
     pub fn work<D: Disk, T: DocketForms<R>, H: Wait>(
         &mut self,
         rt: &H,
         alloc: Global,
-        turns: &Turns<SharedList<D, R>>,
+        turns: &Turns<SharedList<D, Stamping<R>>>,
         sessions: u32,
+        stamp: Stamp,
     )
         requires { HoldsPass turns.now.id self.old }
-        ensures { Works R.judging R.own T.scheme P.tells P.faults turns.now.id sessions self.old self.new }
+        ensures { Works (judging_under stamp R.judging) (own_under stamp R.own) T.scheme P.tells P.faults turns.now.id sessions self.old self.new }
     {
         let Some(pass) = self.pass.take() else {
             return;
@@ -122,6 +128,7 @@ impl<R: OwnDocket, P: Port> Worker<R, P> {
             turns,
             pass,
             self.number,
+            &stamp,
             &mut self.port,
             sessions,
         );

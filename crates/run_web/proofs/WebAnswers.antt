@@ -5,16 +5,20 @@ use Rattle.aid_filings.specs.declared.filing.Filing.{Filing}
 use Rattle.disk_model.specs.Telling.{IsHonest}
 use Rattle.disk_model.specs.declared.disk.Disk.{Ghosts}
 use Rattle.kept_desks.proofs.Going.{entries_filed, entry_filed}
-use Rattle.kept_list.specs.Names.{entries_of, entry_of, filed_list, filed_pending}
+use Rattle.kept_list.specs.Names.{entry_of, filed_pending}
 use Rattle.kept_desks.specs.Shares.{stand_of}
 use Rattle.kept_list.specs.declared.names.Filed.{Filed}
 use Rattle.kept_list.specs.declared.names.RowName.{RowName}
 use Rattle.kept_list.specs.Kept.{IsSound}
 use Rattle.kept_office.specs.OwnLaws.{own_added, adds_added}
 use Rattle.kept_office.specs.Scheme.{office_scheme}
-use Rattle.kept_office.specs.Turns.{asked as filing_asked, office_judging}
+use Rattle.kept_office.specs.Turns.{filing_asked, filing_judging}
+use Rattle.stamped_list.specs.Rows.{judging_under, own_under}
+use Rattle.stamps.specs.declared.stamp.Stamp.{Stamp}
+use Rattle.stamped_list.specs.declared.entry.StampedEntry.{StampedEntry}
 use Rattle.kept_web.proofs.AllTelling.{are_counted, each_told}
 use Rattle.kept_web.proofs.Creating.{created_stand}
+use Rattle.kept_web.proofs.Stamped.{own_added_under, adds_added_under}
 use Rattle.kept_web.specs.AllTold.{EachIsTold}
 use Rattle.web_edges.specs.Ports.{PortTelling}
 use Rattle.kept_web.specs.Workers.{HasServed, WorkerView, ports_of, worker_of}
@@ -25,19 +29,19 @@ use Rattle.run_web.specs.WebAnswers.{CountsFaults, HasAnswered, KeepsCreated}
 use Rattle.run_web.specs.WebLaws.{created as created_adds, unavailable}
 use Rattle.run_web.specs.OfficeForms.{office_web}
 
-module _ {D K P : Type 0} (disk : Ghosts D) (sink : SinkGhosts K) (tells : P → PortTelling) (faults : P → ℕ) (sessions : ℕ) (old new : D) (before after : List P) (out out' : K) (status : ℕ) where
-  module _ (past history : List Filing) (pending : Option Filing) (log : List RowName) (waiting : Option RowName) (at : D) (workers : List (WorkerView Filing P)) where
-    abbrev opening : Stand (Filed Filing)
+module _ {D K P : Type 0} (disk : Ghosts D) (sink : SinkGhosts K) (tells : P → PortTelling) (faults : P → ℕ) (sessions : ℕ) (stamp : Stamp) (old new : D) (before after : List P) (out out' : K) (status : ℕ) where
+  module _ (past history : List (StampedEntry Filing)) (pending : Option (StampedEntry Filing)) (log : List RowName) (waiting : Option RowName) (at : D) (workers : List (WorkerView (StampedEntry Filing) P)) where
+    abbrev opening : Stand (Filed (StampedEntry Filing))
     opening = stand_of past None [] None (disk.faults old) (disk.tells at).honest
 
-    abbrev closed : Stand (Filed Filing)
+    abbrev closed : Stand (Filed (StampedEntry Filing))
     closed = stand_of history pending log waiting (disk.faults new) (disk.tells new).honest
 
-    module _ (has : HasServed office_judging filing_asked office_web tells faults sessions opening closed (map worker_of before) workers) (ports : after ≡ ports_of workers) (sound : IsHonest (disk.tells new) → IsSound office_scheme (disk.tells new) history pending) where
-      abbrev told : EachIsTold office_judging filing_asked office_web tells faults sessions opening closed (map worker_of before) workers has
-      told = each_told office_judging filing_asked office_web own_added unavailable tells faults sessions opening closed (map worker_of before) workers has
+    module _ (has : HasServed (judging_under stamp filing_judging) (own_under stamp filing_asked) office_web tells faults sessions opening closed (map worker_of before) workers) (ports : after ≡ ports_of workers) (sound : IsHonest (disk.tells new) → IsSound office_scheme (disk.tells new) history pending) where
+      abbrev told : EachIsTold (judging_under stamp filing_judging) (own_under stamp filing_asked) office_web tells faults sessions opening closed (map worker_of before) workers has
+      told = each_told (judging_under stamp filing_judging) (own_under stamp filing_asked) office_web (own_added_under filing_judging filing_asked own_added stamp) unavailable tells faults sessions opening closed (map worker_of before) workers has
 
-      abbrev answered : HasAnswered disk tells faults sessions new before after
+      abbrev answered : HasAnswered disk tells faults sessions stamp new before after
       answered = record {
         workers = workers;
         ports = ports;
@@ -45,29 +49,29 @@ module _ {D K P : Type 0} (disk : Ghosts D) (sink : SinkGhosts K) (tells : P →
         closed = closed;
         served = has;
         told = told;
-        sound = λ honest. subst (λ (l : List Filing). IsSound office_scheme (disk.tells new) l (entry_of (filed_pending pending waiting))) (sym (entries_filed history log))
-            (subst (λ (o : Option Filing). IsSound office_scheme (disk.tells new) history o) (sym (entry_filed pending waiting)) (sound honest));
+        sound = λ honest. subst (λ (l : List (StampedEntry Filing)). IsSound office_scheme (disk.tells new) l (entry_of (filed_pending pending waiting))) (sym (entries_filed history log))
+            (subst (λ (o : Option (StampedEntry Filing)). IsSound office_scheme (disk.tells new) history o) (sym (entry_filed pending waiting)) (sound honest));
       }
 
-      counts_faults : CountsFaults disk tells faults sessions old new before after
+      counts_faults : CountsFaults disk tells faults sessions stamp old new before after
       counts_faults = record {
         answered = answered;
-        counted = are_counted office_judging filing_asked office_web own_added unavailable tells faults sessions opening closed (map worker_of before) workers has told;
+        counted = are_counted (judging_under stamp filing_judging) (own_under stamp filing_asked) office_web (own_added_under filing_judging filing_asked own_added stamp) unavailable tells faults sessions opening closed (map worker_of before) workers has told;
       }
 
-      keeps_created : KeepsCreated disk tells faults sessions new before after
+      keeps_created : KeepsCreated disk tells faults sessions stamp new before after
       keeps_created = record {
         answered = answered;
-        created = created_stand office_judging filing_asked office_web own_added is_admit adds_added created_adds tells faults sessions opening closed (map worker_of before) workers has told;
+        created = created_stand (judging_under stamp filing_judging) (own_under stamp filing_asked) office_web (own_added_under filing_judging filing_asked own_added stamp) is_admit (adds_added_under filing_judging filing_asked is_admit adds_added stamp) created_adds tells faults sessions opening closed (map worker_of before) workers has told;
       }
 
-  pub counted : RanWeb disk sink tells faults sessions old new before after out out' status → (after ≡ before) ⊎ CountsFaults disk tells faults sessions old new before after
+  pub counted : RanWeb disk sink tells faults sessions stamp old new before after out out' status → (after ≡ before) ⊎ CountsFaults disk tells faults sessions stamp old new before after
   counted (unasked _ cannot same same_ports ends) = inl same_ports
   counted (unopened error _ can opened cause same_ports ends) = inl same_ports
   counted (starved past _ can opened same_ports ends) = inl same_ports
   counted (served past history pending log waiting at workers _ can opened has ports sound ends) = inr (counts_faults past history pending log waiting at workers has ports sound)
 
-  pub created : RanWeb disk sink tells faults sessions old new before after out out' status → (after ≡ before) ⊎ KeepsCreated disk tells faults sessions new before after
+  pub created : RanWeb disk sink tells faults sessions stamp old new before after out out' status → (after ≡ before) ⊎ KeepsCreated disk tells faults sessions stamp new before after
   created (unasked _ cannot same same_ports ends) = inl same_ports
   created (unopened error _ can opened cause same_ports ends) = inl same_ports
   created (starved past _ can opened same_ports ends) = inl same_ports

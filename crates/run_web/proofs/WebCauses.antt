@@ -16,7 +16,10 @@ use Rattle.kept_list.specs.declared.names.RowName.{RowName}
 use Rattle.kept_list.specs.Kept.{IsSound}
 use Rattle.kept_list.specs.Recovers.{Recovers}
 use Rattle.kept_office.specs.Scheme.{office_scheme}
-use Rattle.kept_office.specs.Turns.{asked as filing_asked, office_judging}
+use Rattle.kept_office.specs.Turns.{filing_asked, filing_judging}
+use Rattle.stamped_list.specs.Rows.{judging_under, own_under}
+use Rattle.stamps.specs.declared.stamp.Stamp.{Stamp}
+use Rattle.stamped_list.specs.declared.entry.StampedEntry.{StampedEntry}
 use Rattle.kept_session.specs.Links.{IsOpened}
 use Rattle.kept_session.specs.declared.stop.FileStop.TheVariants as filing
 use Rattle.kept_session.specs.declared.stop.SessionStop.TheVariants as session
@@ -35,16 +38,16 @@ use Rattle.kept_runs.specs.declared.stop.RunStop.{RunStop}
 use Rattle.kept_runs.specs.declared.stop.RunStop.TheVariants.{Usage, File, Socket}
 
 -- the run over what the desks served
-module _ {D K P : Type 0} (disk : Ghosts D) (sink : SinkGhosts K) (tells : P → PortTelling) (faults : P → ℕ) (sessions : ℕ) where
-  pub web_served : (old at now new : D) (before after : List P) (workers : List (WorkerView Filing P)) (past history : List Filing) (pending : Option Filing) (log : List RowName) (waiting : Option RowName) (out out' : K) (status : ℕ) (how : Result Unit RunStop)
+module _ {D K P : Type 0} (disk : Ghosts D) (sink : SinkGhosts K) (tells : P → PortTelling) (faults : P → ℕ) (sessions : ℕ) (stamp : Stamp) where
+  pub web_served : (old at now new : D) (before after : List P) (workers : List (WorkerView (StampedEntry Filing) P)) (past history : List (StampedEntry Filing)) (pending : Option (StampedEntry Filing)) (log : List RowName) (waiting : Option RowName) (out out' : K) (status : ℕ) (how : Result Unit RunStop)
       → CanServe (length before) sessions → IsOpened disk office_scheme past old at → disk.faults at ≡ disk.faults old
-      → HasServed office_judging filing_asked office_web tells faults sessions (stand_of past None [] None (disk.faults at) (disk.tells at).honest) (stand_of history pending log waiting (disk.faults now) (disk.tells now).honest) (map worker_of before) workers
+      → HasServed (judging_under stamp filing_judging) (own_under stamp filing_asked) office_web tells faults sessions (stand_of past None [] None (disk.faults at) (disk.tells at).honest) (stand_of history pending log waiting (disk.faults now) (disk.tells now).honest) (map worker_of before) workers
       → after ≡ ports_of workers → new ≡ now → (IsHonest (disk.tells new) → IsSound office_scheme (disk.tells new) history pending) → how ≡ web_end workers → Ends sink out out' how status
-      → RanWeb disk sink tells faults sessions old new before after out out' status
+      → RanWeb disk sink tells faults sessions stamp old new before after out out' status
   web_served old at now new before after workers past history pending log waiting out out' status how can opened unmoved has ports same sound is ends =
       served past history pending log waiting at workers status can opened
-      (subst (λ (d : D). HasServed office_judging filing_asked office_web tells faults sessions (stand_of past None [] None (disk.faults old) (disk.tells at).honest) (stand_of history pending log waiting (disk.faults d) (disk.tells d).honest) (map worker_of before) workers) (sym same)
-      (subst (λ n. HasServed office_judging filing_asked office_web tells faults sessions (stand_of past None [] None n (disk.tells at).honest) (stand_of history pending log waiting (disk.faults now) (disk.tells now).honest) (map worker_of before) workers) unmoved has))
+      (subst (λ (d : D). HasServed (judging_under stamp filing_judging) (own_under stamp filing_asked) office_web tells faults sessions (stand_of past None [] None (disk.faults old) (disk.tells at).honest) (stand_of history pending log waiting (disk.faults d) (disk.tells d).honest) (map worker_of before) workers) (sym same)
+      (subst (λ n. HasServed (judging_under stamp filing_judging) (own_under stamp filing_asked) office_web tells faults sessions (stand_of past None [] None n (disk.tells at).honest) (stand_of history pending log waiting (disk.faults now) (disk.tells now).honest) (map worker_of before) workers) unmoved has))
       ports sound (subst (λ h. Ends sink out out' h status) is ends)
 
 -- ---- the workers
@@ -66,13 +69,13 @@ any_none {X} p (x ∷ xs) is k d lt = go (any_none p xs) (p x) refl k lt
     go more false here zero lt = here
     go more false here (suc k) lt = more (sym (ap (λ b. b || list_any p xs) here) ∙ is) k d (omega (arith, lt))
 
-shown_at : {P : Type 0} (xs ys : List (WorkerView Filing P)) → all_shown xs ≡ all_shown ys → (k : ℕ) (d : WorkerView Filing P) → k < length ys → shown_of (get_or xs k d) ≡ shown_of (get_or ys k d)
+shown_at : {P : Type 0} (xs ys : List (WorkerView (StampedEntry Filing) P)) → all_shown xs ≡ all_shown ys → (k : ℕ) (d : WorkerView (StampedEntry Filing) P) → k < length ys → shown_of (get_or xs k d) ≡ shown_of (get_or ys k d)
 shown_at xs [] same k d lt = absurd (omega (arith, lt))
 shown_at [] (y ∷ ys) same k d lt = absurd (let sizes : 0 ≡ suc (length (all_shown ys)) = ap length same in omega (arith, sizes))
 shown_at (x ∷ xs) (y ∷ ys) same zero d lt = ap (λ l. get_or l 0 (shown_of y)) same
 shown_at (x ∷ xs) (y ∷ ys) same (suc k) d lt = shown_at xs ys (ap (drop 1) same) k d (omega (arith, lt))
 
-shown_size : {P : Type 0} (xs ys : List (WorkerView Filing P)) → all_shown xs ≡ all_shown ys → length xs ≡ length ys
+shown_size : {P : Type 0} (xs ys : List (WorkerView (StampedEntry Filing) P)) → all_shown xs ≡ all_shown ys → length xs ≡ length ys
 shown_size [] [] same = refl
 shown_size [] (y ∷ ys) same = absurd (let sizes : 0 ≡ suc (length (all_shown ys)) = ap length same in omega (arith, sizes))
 shown_size (x ∷ xs) [] same = absurd (let sizes : suc (length (all_shown xs)) ≡ 0 = ap length same in omega (arith, sizes))
@@ -93,23 +96,23 @@ size_map f [] = refl
 size_map f (x ∷ xs) = ap (λ n. suc n) (size_map f xs)
 
 -- the ports of the workers that these ports become
-pub ports_back : {P : Type 0} (ports : List P) → ports_of {Entry = Filing} (map worker_of ports) ≡ ports
+pub ports_back : {P : Type 0} (ports : List P) → ports_of {Entry = StampedEntry Filing} (map worker_of ports) ≡ ports
 ports_back [] = refl
 ports_back (p ∷ ports) = ap (λ l. p ∷ l) (ports_back ports)
 
-module _ {P : Type 0} (tells : P → PortTelling) (faults : P → ℕ) (sessions : ℕ) (opening closed : Stand (Filed Filing)) (before after : List P) (workers : List (WorkerView Filing P)) (has : HasServed office_judging filing_asked office_web tells faults sessions opening closed (map worker_of before) workers) (ports : after ≡ ports_of workers) where
-  abbrev were : List (WorkerView Filing P)
+module _ {P : Type 0} (tells : P → PortTelling) (faults : P → ℕ) (sessions : ℕ) (stamp : Stamp) (opening closed : Stand (Filed (StampedEntry Filing))) (before after : List P) (workers : List (WorkerView (StampedEntry Filing) P)) (has : HasServed (judging_under stamp filing_judging) (own_under stamp filing_asked) office_web tells faults sessions opening closed (map worker_of before) workers) (ports : after ≡ ports_of workers) where
+  abbrev were : List (WorkerView (StampedEntry Filing) P)
   were = map worker_of before
 
-  before_at : (k : ℕ) (d : WorkerView Filing P) → (get_or were k d).port ≡ get_or before k d.port
-  before_at k d = sym (get_or-map (λ (d : WorkerView Filing P). d.port) were k d) ∙ ap (λ l. get_or l k d.port) (ports_back before)
+  before_at : (k : ℕ) (d : WorkerView (StampedEntry Filing) P) → (get_or were k d).port ≡ get_or before k d.port
+  before_at k d = sym (get_or-map (λ (d : WorkerView (StampedEntry Filing) P). d.port) were k d) ∙ ap (λ l. get_or l k d.port) (ports_back before)
 
-  after_at : (k : ℕ) (d : WorkerView Filing P) → (get_or workers k d).port ≡ get_or after k d.port
-  after_at k d = sym (get_or-map (λ (d : WorkerView Filing P). d.port) workers k d) ∙ ap (λ l. get_or l k d.port) (sym ports)
+  after_at : (k : ℕ) (d : WorkerView (StampedEntry Filing) P) → (get_or workers k d).port ≡ get_or after k d.port
+  after_at k d = sym (get_or-map (λ (d : WorkerView (StampedEntry Filing) P). d.port) workers k d) ∙ ap (λ l. get_or l k d.port) (sym ports)
 
-  port_fault : list_any (λ (d : WorkerView Filing P). has_failed d.ended) workers ≡ true → HasPortFault faults before after
+  port_fault : list_any (λ (d : WorkerView (StampedEntry Filing) P). has_failed d.ended) workers ≡ true → HasPortFault faults before after
   port_fault is =
-      let (k, d, lt, failed) = any_at (λ (d : WorkerView Filing P). has_failed d.ended) workers is in
+      let (k, d, lt, failed) = any_at (λ (d : WorkerView (StampedEntry Filing) P). has_failed d.ended) workers is in
       let size = shown_size workers has.workers has.shown in
       let inside : k < length were = omega (arith, lt, size, has.count) in
       let shown = shown_at workers has.workers has.shown k d (omega (arith, lt, size)) in
@@ -123,9 +126,9 @@ module _ {P : Type 0} (tells : P → PortTelling) (faults : P → ℕ) (sessions
         subst (λ p. Rose (faults p) (faults (get_or after k d.port))) (before_at k d) (subst (λ p. Rose (faults (get_or were k d).port) (faults p)) (sym port_is ∙ after_at k d) rose),
       )
 
-  all_back : list_any (λ (d : WorkerView Filing P). has_failed d.ended) workers ≡ false → (k : ℕ) (p : P) → k < length before → HasServedAll tells sessions (get_or before k p) (get_or after k p)
+  all_back : list_any (λ (d : WorkerView (StampedEntry Filing) P). has_failed d.ended) workers ≡ false → (k : ℕ) (p : P) → k < length before → HasServedAll tells sessions (get_or before k p) (get_or after k p)
   all_back none k p below =
-      let d : WorkerView Filing P = worker_of p in
+      let d : WorkerView (StampedEntry Filing) P = worker_of p in
       let inside : k < length were = subst (λ n. k < n) (sym (size_map worker_of before)) below in
       let size = shown_size workers has.workers has.shown in
       let lt : k < length has.workers = omega (arith, inside, has.count) in
@@ -133,7 +136,7 @@ module _ {P : Type 0} (tells : P → PortTelling) (faults : P → ℕ) (sessions
       let one = has.each k d inside in
       let ended_is : (get_or workers k d).ended ≡ (get_or has.workers k d).ended = ap (λ s. s.4) shown in
       let port_is : (get_or workers k d).port ≡ (get_or has.workers k d).port = ap (λ s. s.1) shown in
-      let all : (get_or has.workers k d).served ≡ sessions = done_served (get_or has.workers k d).ended _ _ _ _ (ap has_failed (sym ended_is) ∙ any_none (λ (d : WorkerView Filing P). has_failed d.ended) workers none k d (omega (arith, lt, size))) one.stopped in
+      let all : (get_or has.workers k d).served ≡ sessions = done_served (get_or has.workers k d).ended _ _ _ _ (ap has_failed (sym ended_is) ∙ any_none (λ (d : WorkerView (StampedEntry Filing) P). has_failed d.ended) workers none k d (omega (arith, lt, size))) one.stopped in
       record {
         back = map closed_as one.served.sessions;
         count = size_map closed_as one.served.sessions ∙ (sym one.served.count ∙ all);
@@ -170,6 +173,7 @@ not_by a n m is (inr four) ne ne4 = ne4 (sym is ∙ four)
 open_status_is : (error : OpenError) → (open_status error ≢ 2) × ((open_status error ≢ 10) × (open_status error ≢ 0))
 open_status_is opening.NoOffice = (λ e. omega (arith, e), (λ e. omega (arith, e), λ e. omega (arith, e)))
 open_status_is opening.NotJournal = (λ e. omega (arith, e), (λ e. omega (arith, e), λ e. omega (arith, e)))
+open_status_is opening.OldVersion = (λ e. omega (arith, e), (λ e. omega (arith, e), λ e. omega (arith, e)))
 open_status_is (opening.Damaged place) = (λ e. omega (arith, e), (λ e. omega (arith, e), λ e. omega (arith, e)))
 open_status_is opening.DiskFault = (λ e. omega (arith, e), (λ e. omega (arith, e), λ e. omega (arith, e)))
 open_status_is opening.NoMemory = (λ e. omega (arith, e), (λ e. omega (arith, e), λ e. omega (arith, e)))
@@ -203,32 +207,32 @@ module _ {K : Type 0} (sink : SinkGhosts K) (out out' : K) (status : ℕ) where
   complete_by false false e unrisen none = inl (done_status sink out out' status e)
 
 -- ---- causes
-module _ {D K P : Type 0} (disk : Ghosts D) (sink : SinkGhosts K) (tells : P → PortTelling) (faults : P → ℕ) (sessions : ℕ) (old new : D) (before after : List P) (out out' : K) (status : ℕ) where
-  abbrev any_starved : List (WorkerView Filing P) → Bool
-  any_starved workers = list_any (λ (d : WorkerView Filing P). d.starved) workers
+module _ {D K P : Type 0} (disk : Ghosts D) (sink : SinkGhosts K) (tells : P → PortTelling) (faults : P → ℕ) (sessions : ℕ) (stamp : Stamp) (old new : D) (before after : List P) (out out' : K) (status : ℕ) where
+  abbrev any_starved : List (WorkerView (StampedEntry Filing) P) → Bool
+  any_starved workers = list_any (λ (d : WorkerView (StampedEntry Filing) P). d.starved) workers
 
-  abbrev any_failed : List (WorkerView Filing P) → Bool
-  any_failed workers = list_any (λ (d : WorkerView Filing P). has_failed d.ended) workers
+  abbrev any_failed : List (WorkerView (StampedEntry Filing) P) → Bool
+  any_failed workers = list_any (λ (d : WorkerView (StampedEntry Filing) P). has_failed d.ended) workers
 
-  pub usage : RanWeb disk sink tells faults sessions old new before after out out' status → status ≡ 2 → CanServe (length before) sessions → ⊥
+  pub usage : RanWeb disk sink tells faults sessions stamp old new before after out out' status → status ≡ 2 → CanServe (length before) sessions → ⊥
   usage (unasked _ cannot same still_ports e) is can = cannot can
   usage (unopened error _ could u cause same_ports e) is can = not_by status 2 (open_status error) is (early sink (File (session.Opening error)) out out' status e) (λ n. (open_status_is error).0 (sym n)) (λ n. omega (arith, n))
   usage (starved past _ could opened same_ports e) is can = not_by status 2 9 is (early sink (File (session.Filing filing.NoMemory)) out out' status e) (λ n. omega (arith, n)) (λ n. omega (arith, n))
   usage (served past history pending log waiting at workers _ could opened has ports sound e) is can = usage_by sink out out' status (any_starved workers) (any_failed workers) e is
 
-  pub socket : RanWeb disk sink tells faults sessions old new before after out out' status → status ≡ 10 → HasPortFault faults before after
+  pub socket : RanWeb disk sink tells faults sessions stamp old new before after out out' status → status ≡ 10 → HasPortFault faults before after
   socket (unasked _ cannot same still_ports e) is = absurd (not_by status 10 2 is (early sink Usage out out' status e) (λ n. omega (arith, n)) (λ n. omega (arith, n)))
   socket (unopened error _ could u cause same_ports e) is = absurd (not_by status 10 (open_status error) is (early sink (File (session.Opening error)) out out' status e) (λ n. (open_status_is error).1.0 (sym n)) (λ n. omega (arith, n)))
   socket (starved past _ could opened same_ports e) is = absurd (not_by status 10 9 is (early sink (File (session.Filing filing.NoMemory)) out out' status e) (λ n. omega (arith, n)) (λ n. omega (arith, n)))
-  socket (served past history pending log waiting at workers _ could opened has ports sound e) is = port_fault tells faults sessions _ _ before after workers has ports (socket_by sink out out' status (any_starved workers) (any_failed workers) e is)
+  socket (served past history pending log waiting at workers _ could opened has ports sound e) is = port_fault tells faults sessions stamp _ _ before after workers has ports (socket_by sink out out' status (any_starved workers) (any_failed workers) e is)
 
-  pub all : RanWeb disk sink tells faults sessions old new before after out out' status → status ≡ 0 → (k : ℕ) (p : P) → k < length before → HasServedAll tells sessions (get_or before k p) (get_or after k p)
+  pub all : RanWeb disk sink tells faults sessions stamp old new before after out out' status → status ≡ 0 → (k : ℕ) (p : P) → k < length before → HasServedAll tells sessions (get_or before k p) (get_or after k p)
   all (unasked _ cannot same still_ports e) is = absurd (not_by status 0 2 is (early sink Usage out out' status e) (λ n. omega (arith, n)) (λ n. omega (arith, n)))
   all (unopened error _ could u cause same_ports e) is = absurd (not_by status 0 (open_status error) is (early sink (File (session.Opening error)) out out' status e) (λ n. (open_status_is error).1.1 (sym n)) (λ n. omega (arith, n)))
   all (starved past _ could opened same_ports e) is = absurd (not_by status 0 9 is (early sink (File (session.Filing filing.NoMemory)) out out' status e) (λ n. omega (arith, n)) (λ n. omega (arith, n)))
-  all (served past history pending log waiting at workers _ could opened has ports sound e) is = all_back tells faults sessions _ _ before after workers has ports (zero_by sink out out' status (any_starved workers) (any_failed workers) e is)
+  all (served past history pending log waiting at workers _ could opened has ports sound e) is = all_back tells faults sessions stamp _ _ before after workers has ports (zero_by sink out out' status (any_starved workers) (any_failed workers) e is)
 
-  pub complete : RanWeb disk sink tells faults sessions old new before after out out' status → CanServe (length before) sessions → IsHonest (disk.tells old) → (past : List Filing) → Recovers office_scheme (disk.tells old).reads past
+  pub complete : RanWeb disk sink tells faults sessions stamp old new before after out out' status → CanServe (length before) sessions → IsHonest (disk.tells old) → (past : List (StampedEntry Filing)) → Recovers office_scheme (disk.tells old).reads past
       → IsUnrisen (disk.faults old) (disk.faults new) → IsUnrisen (sink.faults out) (sink.faults out') → (HasPortFault faults before after → ⊥) → (status ≡ 0) ⊎ (status ≡ 9)
   complete (unasked _ cannot same still_ports e) can honest past recovers still quiet ports = absurd (cannot can)
   complete (unopened error _ could u cause same_ports e) can honest past recovers still quiet ports = inr (go (u.complete honest past recovers))
@@ -238,4 +242,4 @@ module _ {D K P : Type 0} (disk : Ghosts D) (sink : SinkGhosts K) (tells : P →
       go (inr is) = absurd (still (cause is))
   complete (starved past' _ could opened same_ports e) can honest past recovers still quiet ports = inr (early_still sink (File (session.Filing filing.NoMemory)) out out' status e quiet)
   complete (served past' history pending log waiting at workers _ could opened has given sound e) can honest past recovers still quiet none =
-      complete_by sink out out' status (any_starved workers) (any_failed workers) e quiet (λ failed. none (port_fault tells faults sessions _ _ before after workers has given failed))
+      complete_by sink out out' status (any_starved workers) (any_failed workers) e quiet (λ failed. none (port_fault tells faults sessions stamp _ _ before after workers has given failed))

@@ -13,7 +13,10 @@ use Rattle.kept_desks.specs.Shares.{stand_of}
 use Rattle.kept_list.specs.declared.names.RowName.{RowName}
 use Rattle.kept_list.specs.Kept.{IsSound}
 use Rattle.kept_office.specs.Scheme.{office_scheme}
-use Rattle.kept_office.specs.Turns.{asked as filing_asked, office_judging}
+use Rattle.kept_office.specs.Turns.{filing_asked, filing_judging}
+use Rattle.stamped_list.specs.Rows.{judging_under, own_under}
+use Rattle.stamps.specs.declared.stamp.Stamp.{Stamp}
+use Rattle.stamped_list.specs.declared.entry.StampedEntry.{StampedEntry}
 use Rattle.kept_session.specs.Links.{IsOpened}
 use Rattle.kept_session.specs.Sessions.{IsUnopened}
 use Rattle.kept_session.specs.declared.stop.FileStop.TheVariants as filing
@@ -34,10 +37,10 @@ has_failed ended.Done = false
 has_failed ended.PortFault = true
 
 -- how the run ends once the workers have served: for want of memory where a session ended so, else by a port that failed, where one did
-abbrev pub web_end : {P : Type 0} → List (WorkerView Filing P) → Result Unit RunStop
+abbrev pub web_end : {P : Type 0} → List (WorkerView (StampedEntry Filing) P) → Result Unit RunStop
 web_end {P} workers =
-    if list_any (λ (d : WorkerView Filing P). d.starved) workers then Err (File (session.Filing filing.NoMemory))
-    else if list_any (λ (d : WorkerView Filing P). has_failed d.ended) workers then Err Socket
+    if list_any (λ (d : WorkerView (StampedEntry Filing) P). d.starved) workers then Err (File (session.Filing filing.NoMemory))
+    else if list_any (λ (d : WorkerView (StampedEntry Filing) P). has_failed d.ended) workers then Err Socket
     else Ok tt
 
 -- so many ports can be served, so many connections each
@@ -47,26 +50,26 @@ pub record CanServe (ports sessions : ℕ) : Type 0 where
   pub one : 0 < sessions
   pub most : sessions ≤ 1000000
 
--- A run of the web desk over these ports, by how it ended.
-pub data RanWeb {D K P : Type 0} (disk : Ghosts D) (sink : SinkGhosts K) (tells : P → PortTelling) (faults : P → ℕ) (sessions : ℕ) (old new : D) (before after : List P) (out out' : K) : ℕ → Type 0 where
+-- A run of the web desk over these ports, which files under one stamp, by how it ended.
+pub data RanWeb {D K P : Type 0} (disk : Ghosts D) (sink : SinkGhosts K) (tells : P → PortTelling) (faults : P → ℕ) (sessions : ℕ) (stamp : Stamp) (old new : D) (before after : List P) (out out' : K) : ℕ → Type 0 where
   -- there is no port, or more than 16, or the number of sessions is out of range: nothing is done
   unasked : (status : ℕ) → (CanServe (length before) sessions → ⊥) → new ≡ old → after ≡ before → Ends sink out out' (Err Usage) status
-      → RanWeb disk sink tells faults sessions old new before after out out' status
+      → RanWeb disk sink tells faults sessions stamp old new before after out out' status
   -- no office was opened: no call was made on a port
   unopened : (error : OpenError) (status : ℕ) → CanServe (length before) sessions → IsUnopened disk office_scheme error old new → (error ≡ opening.DiskFault → Rose (disk.faults old) (disk.faults new)) → after ≡ before → Ends sink out out' (Err (File (session.Opening error))) status
-      → RanWeb disk sink tells faults sessions old new before after out out' status
+      → RanWeb disk sink tells faults sessions stamp old new before after out out' status
   -- there was no memory for the workers or their lock: no call was made on a port
-  starved : (past : List Filing) (status : ℕ) → CanServe (length before) sessions → IsOpened disk office_scheme past old new → after ≡ before → Ends sink out out' (Err (File (session.Filing filing.NoMemory))) status
-      → RanWeb disk sink tells faults sessions old new before after out out' status
+  starved : (past : List (StampedEntry Filing)) (status : ℕ) → CanServe (length before) sessions → IsOpened disk office_scheme past old new → after ≡ before → Ends sink out out' (Err (File (session.Filing filing.NoMemory))) status
+      → RanWeb disk sink tells faults sessions stamp old new before after out out' status
   -- The workers of these ports served, and gave them back. Each image of the disk then recovers the list at the end, with or without one undecided filing.
-  served : (past history : List Filing) (pending : Option Filing) (log : List RowName) (waiting : Option RowName) (at : D) (workers : List (WorkerView Filing P)) (status : ℕ)
+  served : (past history : List (StampedEntry Filing)) (pending : Option (StampedEntry Filing)) (log : List RowName) (waiting : Option RowName) (at : D) (workers : List (WorkerView (StampedEntry Filing) P)) (status : ℕ)
       → CanServe (length before) sessions
       → IsOpened disk office_scheme past old at
-      → HasServed office_judging filing_asked office_web tells faults sessions (stand_of past None [] None (disk.faults old) (disk.tells at).honest) (stand_of history pending log waiting (disk.faults new) (disk.tells new).honest) (map worker_of before) workers
+      → HasServed (judging_under stamp filing_judging) (own_under stamp filing_asked) office_web tells faults sessions (stand_of past None [] None (disk.faults old) (disk.tells at).honest) (stand_of history pending log waiting (disk.faults new) (disk.tells new).honest) (map worker_of before) workers
       → after ≡ ports_of workers
       → (IsHonest (disk.tells new) → IsSound office_scheme (disk.tells new) history pending)
       → Ends sink out out' (web_end workers) status
-      → RanWeb disk sink tells faults sessions old new before after out out' status
+      → RanWeb disk sink tells faults sessions stamp old new before after out out' status
 
 -- ---- what a run shows of its causes
 -- what a count did that didn't rise

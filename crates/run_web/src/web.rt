@@ -12,10 +12,11 @@ use aid_filings::{Ask, Verdict};
 use disk_model::Disk;
 use kept_desks::SharedList;
 use kept_list::ListReply;
-use kept_office::FiledOffice;
+use kept_office::{FiledOffice, StampedOffice};
 use kept_runs::{RunStop, end};
 use kept_session::{FileStop, open};
 use kept_web::{DocketForms, serve_ports};
+use stamps::Stamp;
 use std::alloc::{AllocError, Global};
 use std::sync::Wait;
 use std::thread::Threads;
@@ -64,7 +65,7 @@ fn can_serve(ports: usize, sessions: u32) -> bool
 }
 
 // The disk under a list that was shared.
-fn into_disk<D: Disk>(closed: SharedList<D, FiledOffice>) -> D
+fn into_disk<D: Disk>(closed: SharedList<D, StampedOffice>) -> D
     ensures disk { result ≡ closed.disk }
     ensures sound { IsHonest (D.tells result) → IsSound office_scheme (D.tells result) closed.history closed.pending }
 {
@@ -73,7 +74,8 @@ fn into_disk<D: Disk>(closed: SharedList<D, FiledOffice>) -> D
 
 /// Serves the office of the disk's file over these ports, and answers the status and the disk as it is then. So many
 /// connections of each port are served, one after the other, while the others' are; it ends early only where the port fails.
-/// A port's number is its place, counted from 1. Afterwards the ports stand in the vector as before.
+/// A port's number is its place, counted from 1. One stamp is that of all filings that join by any of the connections.
+/// Afterwards the ports stand in the vector as before.
 ///
 /// The status is 2 where there is no port or more than 16, or where `sessions` is 0 or above 1,000,000, and 4, 5, 6, 7 and 9
 /// as that of `run`, up to the opened journal. It is 9 with no call made on a port where there is no memory to begin, and once
@@ -84,17 +86,18 @@ pub fn run_web<D: Disk + Send, P: Port + Send, K: Sink, H: Threads + Wait + Sync
     alloc: Global,
     ports: &mut Vec<P>,
     sessions: u32,
+    stamp: Stamp,
     disk: D,
     out: &mut K,
 ) -> (u8, D)
 where
     P::Link: Send,
-    ensures { RanWeb D.Disk K.Sink P.tells P.faults sessions disk result.1 ports.old.items ports.new.items out.old out.new result.0 }
+    ensures { RanWeb D.Disk K.Sink P.tells P.faults sessions stamp disk result.1 ports.old.items ports.new.items out.old out.new result.0 }
 {
     if !can_serve(ports.len(), sessions) {
         return (end(Err(RunStop::Usage), out), disk);
     }
-    let kept = match open::<D, FiledOffice>(alloc, disk) {
+    let kept = match open::<D, StampedOffice>(alloc, disk) {
         Ok(kept) => kept,
         Err((error, disk)) => return (end(Err(RunStop::File(error.into())), out), disk),
     };
@@ -107,6 +110,7 @@ where
         alloc,
         kept,
         sessions,
+        stamp,
         &mut workers,
     ) {
         Ok(closed) => {

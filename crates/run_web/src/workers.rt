@@ -4,7 +4,7 @@ ghost use Rattle.std.specs.List.{list_any};
 ghost use Rattle.kept_web.specs.Workers.{ports_of, worker_of};
 ghost use Rattle.run_web.specs.RanWeb.{has_failed, web_end as web_end_of};
 
-use kept_office::FiledOffice;
+use kept_office::StampedOffice;
 use kept_runs::RunStop;
 use kept_session::{FileStop, SessionStop};
 use kept_web::{WebEnd, Worker};
@@ -12,7 +12,7 @@ use std::alloc::{AllocError, Global};
 use web_edges::Port;
 
 /// A worker of the office.
-type OfficeWorker<P> = Worker<FiledOffice, P>;
+type OfficeWorker<P> = Worker<StampedOffice, P>;
 
 /// Takes the ports out of the vector, and makes a worker of each. Where there is no memory they stay there.
 pub fn into_workers<P: Port>(

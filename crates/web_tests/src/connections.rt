@@ -8,11 +8,12 @@ use aid_edges::Failed;
 use disk_model::MemoryDisk;
 use kept_desks::SharedList;
 use kept_list::{KeptList, RowName};
-use kept_office::FiledOffice;
+use kept_office::{FiledOffice, StampedOffice};
 use kept_web::serve_desk;
 use office_lock::Turns;
 use run_web::OfficeForms;
 use specimen::{NINE_LINES, NINE_ROWS, YEAR_LINES, YEAR_ROWS};
+use stamps::Stamp;
 use std::alloc::{AllocError, Global};
 use std::io;
 use std::io::{Read, Write};
@@ -48,10 +49,10 @@ Content-Type: application/json\r\n\
 {\"answer\":\"again\",\"front\":2,\"outcome\":\"noted\",\"position\":2}";
 
 // The list of the office in a file.
-fn opened(alloc: Global, disk: MemoryDisk) -> Option<KeptList<MemoryDisk, FiledOffice>>
+fn opened(alloc: Global, disk: MemoryDisk) -> Option<KeptList<MemoryDisk, StampedOffice>>
     ensures { IfSome result (λ kept. kept.pending ≡ None) }
 {
-    match KeptList::<MemoryDisk, FiledOffice>::recover(alloc, disk) {
+    match KeptList::<MemoryDisk, StampedOffice>::recover(alloc, disk) {
         Ok(kept) => Some(kept),
         Err(_) => None,
     }
@@ -65,7 +66,13 @@ fn serve<L: Link, H: Wait>(rt: &H, alloc: Global, disk: MemoryDisk, link: &mut L
     };
     let by = RowName { desk: 1, row: 1 };
     let (pass, end) = serve_desk::<MemoryDisk, FiledOffice, OfficeForms, L, H>(
-        rt, alloc, &turns, pass, by, link,
+        rt,
+        alloc,
+        &turns,
+        pass,
+        by,
+        Stamp::plain(),
+        link,
     );
     turns.close(pass);
     Some(end)

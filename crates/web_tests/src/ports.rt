@@ -1,12 +1,15 @@
-// What the web desk writes on connections in memory: a worked row, a port that fails, and two ports in either order.
+// What the web desk writes on connections in memory: a worked row, a port that fails, and two ports in either order; and the
+// stamps in the file.
 ghost use Rattle.std.specs.Prelude.{◌≡◌, ◌<◌, IfOk};
 ghost use Rattle.web_edges.specs.Ports.{IsUnused};
 
 use crate::connections::{AGAIN, CREATED, FILING};
 use crate::runs::with_school;
 use aid_edges::{HoldGate, MemorySink};
+use aid_types::Day;
 use disk_model::MemoryDisk;
 use run_web::run_web;
+use stamps::{ClerkName, Stamp};
 use std::alloc::{AllocError, Global};
 use std::process::Abort;
 use std::sync::Wait;
@@ -81,7 +84,7 @@ where
     P::Link: Send,
 {
     let mut sink = MemorySink::new(alloc, Vec::new(alloc));
-    let (status, _) = run_web(rt, alloc, ports, sessions, disk, &mut sink);
+    let (status, _) = run_web(rt, alloc, ports, sessions, Stamp::plain(), disk, &mut sink);
     assert!(rt; status == ends.0);
     assert!(rt; sink.text() == ends.1.as_bytes());
 }
@@ -181,4 +184,72 @@ fn port_2_files_first(rt: HostRuntime) -> Result<(), Fail> {
 fn port_1_files_first(rt: HostRuntime) -> Result<(), Fail> {
     let gate = HoldGate::new(2, 1, 1000000);
     serve_gated(&rt, rt.alloc(), &gate, (FIRST, SECOND))
+}
+
+// The answer to a filing that stands as the first.
+const FIRST_AGAIN: &[u8] =
+    b"HTTP/1.1 200 OK\r\nContent-Length: 59\r\nContent-Type: application/json\r\n\r\n{\"answer\":\"again\",\"front\":1,\"outcome\":\"noted\",\"position\":1}";
+
+// The filing of another student's earlier use.
+const LATER: &[u8] =
+    b"POST /desks/0/filings HTTP/1.1\r\nHost: localhost\r\nContent-Length: 57\r\n\r\n{\"kind\":\"prior\",\"number\":3,\"student\":5002,\"units\":550000}";
+
+// The answer to a filing that is added as the second.
+const SECOND_CREATED: &[u8] =
+    b"HTTP/1.1 201 Created\r\nContent-Length: 62\r\nContent-Type: application/json\r\n\r\n{\"answer\":\"accepted\",\"front\":1,\"outcome\":\"noted\",\"position\":2}";
+
+// The file with the filing of the clerk ruth on 2025-09-01.
+const STAMPED: &[u8] =
+    b"\x01AIDPELL1\x02\0\0\0\0\0\0\x01\x22\0\0\0\x6c\x4f\0\0\x04ruth\x04\0\0\0\0\x02\0\0\0\0\0\0\0\x89\x13\0\0\0\0\0\0\x70\x64\x08\0\0";
+
+// And with another filing of no clerk on 1970-01-01 behind it.
+const STAMPED_BOTH: &[u8] =
+    b"\x01AIDPELL1\x02\0\0\0\0\0\0\x01\x22\0\0\0\x6c\x4f\0\0\x04ruth\x04\0\0\0\0\x02\0\0\0\0\0\0\0\x89\x13\0\0\0\0\0\0\x70\x64\x08\0\x01\x1e\0\0\0\0\0\0\0\0\x04\0\0\0\0\x03\0\0\0\0\0\0\0\x8a\x13\0\0\0\0\0\0\x70\x64\x08\0\0";
+
+// A connection that brings these bytes is served under the stamp, and writes this text. The disk then has this file.
+fn serve_under<H: Threads + Wait + Abort + Sync>(
+    rt: &H,
+    alloc: Global,
+    stamp: Stamp,
+    disk: MemoryDisk,
+    bytes: &[u8],
+    text: &[u8],
+    image: &[u8],
+) -> Result<MemoryDisk, Fail> {
+    let mut ports = Vec::new(alloc);
+    ports.push(port_of_one(alloc, bytes)?)?;
+    let mut sink = MemorySink::new(alloc, Vec::new(alloc));
+    let (status, disk) = run_web(rt, alloc, &mut ports, 1, stamp, disk, &mut sink);
+    assert!(rt; status == 0);
+    let [port] = ports.as_slice() else {
+        return Err(Fail::new("not one port"));
+    };
+    is_back(rt, port, text);
+    assert!(rt; disk.image() == image);
+    Ok(disk)
+}
+
+// The stamp of this clerk on this day.
+fn stamp_of(day: i32, name: &[u8]) -> Result<Stamp, Fail> {
+    let Some(clerk) = ClerkName::new(name) else {
+        return Err(Fail::new("no clerk"));
+    };
+    Ok(Stamp {
+        day: Day(day),
+        clerk,
+    })
+}
+
+#[test]
+fn a_filing_keeps_its_first_stamp(rt: HostRuntime) -> Result<(), Fail> {
+    let alloc = rt.alloc();
+    let ruth = stamp_of(20332, b"ruth")?;
+    let omar = stamp_of(20333, b"omar")?;
+    let filing = FILING.as_bytes();
+    let disk = founded(alloc)?;
+    let disk = serve_under(&rt, alloc, ruth, disk, filing, FIRST, STAMPED)?;
+    let disk = serve_under(&rt, alloc, omar, disk, filing, FIRST_AGAIN, STAMPED)?;
+    let plain = Stamp::plain();
+    serve_under(&rt, alloc, plain, disk, LATER, SECOND_CREATED, STAMPED_BOTH)?;
+    Ok(())
 }

@@ -1,3 +1,4 @@
+use Rattle.stamped_list.specs.Rows.{judging_under, own_under}
 use Rattle.kept_web.proofs.AllPorts.{all_ended, all_hold, has_served}
 use Rattle.kept_web.proofs.all.serve_ports.Goals as goal
 
@@ -8,11 +9,11 @@ work_all-requires-after_bounds g c = λ κs bounds.
 pub close_workers-requires-clause-ended : goal.close_workers-requires-clause-ended
 close_workers-requires-clause-ended g c =
     let e = c.in-Ok.ensures in
-    all_ended g.R.Docket.judging g.R.OwnDocket.own g.T.DocketForms.scheme g.P.Port.tells g.P.Port.faults c.in-Ok.turns.id c.in-Ok.rest.opening c.args.sessions c.args.workers.now c.open_workers.new.workers c.work_all.new.workers
+    all_ended (judging_under c.args.stamp g.R.Docket.judging) (own_under c.args.stamp g.R.OwnDocket.own) g.T.DocketForms.scheme g.P.Port.tells g.P.Port.faults c.in-Ok.turns.id c.in-Ok.rest.opening c.args.sessions c.args.workers.now c.open_workers.new.workers c.work_all.new.workers
     c.open_workers.ensures.workers c.work_all.ensures.workers e.ready c.work_all.ensures.works
 
 pub returns-in-Ok-clause-served : goal.returns-in-Ok-clause-served
 returns-in-Ok-clause-served g c =
     let e = c.in-Ok.ensures in
-    has_served g.R.Docket.judging g.R.OwnDocket.own g.T.DocketForms.scheme g.P.Port.tells g.P.Port.faults c.in-Ok.turns.id c.in-Ok.rest.opening c.args.sessions c.args.workers.now c.open_workers.new.workers c.work_all.new.workers
+    has_served (judging_under c.args.stamp g.R.Docket.judging) (own_under c.args.stamp g.R.OwnDocket.own) g.T.DocketForms.scheme g.P.Port.tells g.P.Port.faults c.in-Ok.turns.id c.in-Ok.rest.opening c.args.sessions c.args.workers.now c.open_workers.new.workers c.work_all.new.workers
     c.open_workers.ensures.workers c.work_all.ensures.workers e.ready c.work_all.ensures.works _ _ c.close_workers.new.workers e.opening c.close_workers.ensures.ran c.close_workers.ensures.same

@@ -1,10 +1,11 @@
 use Rattle.std.proofs.Common.{rules, arith}
+use Rattle.stamped_list.specs.Rows.{judging_under, own_under}
 use Rattle.kept_web.proofs.Connections.{at_none, at_some, served_none, served_next, served_failed}
 use Rattle.kept_web.proofs.serving.serve_all.Goals as goal
 
 pub loop-served-init : goal.loop-served-init
 loop-served-init g c = record {
-  served = served_none g.R.Docket.judging g.R.OwnDocket.own g.T.DocketForms.scheme c.args.number c.args.pass (g.P.Port.tells c.args.port.now);
+  served = served_none (judging_under c.args.stamp.now g.R.Docket.judging) (own_under c.args.stamp.now g.R.OwnDocket.own) g.T.DocketForms.scheme c.args.number c.args.pass (g.P.Port.tells c.args.port.now);
   most = omega arith;
   later = omega arith;
   lock = search rules;
@@ -14,12 +15,12 @@ loop-served-init g c = record {
 
 pub returns-in_default-clause-served : goal.returns-in_default-clause-served
 returns-in_default-clause-served g c =
-    served_failed g.R.Docket.judging g.R.OwnDocket.own g.T.DocketForms.scheme c.args.number c.args.pass c.loop-served.pass (g.P.Port.tells c.args.port.now) (g.P.Port.tells c.loop-served.port) c.loop-served.served c.loop-served.starved c.loop-served.invariant.served
+    served_failed (judging_under c.args.stamp.now g.R.Docket.judging) (own_under c.args.stamp.now g.R.OwnDocket.own) g.T.DocketForms.scheme c.args.number c.args.pass c.loop-served.pass (g.P.Port.tells c.args.port.now) (g.P.Port.tells c.loop-served.port) c.loop-served.served c.loop-served.starved c.loop-served.invariant.served
     c.serve_next-back.result.0 (g.P.Port.tells c.serve_next-back.new.port) (at_none _ c.serve_next-back.result.1 c.in_default.is c.serve_next-back.ensures.failed)
 
 pub loop-served-preserved : goal.loop-served-preserved
 loop-served-preserved g c = record {
-  served = served_next g.R.Docket.judging g.R.OwnDocket.own g.T.DocketForms.scheme c.args.number c.args.pass c.loop-served.pass (g.P.Port.tells c.args.port.now) (g.P.Port.tells c.loop-served.port) c.loop-served.served c.loop-served.starved c.loop-served.invariant.served
+  served = served_next (judging_under c.args.stamp.now g.R.Docket.judging) (own_under c.args.stamp.now g.R.OwnDocket.own) g.T.DocketForms.scheme c.args.number c.args.pass c.loop-served.pass (g.P.Port.tells c.args.port.now) (g.P.Port.tells c.loop-served.port) c.loop-served.served c.loop-served.starved c.loop-served.invariant.served
       c.serve_next-back.result.0 (g.P.Port.tells c.serve_next-back.new.port) c.in-Some.end c.is_starved-starved.result c.is_starved-starved.ensures (at_some _ c.serve_next-back.result.1 c.in-Some.end c.in-Some.is c.serve_next-back.ensures.served);
   most = search rules;
   later = search rules;
