@@ -7,9 +7,11 @@ use filing_journal::OpenError;
 use fund_policy::{Rule, level, quarter, standard};
 use kept_runs::{RunStop, end};
 use kept_session::ReadStop;
+use office_upgrade::upgrade;
 use run_office::{DeskInput, run, run_desks};
 use run_web::run_web;
-use run_words::{MainRow, needs_journal, row_of};
+use run_words::{MainRow, behind_at, is_found, needs_journal, row_of, upgrade_file};
+use stamps::Stamp;
 use std::alloc::{AllocError, Global};
 use std::fs::{File, OpenOptions, TryLockError};
 use std::io::ErrorKind;
@@ -50,10 +52,13 @@ usage: aid_office JOURNAL found
        aid_office JOURNAL report awards YEAR
        aid_office JOURNAL report returns YEAR
        aid_office JOURNAL report lifetime
+       aid_office JOURNAL report stamps
        aid_office JOURNAL fund SCHOOL YEAR TERM AMOUNT POLICY NUMBER
        aid_office JOURNAL generate SEED STUDENTS < BOOK.toml
        aid_office JOURNAL check rows < ROWS.csv
-       aid_office JOURNAL check book < BOOK.toml";
+       aid_office JOURNAL check book < BOOK.toml
+       aid_office JOURNAL upgrade JOURNAL-OF-VERSION-1
+       aid_office JOURNAL at DAY CLERK .. (any of these but upgrade, by this clerk on this day)";
 
 // Says a sentence on standard error. Where that can't be written there is nobody to tell.
 fn say(rt: &HostRuntime, sentence: &str) {
@@ -82,7 +87,7 @@ fn hold(rt: &HostRuntime, file: &File) -> bool {
 fn come_to_journal(row: MainRow, words: &[String]) -> bool {
     match row {
         MainRow::Run => needs_journal(words),
-        MainRow::Desks { .. } | MainRow::Serve { .. } => true,
+        MainRow::Desks { .. } | MainRow::Serve { .. } | MainRow::Upgrade => true,
     }
 }
 
@@ -106,14 +111,6 @@ fn keep_in_folder(rt: &HostRuntime, path: &str) -> io::Result<()> {
     }
 }
 
-// Whether the words are those of a founding.
-fn is_found(words: &[String]) -> bool {
-    match words {
-        [word] => word.as_str() == "found",
-        _ => false,
-    }
-}
-
 // Opens the folder / three times. Where a run begins with a standard stream closed, the first file that it opens would
 // take that stream's place, and the journal would be read as its input or written as its text; now the folder does,
 // which takes no text and gives none.
@@ -125,13 +122,22 @@ fn fill_streams(rt: &HostRuntime) -> io::Result<[File; 3]> {
     ])
 }
 
-// Opens the files of the desks, which stand behind the first word.
+// How many words stand before the files of the desks: those of a stamp, where there is one, and `desks`.
+fn words_before_files(words: &[String]) -> usize {
+    match behind_at(words) {
+        Some((_, rest)) => words.len().saturating_sub(rest.len()).saturating_add(1),
+        None => words.len(),
+    }
+}
+
+// Opens the files of the desks, which stand behind the word `desks`.
 fn open_inputs(
     rt: &HostRuntime,
     words: &[String],
+    stamp: &Stamp,
 ) -> Result<Vec<DeskInput<ReadEdge<File>>>, ReadStop> {
     let mut desks = Vec::new(rt.alloc());
-    for path in words.iter().skip(1) {
+    for path in words.iter().skip(words_before_files(words)) {
         let file = match File::open(rt, path.as_str()) {
             Ok(file) => file,
             Err(error) => {
@@ -140,11 +146,27 @@ fn open_inputs(
             }
         };
         let input = ReadEdge::new(file);
-        if desks.push(DeskInput { input }).is_err() {
+        let desk = DeskInput {
+            input,
+            stamp: *stamp,
+        };
+        if desks.push(desk).is_err() {
             return Err(ReadStop::NoMemory);
         }
     }
     Ok(desks)
+}
+
+// Opens the journal that is to be copied, for reading alone, and takes it for this run.
+fn open_source(rt: &HostRuntime, words: &[String]) -> Option<File> {
+    let path = upgrade_file(words)?;
+    match File::open(rt, path) {
+        Ok(file) => { if hold(rt, &file) { Some(file) } else { None } }
+        Err(error) => {
+            let _ = eprintln!(rt; "{path} can't be opened: {error}");
+            None
+        }
+    }
 }
 
 // Runs over the standard input, with the office's two policies of awards.
@@ -175,6 +197,7 @@ fn serve<H: Net<Listener = TcpListener, Stream = TcpStream> + Threads + Wait + S
     port: u16,
     workers: u8,
     sessions: u32,
+    stamp: Stamp,
     disk: HostDisk,
     out: &mut K,
 ) -> u8 {
@@ -187,7 +210,7 @@ fn serve<H: Net<Listener = TcpListener, Stream = TcpStream> + Threads + Wait + S
             return end(Err(RunStop::File(ReadStop::NoMemory.into())), out);
         }
     }
-    run_web(rt, alloc, &mut ports, sessions, disk, out).0
+    run_web(rt, alloc, &mut ports, sessions, stamp, disk, out).0
 }
 
 fn main(rt: HostRuntime) -> ExitCode {
@@ -226,7 +249,8 @@ fn main(rt: HostRuntime) -> ExitCode {
         return disk_fault;
     }
     // Of a file that can't be read its folder is synced, and the run tells of the fault.
-    let is_to_be_founded = is_found(&words) && !is_born(&file).unwrap_or(false);
+    let founds = is_found(&words) || row == MainRow::Upgrade;
+    let is_to_be_founded = founds && !is_born(&file).unwrap_or(false);
     if is_to_be_founded && keep_in_folder(&rt, path.as_str()).is_err() {
         say(&rt, "the journal's folder can't be written for good");
         return disk_fault;
@@ -237,7 +261,7 @@ fn main(rt: HostRuntime) -> ExitCode {
             Ok(status) => status,
             Err(_) => end(Err(RunStop::File(ReadStop::NoMemory.into())), &mut out),
         },
-        MainRow::Desks { .. } => match open_inputs(&rt, &words) {
+        MainRow::Desks { stamp, .. } => match open_inputs(&rt, &words, &stamp) {
             Ok(mut desks) => run_desks(&rt, rt.alloc(), &mut desks, disk, &FreeGate, &mut out).0,
             Err(stop) => end(Err(RunStop::File(stop.into())), &mut out),
         },
@@ -245,7 +269,21 @@ fn main(rt: HostRuntime) -> ExitCode {
             port,
             workers,
             sessions,
-        } => serve(&rt, rt.alloc(), port, workers, sessions, disk, &mut out),
+            stamp,
+        } => serve(
+            &rt,
+            rt.alloc(),
+            port,
+            workers,
+            sessions,
+            stamp,
+            disk,
+            &mut out,
+        ),
+        MainRow::Upgrade => match open_source(&rt, &words) {
+            Some(source) => upgrade(rt.alloc(), HostDisk::new(source), disk, &mut out).0,
+            None => return disk_fault,
+        },
     };
     if status == RunStop::Usage.status() {
         say(&rt, USAGE);

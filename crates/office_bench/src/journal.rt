@@ -12,6 +12,7 @@ use std::io;
 const HEADER: Header = Header {
     name: *b"AIDPELL1",
     version: 1,
+    old: None,
 };
 
 // A payload.
