@@ -17,6 +17,9 @@ use std::os::unix::fs::FileExt;
 
 const PROGRAMS: [&str; 6] = ["unsub", "sub", "plus", "pell", "fseog", "teach"];
 
+// The bytes of the stamp of nobody, which stands in front of each filing: the day 1970-01-01, and a name without letters.
+const STAMP: usize = 5;
+
 // A desk whose admitted filings are appended to a journal: one sync keeps a record's gate and the next record.
 struct KeptDesk {
     desk: PlainDesk,
@@ -58,7 +61,7 @@ impl KeptDesk {
 impl Desk for KeptDesk {
     fn file(&mut self, filing: Filing) {
         self.record.clear();
-        self.record.extend_from_slice(&[0; 4]);
+        self.record.extend_from_slice(&[0; 4 + STAMP]);
         spelling::put(&filing, &self.book, &mut self.record);
         let accepted = self.desk.accepted;
         self.desk.file(filing);
@@ -92,13 +95,13 @@ fn not_a_journal() -> io::Error {
     io::Error::other("not a journal of these kinds")
 }
 
-// The office of a journal's bytes, each of its filings judged on those before it.
+// The office of a journal's bytes, each of its filings, which have no other stamp, judged on those before it.
 fn opened(bytes: &[u8]) -> Option<Office> {
     let mut office = Office::default();
     let mut gate = 16;
     while *bytes.get(gate)? == 1 {
         let size = u32::from_le_bytes(bytes.get(gate + 1..gate + 5)?.try_into().ok()?) as usize;
-        let filing = spelling::take(bytes.get(gate + 5..gate + 5 + size)?)?;
+        let filing = spelling::take(bytes.get(gate + 5 + STAMP..gate + 5 + size)?)?;
         match office.judge(&filing) {
             Verdict::Admit(outcome) => office.admit(filing, outcome),
             _ => return None,

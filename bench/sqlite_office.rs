@@ -16,7 +16,7 @@ use plain::office::Place;
 use plain::orders::{self, Desk};
 use sqlite::{Base, Statement};
 
-const ROOM: u32 = 200_000;
+const ROOM: u32 = 1_000_000;
 const FIELDS_OF_APPLICATION: usize = 43;
 
 // A kind's table: its name, its columns behind the key, and the columns of an index for each question about it.

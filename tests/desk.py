@@ -67,6 +67,13 @@ def policy(text):
     return text
 
 
+def clerk(text):
+    """A clerk's name as words say it: 1 to 32 letters, digits, dots, low lines and hyphens, the first no hyphen."""
+    if not re.fullmatch("[A-Za-z0-9._][A-Za-z0-9._-]{0,31}", text, re.ASCII):
+        raise Faulty(SPELLING)
+    return text
+
+
 FLAG, EITHER_SIGN, AMOUNT = whole(0, 1), whole(-99_999_999, 99_999_999), whole(0, 99_999_999)
 STUDENT, YEAR, TERM, BREAKS = whole(1, 10**12 - 1), whole(2000, 2099), whole(1, 8), whole(0, 8)
 SIDE = [EITHER_SIGN, *[AMOUNT] * 8, EITHER_SIGN, *[AMOUNT] * 6]
@@ -93,9 +100,21 @@ KINDS = {
 COMMANDS = [
     (["found"], []), (["file"], []), (["book"], KEY[1:]), (["quote"], [KEY[0], STUDENT, YEAR, TERM]),
     (["report", "standing"], [YEAR]), (["report", "awards"], [YEAR]), (["report", "returns"], [YEAR]), (["report", "lifetime"], []),
+    (["report", "stamps"], []),
     (["fund"], [KEY[0], YEAR, TERM, whole(1, 99_999_999), policy, whole(1, 999_999_000_000)]),
     (["generate"], [whole(0, 10**12 - 1), whole(1, 20_000)]), (["check", "rows"], []), (["check", "book"], []),
 ]
+
+
+def behind_at(words):
+    """The stamp that `at`, a day and a clerk say in front of words, and the words behind; that of nobody where words don't begin so,
+    and no words where the day or the clerk is none."""
+    if words[:1] != ["at"]:
+        return model.Stamp(), words
+    try:
+        return model.Stamp(day(words[1]), clerk(words[2])), words[3:]
+    except (Faulty, IndexError):
+        return None, []
 
 
 def command_of(words):
@@ -233,14 +252,16 @@ def outcome_text(outcome):
 
 
 class Desk:
-    """An office with its history."""
+    """An office with its history, and the stamps of the filings in front; those behind them have none noted."""
 
     def __init__(self):
         self.history = []
+        self.stamps = []
 
     def answer(self, words, text):
-        """The status and the text of a command, for an input, on this office, which was founded."""
-        command = command_of(words)
+        """The status and the text of a command, for an input, on this office, which was founded. What it files has its stamp."""
+        stamp, behind = behind_at(words)
+        command = command_of(behind)
         if command is None:
             return 2, "fault usage\n"
         names, given = command
@@ -251,7 +272,13 @@ class Desk:
         if names[0] == "report":
             return 0, self.report(names[1], *given)
         inputs = {"file": [text], "book": [text], "generate": [text]}.get(names[0], [])
-        return 0, getattr(self, names[0])(*given, *inputs)
+        told = getattr(self, names[0])(*given, *inputs)
+        self.note(stamp)
+        return 0, told
+
+    def note(self, stamp):
+        """The filings that have no stamp noted have this one."""
+        self.stamps += [stamp] * (len(self.history) - len(self.stamps))
 
     def line(self, row, filing):
         """The line that answers a filing, which joins the history where it is admitted."""
@@ -302,8 +329,9 @@ class Desk:
         return four_lines(totals)
 
     def report(self, which, year=None):
-        """What `report standing YEAR`, `report awards YEAR`, `report returns YEAR` and `report lifetime` print."""
-        lines = REPORTS[which](self.history, *[] if year is None else [year])
+        """What `report standing YEAR`, `report awards YEAR`, `report returns YEAR`, `report lifetime` and `report stamps` print."""
+        read = [self.stamps] if which == "stamps" else [] if year is None else [year]
+        lines = REPORTS[which](self.history, *read)
         return "".join(f"{line}\n" for line in lines) + f"rows {len(lines)}\n"
 
 
@@ -373,7 +401,12 @@ def lifetime_lines(history):
     return [f"{student:>12} {prior:>7} {used:>7}" for student, prior, used in model.lifetime_report(history)]
 
 
-REPORTS = {"standing": standing_lines, "awards": award_lines, "returns": return_lines, "lifetime": lifetime_lines}
+def stamp_lines(history, stamps):
+    """Position, day, clerk."""
+    return [f"{position} {stamp.day.isoformat()} {stamp.clerk}" for position, stamp in model.stamp_report(history, stamps)]
+
+
+REPORTS = {"standing": standing_lines, "awards": award_lines, "returns": return_lines, "lifetime": lifetime_lines, "stamps": stamp_lines}
 
 
 def check_rows(text):

@@ -1,9 +1,9 @@
 """An office over a list of filings, computed afresh from the whole list in plain Python, written apart from the proved
 code so that the two can be compared.
 
-A history is a list of filings, the oldest first, and a position in it counts from 1. Nothing is kept beside the list:
-`verdict` answers a filing on it, `file` also appends the filing where it is admitted, `quote`, `standing` and `net` say
-what the list comes to, and `plan_round` what a round of awards files on it.
+A history is a list of filings, the oldest first, and a position in it counts from 1. Nothing is kept beside the list but
+the stamp of each filing, of which no answer speaks: `verdict` answers a filing on it, `file` also appends the filing where
+it is admitted, `quote`, `standing` and `net` say what the list comes to, and `plan_round` what a round of awards files on it.
 
 Figures of households and awards are whole dollars; what is paid, returned and owed is in cents; rates are
 ten-thousandths; the lifetime limit of 600 percent is 600,000 units. A filing's numbers are taken to be in their ranges.
@@ -23,7 +23,7 @@ GRANTS = PELL, FSEOG, TEACH
 CONTIGUOUS, ALASKA, HAWAII = range(3)
 
 OWN_DESK = 0                  # the key's school of what the office's own desk files
-ROOM = 200_000                # filings that an office takes (own)
+ROOM = 1_000_000              # filings that an office takes (own)
 LEAST_INDEX = -1_500          # HEA 473
 GREATEST_INDEX = 999_999      # own
 LIFETIME_LIMIT = 600_000      # units (HEA 401(d)(5))
@@ -172,6 +172,14 @@ class Filing:
     """What a desk files, under a key: the filing school, and a number of that school's own. Own."""
     school: int
     number: int
+
+
+@dataclass(frozen=True)
+class Stamp:
+    """When something was filed and by whom, as who files it says: a day, and a clerk's name; nobody said so where both are
+    these. Own."""
+    day: date = date(1970, 1, 1)
+    clerk: str = ""
 
 
 @dataclass(frozen=True)
@@ -1415,3 +1423,14 @@ def lifetime_report(history):
     prior = {filing.student: filing.units for _, filing in filings_of(history, PriorUse)}
     paid = {filing.student for _, filing in filings_of(history, Payment) if filing.program == PELL}
     return [(student, prior.get(student, 0), used(history, student)) for student in sorted(paid | prior.keys())]
+
+
+def stamp_report(history, stamps):
+    """The position of each filing with its stamp, in the order in which they were filed. The last filings may have none noted, and
+    have the one that nobody said."""
+    return [(position, stamp) for position, stamp in enumerate(stamped(history, stamps), 1)]
+
+
+def stamped(history, stamps):
+    """The stamp of each filing of a history."""
+    return [*stamps, *[Stamp()] * (len(history) - len(stamps))]

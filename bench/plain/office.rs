@@ -6,7 +6,7 @@ use super::filings::*;
 use super::returns::{Worksheet, half_up, worksheet};
 use std::collections::BTreeMap;
 
-const ROOM: usize = 200_000;
+const ROOM: usize = 1_000_000;
 const LIFETIME_LIMIT: u64 = 600_000;
 const FSEOG_LIMIT: u64 = 400_000;
 const MOST_DOLLARS: u64 = 999_999;
