@@ -206,7 +206,14 @@ const STAMPED: &[u8] =
 const STAMPED_BOTH: &[u8] =
     b"\x01AIDPELL1\x02\0\0\0\0\0\0\x01\x22\0\0\0\x6c\x4f\0\0\x04ruth\x04\0\0\0\0\x02\0\0\0\0\0\0\0\x89\x13\0\0\0\0\0\0\x70\x64\x08\0\x01\x1e\0\0\0\0\0\0\0\0\x04\0\0\0\0\x03\0\0\0\0\0\0\0\x8a\x13\0\0\0\0\0\0\x70\x64\x08\0\0";
 
-// A connection that brings these bytes is served under the stamp, and writes this text. The disk then has this file.
+// The file has these bytes, and room behind them, in which nothing is written.
+fn is_image<H: Abort>(rt: &H, disk: &MemoryDisk, bytes: &[u8]) {
+    let image = disk.image();
+    assert!(rt; image.starts_with(bytes));
+    assert!(rt; image.iter().skip(bytes.len()).all(|byte| *byte == 0));
+}
+
+// A connection that brings these bytes is served under the stamp, and writes this text. The file then has these bytes.
 fn serve_under<H: Threads + Wait + Abort + Sync>(
     rt: &H,
     alloc: Global,
@@ -225,26 +232,23 @@ fn serve_under<H: Threads + Wait + Abort + Sync>(
         return Err(Fail::new("not one port"));
     };
     is_back(rt, port, text);
-    assert!(rt; disk.image() == image);
+    is_image(rt, &disk, image);
     Ok(disk)
 }
 
 // The stamp of this clerk on this day.
-fn stamp_of(day: i32, name: &[u8]) -> Result<Stamp, Fail> {
+fn stamp_of(day: Day, name: &[u8]) -> Result<Stamp, Fail> {
     let Some(clerk) = ClerkName::new(name) else {
         return Err(Fail::new("no clerk"));
     };
-    Ok(Stamp {
-        day: Day(day),
-        clerk,
-    })
+    Ok(Stamp { day, clerk })
 }
 
 #[test]
 fn a_filing_keeps_its_first_stamp(rt: HostRuntime) -> Result<(), Fail> {
     let alloc = rt.alloc();
-    let ruth = stamp_of(20332, b"ruth")?;
-    let omar = stamp_of(20333, b"omar")?;
+    let ruth = stamp_of(Day(20_332), b"ruth")?;
+    let omar = stamp_of(Day(20_333), b"omar")?;
     let filing = FILING.as_bytes();
     let disk = founded(alloc)?;
     let disk = serve_under(&rt, alloc, ruth, disk, filing, FIRST, STAMPED)?;
