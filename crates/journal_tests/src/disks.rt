@@ -1,39 +1,37 @@
 //! What no clause says of disks: which calls fail, what a stop leaves, and that a real file is read and written.
+use crate::tools::{assert_same, disk};
 use disk_model::{Disk, DiskStop, Failed, Fill, HostDisk, MemoryDisk};
-use std::alloc::Global;
+use std::alloc::AllocError;
 use std::fs::{self, OpenOptions};
 use std::process::Abort;
 use std::test::Fail;
 
-fn disk(alloc: Global, failing: &[u64], stop: Option<DiskStop>) -> Result<MemoryDisk, Fail> {
-    let bytes = b"abcdefgh".to_vec(alloc)?;
-    Ok(MemoryDisk::new(alloc, bytes, failing.to_vec(alloc)?, stop)?)
-}
+const LETTERS: &[u8] = b"abcdefgh";
 
 #[test]
-fn works_and_fails_as_told(rt: HostRuntime) -> Result<(), Fail> {
-    let mut disk = disk(rt.alloc(), &[2, 5], None)?;
-    assert_worked(&rt, &mut disk);
-    assert_eq!(rt; disk.image(), b"XYcdefgh".as_slice());
-    assert_eq!(rt; disk.longest_read(), 5);
+fn works_and_fails_as_told(rt: HostRuntime) -> Result<(), AllocError> {
+    let worked = worked(&rt, disk(rt.alloc(), LETTERS, &[2, 5], None)?);
+    assert_same(&rt, &"its bytes", &worked.image(), &b"XYcdefgh".as_slice());
+    assert_same(&rt, &"the longest read", &worked.longest_read(), &5);
     Ok(())
 }
 
 // The second call and the fifth fail.
-fn assert_worked(rt: &impl Abort, disk: &mut MemoryDisk) {
+fn worked(rt: &impl Abort, mut disk: MemoryDisk) -> MemoryDisk {
     let mut buf = [0; 5];
-    assert_eq!(rt; disk.len(), Ok(8));
-    assert_eq!(rt; disk.len(), Err(Failed));
-    assert_eq!(rt; disk.write_at(0, b"XY"), Ok(()));
-    assert_eq!(rt; disk.read_at(1, &mut buf), Ok(5));
-    assert_eq!(rt; buf, *b"Ycdef");
-    assert_eq!(rt; disk.sync(), Err(Failed));
-    assert_eq!(rt; disk.sync(), Ok(()));
+    assert_same(rt, &"the first call", &disk.len(), &Ok(8));
+    assert_same(rt, &"the second call", &disk.len(), &Err(Failed));
+    assert_same(rt, &"a write", &disk.write_at(0, b"XY"), &Ok(()));
+    assert_same(rt, &"a read", &disk.read_at(1, &mut buf), &Ok(5));
+    assert_same(rt, &"what is read", &buf, b"Ycdef");
+    assert_same(rt, &"the fifth call", &disk.sync(), &Err(Failed));
+    assert_same(rt, &"a sync", &disk.sync(), &Ok(()));
+    disk
 }
 
 // What stands after a write of two bytes that stops, and after a cut to nothing that does.
 const STOPPED: [(Fill, &[u8], &[u8]); 3] = [
-    (Fill::Unwritten, b"abcdefgh", b"abcdefgh"),
+    (Fill::Unwritten, LETTERS, LETTERS),
     (Fill::Written, b"XYcdefgh", b""),
     (
         Fill::With(7),
@@ -43,25 +41,25 @@ const STOPPED: [(Fill, &[u8], &[u8]); 3] = [
 ];
 
 #[test]
-fn leaves_what_a_stop_says(rt: HostRuntime) -> Result<(), Fail> {
+fn leaves_what_a_stop_says(rt: HostRuntime) -> Result<(), AllocError> {
     for (fill, written, cut) in STOPPED {
         let stop = Some(DiskStop { call: 1, fill });
-        assert_written(&rt, disk(rt.alloc(), &[], stop)?, written);
-        assert_cut(&rt, disk(rt.alloc(), &[], stop)?, cut);
+        assert_written(&rt, disk(rt.alloc(), LETTERS, &[], stop)?, written);
+        assert_cut(&rt, disk(rt.alloc(), LETTERS, &[], stop)?, cut);
     }
     Ok(())
 }
 
-fn assert_written(rt: &impl Abort, mut disk: MemoryDisk, want: &[u8]) {
-    assert_eq!(rt; disk.write_at(0, b"XY"), Err(Failed));
-    assert_eq!(rt; disk.image(), want);
-    assert_eq!(rt; disk.sync(), Err(Failed));
+fn assert_written(rt: &impl Abort, mut disk: MemoryDisk, wanted: &[u8]) {
+    assert_same(rt, &"a write", &disk.write_at(0, b"XY"), &Err(Failed));
+    assert_same(rt, &"behind the write", &disk.image(), &wanted);
+    assert_same(rt, &"a call past the write", &disk.sync(), &Err(Failed));
 }
 
-fn assert_cut(rt: &impl Abort, mut disk: MemoryDisk, want: &[u8]) {
-    assert_eq!(rt; disk.cut(0), Err(Failed));
-    assert_eq!(rt; disk.image(), want);
-    assert_eq!(rt; disk.len(), Err(Failed));
+fn assert_cut(rt: &impl Abort, mut disk: MemoryDisk, wanted: &[u8]) {
+    assert_same(rt, &"a cut", &disk.cut(0), &Err(Failed));
+    assert_same(rt, &"behind the cut", &disk.image(), &wanted);
+    assert_same(rt, &"a call past the cut", &disk.len(), &Err(Failed));
 }
 
 #[test]
@@ -78,13 +76,13 @@ fn works_over_a_file(rt: HostRuntime) -> Result<(), Fail> {
     Ok(())
 }
 
-fn assert_kept<D: Disk + Drop>(rt: &impl Abort, mut disk: D) {
+fn assert_kept(rt: &impl Abort, mut disk: HostDisk) {
     let mut buf = [0; 8];
-    assert_eq!(rt; disk.write_at(0, b"abc"), Ok(()));
-    assert_eq!(rt; disk.write_at(3, b"de"), Ok(()));
-    assert_eq!(rt; disk.sync(), Ok(()));
-    assert_eq!(rt; disk.read_at(1, &mut buf), Ok(4));
-    assert_eq!(rt; buf, *b"bcde\0\0\0\0");
-    assert_eq!(rt; disk.cut(2), Ok(()));
-    assert_eq!(rt; disk.len(), Ok(2));
+    assert_same(rt, &"a write", &disk.write_at(0, b"abc"), &Ok(()));
+    assert_same(rt, &"a write behind it", &disk.write_at(3, b"de"), &Ok(()));
+    assert_same(rt, &"a sync", &disk.sync(), &Ok(()));
+    assert_same(rt, &"a read", &disk.read_at(1, &mut buf), &Ok(4));
+    assert_same(rt, &"what is read", &buf, b"bcde\0\0\0\0");
+    assert_same(rt, &"a cut", &disk.cut(2), &Ok(()));
+    assert_same(rt, &"its length", &disk.len(), &Ok(2));
 }

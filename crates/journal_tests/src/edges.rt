@@ -1,11 +1,11 @@
 //! What no clause says of edges: a read or a write that fails in mid-stream, and edges over slices.
+use crate::tools::assert_same;
 use aid_edges::{
     Failed, MemorySink, MemorySource, ReadEdge, ReadError, Sink, Source, SteadySource, WriteEdge,
     read_to_limit, write_whole,
 };
-use std::alloc::Global;
+use std::alloc::{AllocError, Global};
 use std::process::Abort;
-use std::test::Fail;
 
 // Up to three bytes are read: a text, the call of `read` that fails, if one does, and what is answered.
 const READ: [(&[u8], u64, Result<&[u8], ReadError>); 6] = [
@@ -18,19 +18,24 @@ const READ: [(&[u8], u64, Result<&[u8], ReadError>); 6] = [
 ];
 
 #[test]
-fn reads_up_to_the_limit(rt: HostRuntime) -> Result<(), Fail> {
-    for (text, failing, want) in READ {
-        let source = MemorySource::new(text.to_vec(rt.alloc())?, vec![in rt.alloc(); failing]?);
-        assert_read(&rt, rt.alloc(), source, want);
+fn reads_up_to_the_limit(rt: HostRuntime) -> Result<(), AllocError> {
+    for (text, failing, wanted) in READ {
+        assert_read(&rt, rt.alloc(), memory(rt.alloc(), text, failing)?, wanted);
     }
-    let steady = SteadySource::new(b"abc".to_vec(rt.alloc())?);
-    assert_read(&rt, rt.alloc(), steady, Ok(b"abc"));
-    assert_read(
-        &rt,
-        rt.alloc(),
-        ReadEdge::new(b"abc".as_slice()),
-        Ok(b"abc"),
-    );
+    Ok(())
+}
+
+// A source in memory of which one call fails.
+fn memory(alloc: Global, text: &[u8], failing: u64) -> Result<MemorySource, AllocError> {
+    Ok(MemorySource::new(text.to_vec(alloc)?, [failing].to_vec(alloc)?))
+}
+
+#[test]
+fn reads_a_steady_source_and_a_slice(rt: HostRuntime) -> Result<(), AllocError> {
+    let text = b"abc".as_slice();
+    let steady = SteadySource::new(text.to_vec(rt.alloc())?);
+    assert_read(&rt, rt.alloc(), steady, Ok(text));
+    assert_read(&rt, rt.alloc(), ReadEdge::new(text), Ok(text));
     Ok(())
 }
 
@@ -38,32 +43,41 @@ fn assert_read<S: Source + Drop>(
     rt: &impl Abort,
     alloc: Global,
     mut source: S,
-    want: Result<&[u8], ReadError>,
+    wanted: Result<&[u8], ReadError>,
 ) {
-    match (read_to_limit(alloc, &mut source, 3), want) {
-        (Ok(bytes), Ok(want)) => assert_eq!(rt; bytes.as_slice(), want),
-        (read, want) => assert_eq!(rt; read.err(), want.err()),
-    }
+    let read = read_to_limit(alloc, &mut source, 3);
+    let found = match &read {
+        Ok(bytes) => Ok(bytes.as_slice()),
+        Err(error) => Err(*error),
+    };
+    assert_same(rt, &"what is read", &found, &wanted);
 }
 
 #[test]
-fn writes_whole_texts(rt: HostRuntime) -> Result<(), Fail> {
-    let mut sink = MemorySink::new(rt.alloc(), vec![in rt.alloc(); 2]?);
-    assert_written(
-        &rt,
-        &mut sink,
-        &[(b"one", Ok(())), (b"two", Err(Failed)), (b"three", Ok(()))],
-    );
-    assert_eq!(rt; sink.text(), b"onethree".as_slice());
-    let mut room = [0; 4];
-    let mut edge = WriteEdge::new(room.as_mut_slice());
-    assert_written(&rt, &mut edge, &[(b"abc", Ok(())), (b"de", Err(Failed))]);
-    assert_eq!(rt; room.as_slice(), b"abcd".as_slice());
+fn writes_whole_texts(rt: HostRuntime) -> Result<(), AllocError> {
+    let sink = MemorySink::new(rt.alloc(), [2].to_vec(rt.alloc())?);
+    let texts: [(&[u8], Result<(), Failed>); 3] = [
+        (b"one", Ok(())),
+        (b"two", Err(Failed)),
+        (b"three", Ok(())),
+    ];
+    let sink = written(&rt, sink, &texts);
+    assert_same(&rt, &"the text", &sink.text(), &b"onethree".as_slice());
     Ok(())
 }
 
-fn assert_written<K: Sink>(rt: &impl Abort, sink: &mut K, texts: &[(&[u8], Result<(), Failed>)]) {
-    for &(text, want) in texts {
-        assert_eq!(rt; write_whole(sink, text), want);
+#[test]
+fn writes_into_a_slice(rt: HostRuntime) {
+    let mut room = [0; 4];
+    let texts: [(&[u8], Result<(), Failed>); 2] = [(b"abc", Ok(())), (b"de", Err(Failed))];
+    written(&rt, WriteEdge::new(room.as_mut_slice()), &texts);
+    assert_same(&rt, &"the text", &room, b"abcd");
+}
+
+// The sink, into which these texts were written with these answers.
+fn written<K: Sink>(rt: &impl Abort, mut sink: K, texts: &[(&[u8], Result<(), Failed>)]) -> K {
+    for &(text, wanted) in texts {
+        assert_same(rt, &"a text", &write_whole(&mut sink, text), &wanted);
     }
+    sink
 }

@@ -1,24 +1,12 @@
 //! What no clause says of journals: the bytes of worked files, the answers at named files, and what faults and stops leave.
-ghost use Rattle.std.specs.Prelude.{◌≡◌, ◌<◌, ◌≤◌, [], IfOk, length};
-ghost use Rattle.disk_model.specs.Telling.{IsHonest};
-ghost use Rattle.filing_journal.specs.Stands.{Payloads};
-ghost use Rattle.filing_journal.specs.Journal.{Keeps, IsDecided, journal_disk, journal_count};
-ghost use Rattle.filing_journal.specs.Opening.{HasGiven, HasAll, HasEnded, opening_disk, opening_count};
-ghost use Rattle.filing_journal.specs.declared.header.Header.{Header};
+ghost use Rattle.std.specs.Prelude.{◌≤◌};
 
+use crate::tools::{HEADER, assert_read, assert_same, disk, read};
 use aid_edges::Room;
-use disk_model::{Disk, DiskStop, Fill, MemoryDisk};
-use filing_journal::{Header, Journal, OpenError, Opening, PutError, found, recover};
-use std::alloc::Global;
+use disk_model::{Disk, DiskStop, Fill};
+use filing_journal::{OpenError, PutError, found};
+use std::alloc::{AllocError, Global};
 use std::process::Abort;
-use std::test::Fail;
-
-// The header of the worked files.
-const HEADER: Header = Header {
-    name: *b"AIDPELL1",
-    version: 1,
-    old: None,
-};
 
 // A founded file without payloads.
 pub(crate) const EMPTY: [u8; 17] = *b"\x01AIDPELL1\x01\0\0\0\0\0\0\0";
@@ -46,9 +34,7 @@ enum Went {
 }
 
 // Founds a journal, and puts both payloads. The first put writes the guess ahead.
-fn session<D: Disk>(disk: D, guess: &[u8]) -> (Went, D)
-    requires { length guess.now ≤ 8192 }
-{
+fn session<D: Disk>(disk: D, guess: &[u8]) -> (Went, D) {
     let mut journal = match found(disk, HEADER) {
         Ok(journal) => journal,
         Err((_, disk)) => return (Went::NotFounded, disk),
@@ -69,130 +55,56 @@ fn founded<D: Disk>(disk: D) -> D {
     }
 }
 
-// Begins to read a journal.
-fn opening<D: Disk + Drop>(disk: D) -> Result<Opening<D>, OpenError>
-    ensures begun { IfOk result (λ opening. IsHonest (D.tells (opening_disk opening)) → (header : Header) × HasGiven D.Disk header opening []) }
-    ensures count { IfOk result (λ opening. opening_count opening ≡ 0) }
-{
-    match recover(disk, HEADER) {
-        Ok(opening) => Ok(opening),
-        Err((error, _disk)) => Err(error),
-    }
-}
-
-// Ends to read a journal.
-fn ready<D: Disk + Drop>(opening: Opening<D>) -> Result<Journal<D>, OpenError>
-    requires ended { HasEnded opening }
-    requires stands { IsHonest (D.tells (opening_disk opening)) → (header : Header) × ((payloads : Payloads) × HasAll D.Disk header opening payloads) }
-    ensures decided { IfOk result (λ journal. IsDecided journal) }
-    ensures count { IfOk result (λ journal. journal_count journal ≡ opening_count opening) }
-    ensures kept { IfOk result (λ journal. IsHonest (D.tells (journal_disk journal))
-        → (header : Header) × ((payloads : Payloads) × Keeps D.Disk header journal payloads)) }
-{
-    match opening.ready() {
-        Ok(journal) => Ok(journal),
-        Err((error, _disk)) => Err(error),
-    }
-}
-
-// How many payloads a file has, up to 9.
-fn read<D: Disk + Drop>(disk: D, room: &mut Room) -> Result<u64, OpenError> {
-    let mut opening = opening(disk)?;
-    for n in 0..9 {
-        if opening.next(room)?.is_none() {
-            return Ok(n);
-        }
-    }
-    Ok(9)
-}
-
-// Opens a journal of fewer than 9 payloads.
-fn reopen<D: Disk + Drop>(disk: D, room: &mut Room) -> Result<Journal<D>, OpenError>
-    ensures decided { IfOk result (λ journal. IsDecided journal) }
-    ensures count { IfOk result (λ journal. journal_count journal < 9) }
-    ensures kept { IfOk result (λ journal. IsHonest (D.tells (journal_disk journal))
-        → (header : Header) × ((payloads : Payloads) × Keeps D.Disk header journal payloads)) }
-{
-    let mut opening = opening(disk)?;
-    for _ in 0..9u64 {
-        match opening.next(room)? {
-            None => return ready(opening),
-            Some(_) => {}
-        }
-    }
-    Err(OpenError::NoMemory)
-}
-
-// Puts a third payload, and settles it where a fault left it undecided.
-fn third<D: Disk + Drop>(disk: D, room: &mut Room) -> Result<(Result<(), PutError>, D), OpenError> {
-    let mut journal = reopen(disk, room)?;
-    match journal.put(&SCHOOL) {
-        Ok(()) => Ok((Ok(()), journal.into_disk())),
-        Err(PutError::DiskFault { undecided: false }) => Ok((Ok(()), journal.into_disk())),
-        Err(PutError::DiskFault { undecided: true }) => {
-            let settled = journal.settle();
-            Ok((settled, journal.into_disk()))
-        }
-    }
-}
-
-fn disk(
-    alloc: Global,
-    bytes: &[u8],
-    failing: &[u64],
-    stop: Option<DiskStop>,
-) -> Result<MemoryDisk, Fail> {
-    Ok(MemoryDisk::new(alloc, bytes.to_vec(alloc)?, failing.to_vec(alloc)?, stop)?)
+#[test]
+fn founds_a_worked_file(rt: HostRuntime) -> Result<(), AllocError> {
+    let empty = founded(disk(rt.alloc(), &[], &[], None)?);
+    assert_same(&rt, &"without payloads", &empty.image(), &EMPTY.as_slice());
+    Ok(())
 }
 
 #[test]
-fn writes_the_worked_files(rt: HostRuntime) -> Result<(), Fail> {
-    let empty = founded(disk(rt.alloc(), &[], &[], None)?);
-    assert_eq!(rt; empty.image(), EMPTY.as_slice());
+fn writes_a_worked_file(rt: HostRuntime) -> Result<(), AllocError> {
     for guess in GUESSES {
-        let (went, both) = session(disk(rt.alloc(), b"junk", &[], None)?, guess);
-        assert_eq!(rt; went, Went::Well);
-        assert_eq!(rt; both.image(), BOTH.as_slice());
+        assert_writes(&rt, rt.alloc(), guess)?;
     }
     Ok(())
 }
 
-// How many payloads are read of these bytes.
-fn read_of(alloc: Global, bytes: &[u8], room: &mut Room) -> Result<Result<u64, OpenError>, Fail> {
-    Ok(read(disk(alloc, bytes, &[], None)?, room))
+// A session with that guess writes the file of both payloads over what stood there.
+fn assert_writes(rt: &impl Abort, alloc: Global, guess: &[u8]) -> Result<(), AllocError> {
+    let (went, both) = session(disk(alloc, b"junk", &[], None)?, guess);
+    assert_same(rt, &"how far it went", &went, &Went::Well);
+    assert_same(rt, &"both payloads", &both.image(), &BOTH.as_slice());
+    Ok(())
 }
 
 #[test]
-fn answers_by_the_length(rt: HostRuntime) -> Result<(), Fail> {
+fn answers_by_the_length(rt: HostRuntime) -> Result<(), AllocError> {
     let mut room = Room::new(rt.alloc())?;
     for len in 0..72 {
-        let answer = read_of(rt.alloc(), &BOTH[..len], &mut room)?;
-        assert_eq!(rt; answer, of_cut(len), "cut to {len} bytes");
+        assert_read(&rt, &len, rt.alloc(), &BOTH[..len], &mut room, of_cut(len))?;
     }
     Ok(())
 }
 
 #[test]
-fn answers_by_each_byte(rt: HostRuntime) -> Result<(), Fail> {
+fn answers_by_each_byte(rt: HostRuntime) -> Result<(), AllocError> {
     let mut room = Room::new(rt.alloc())?;
     for place in 0..71 {
         let mut bytes = BOTH;
         bytes[place] = !bytes[place];
-        let answer = read_of(rt.alloc(), &bytes, &mut room)?;
-        assert_eq!(rt; answer, of_turned(place), "byte {place} turned");
+        assert_read(&rt, &place, rt.alloc(), &bytes, &mut room, of_turned(place))?;
     }
     Ok(())
 }
 
 #[test]
-fn answers_by_the_bytes_of_an_empty_journal(rt: HostRuntime) -> Result<(), Fail> {
+fn answers_by_the_bytes_of_an_empty_journal(rt: HostRuntime) -> Result<(), AllocError> {
     let mut room = Room::new(rt.alloc())?;
-    for (place, want) in SEVENS {
-        assert!(rt; place < 17);
+    for place in 0..17 {
         let mut bytes = EMPTY;
         bytes[place] = 7;
-        let answer = read_of(rt.alloc(), &bytes, &mut room)?;
-        assert_eq!(rt; answer, want, "byte {place} is 7");
+        assert_read(&rt, &place, rt.alloc(), &bytes, &mut room, of_seven(place))?;
     }
     Ok(())
 }
@@ -220,26 +132,34 @@ fn of_turned(place: usize) -> Result<u64, OpenError> {
     }
 }
 
-// The answer where a byte of an empty journal is 7.
-const SEVENS: [(usize, Result<u64, OpenError>); 4] = [
-    (0, Err(OpenError::NoOffice)),
-    (1, Err(OpenError::NotJournal)),
-    (15, Err(OpenError::NotJournal)),
-    (16, Ok(0)),
-];
+// The answer where that byte of an empty journal is 7.
+fn of_seven(place: usize) -> Result<u64, OpenError> {
+    match place {
+        0 => Err(OpenError::NoOffice),
+        1..=15 => Err(OpenError::NotJournal),
+        _ => Ok(0),
+    }
+}
 
 #[test]
-fn says_what_a_fault_left(rt: HostRuntime) -> Result<(), Fail> {
+fn says_what_a_fault_left(rt: HostRuntime) -> Result<(), AllocError> {
     for call in 1..18 {
-        let (went, _) = session(disk(rt.alloc(), b"junk", &[call], None)?, &[]);
-        assert_eq!(rt; went, of_fault(call), "call {call} fails");
-        let (went, _) = session(disk(rt.alloc(), b"junk", &[call], None)?, &PRIOR);
-        assert_eq!(rt;
-            went,
-            of_fault_ahead(call),
-            "call {call} fails, with the second payload ahead"
-        );
+        assert_went(&rt, rt.alloc(), call, &[], of_fault(call))?;
+        assert_went(&rt, rt.alloc(), call, &PRIOR, of_fault_ahead(call))?;
     }
+    Ok(())
+}
+
+// How far a session with that guess comes where that call fails.
+fn assert_went(
+    rt: &impl Abort,
+    alloc: Global,
+    call: u64,
+    guess: &[u8],
+    wanted: Went,
+) -> Result<(), AllocError> {
+    let (went, _disk) = session(disk(alloc, b"junk", &[call], None)?, guess);
+    assert_same(rt, &call, &went, &wanted);
     Ok(())
 }
 
@@ -271,7 +191,7 @@ fn of_fault_ahead(call: u64) -> Went {
 }
 
 #[test]
-fn keeps_what_stood_where_it_stops_with_a_payload_ahead(rt: HostRuntime) -> Result<(), Fail> {
+fn keeps_what_stood_where_it_stops_with_a_payload_ahead(rt: HostRuntime) -> Result<(), AllocError> {
     let mut room = Room::new(rt.alloc())?;
     for guess in GUESSES {
         assert_stops(&rt, rt.alloc(), guess, &mut room)?;
@@ -280,9 +200,12 @@ fn keeps_what_stood_where_it_stops_with_a_payload_ahead(rt: HostRuntime) -> Resu
 }
 
 // A session with that guess that stops at each of its calls, in each way.
-fn assert_stops(rt: &impl Abort, alloc: Global, guess: &[u8], room: &mut Room) -> Result<(), Fail>
-    requires { length guess.now ≤ 8192 }
-{
+fn assert_stops(
+    rt: &impl Abort,
+    alloc: Global,
+    guess: &[u8],
+    room: &mut Room,
+) -> Result<(), AllocError> {
     for call in 9..18 {
         assert_stop(rt, alloc, guess, call, Fill::Unwritten, room)?;
         assert_stop(rt, alloc, guess, call, Fill::Written, room)?;
@@ -300,12 +223,10 @@ fn assert_stop(
     call: u64,
     fill: Fill,
     room: &mut Room,
-) -> Result<(), Fail>
-    requires { length guess.now ≤ 8192 }
-{
+) -> Result<(), AllocError> {
     let stopping = disk(alloc, b"", &[], Some(DiskStop { call, fill }))?;
     let (went, stopped) = session(stopping, guess);
-    let stood = read_of(alloc, stopped.image(), room)?;
+    let stood = read(disk(alloc, stopped.image(), &[], None)?, room);
     let (sure, more) = standing(went);
     assert!(rt;
         stood == Ok(sure) || (more && stood == Ok(sure + 1)),
@@ -315,33 +236,32 @@ fn assert_stop(
 }
 
 // Founds a journal, and puts a payload into a file that was made longer.
-fn session_lengthened<D: Disk>(disk: D) -> (Went, D) {
-    let mut journal = match found(disk, HEADER) {
-        Ok(journal) => journal,
-        Err((_, disk)) => return (Went::NotFounded, disk),
+fn lengthened<D: Disk + Drop>(disk: D) -> Option<D> {
+    let Ok(mut journal) = found(disk, HEADER) else {
+        return None;
     };
     journal.allow_lengthening();
     if journal.lengthen(SCHOOL.len()).is_err() {
-        return (
-            Went::First(PutError::DiskFault { undecided: false }),
-            journal.into_disk(),
-        );
+        return None;
     }
     match journal.put(&SCHOOL) {
-        Err(e) => (Went::First(e), journal.into_disk()),
-        Ok(()) => (Went::Well, journal.into_disk()),
+        Ok(()) => Some(journal.into_disk()),
+        Err(_) => None,
     }
 }
 
 #[test]
-fn lengthens_by_zeros(rt: HostRuntime) -> Result<(), Fail> {
-    let (went, left) = session_lengthened(disk(rt.alloc(), b"", &[], None)?);
-    assert_eq!(rt; went, Went::Well);
-    let image = left.image();
-    assert_eq!(rt; image.len(), 17 + 4096);
-    assert!(rt; image.starts_with(&BOTH[..40]));
-    assert!(rt; image.iter().skip(40).all(|byte| *byte == 0));
+fn lengthens_by_zeros(rt: HostRuntime) -> Result<(), AllocError> {
+    let left = lengthened(disk(rt.alloc(), b"", &[], None)?);
+    assert!(rt; left.is_some_and(|left| ends_in_zeros(left.image())));
     Ok(())
+}
+
+// A file of the first payload, made longer once.
+fn ends_in_zeros(image: &[u8]) -> bool {
+    image.len() == 17 + 4096
+        && image.starts_with(&BOTH[..40])
+        && image.iter().skip(40).all(|byte| *byte == 0)
 }
 
 // How many payloads stand for sure where a session came so far, and whether one more may.
@@ -354,38 +274,4 @@ fn standing(went: Went) -> (u64, bool)
         Went::Second(PutError::DiskFault { undecided }) => (1, undecided),
         Went::Well => (2, false),
     }
-}
-
-#[test]
-fn stops_in_the_gate_write(rt: HostRuntime) -> Result<(), Fail> {
-    let mut room = Room::new(rt.alloc())?;
-    for (left, kept) in [(0, 2), (1, 3), (7, 2)] {
-        let fill = Fill::With(left);
-        let stopping = disk(rt.alloc(), &BOTH, &[], Some(DiskStop { call: 7, fill }))?;
-        let stopped = assert_third(
-            &rt,
-            stopping,
-            &mut room,
-            Err(PutError::DiskFault { undecided: true }),
-        )?;
-        let answer = read_of(rt.alloc(), stopped.image(), &mut room)?;
-        assert_eq!(rt; answer, Ok(kept), "{left} is left");
-    }
-    let failing = disk(rt.alloc(), &BOTH, &[8], None)?;
-    let settled = assert_third(&rt, failing, &mut room, Ok(()))?;
-    assert_eq!(rt; read(settled, &mut room), Ok(3));
-    assert_eq!(rt; room.bytes(), SCHOOL.as_slice());
-    Ok(())
-}
-
-// Puts a third payload with that answer.
-fn assert_third(
-    rt: &impl Abort,
-    disk: MemoryDisk,
-    room: &mut Room,
-    want: Result<(), PutError>,
-) -> Result<MemoryDisk, OpenError> {
-    let (answer, after) = third(disk, room)?;
-    assert_eq!(rt; answer, want);
-    Ok(after)
 }

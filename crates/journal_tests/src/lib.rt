@@ -10,4 +10,6 @@ mod journals;
 #[cfg(test)]
 mod pieces;
 #[cfg(test)]
+mod tools;
+#[cfg(test)]
 mod versions;

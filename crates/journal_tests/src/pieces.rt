@@ -1,21 +1,11 @@
 //! What no clause says of a journal that is read in pieces: records across the end of a piece come back whole, and how many
 //! bytes are read at once, and how often.
+use crate::tools::{HEADER, assert_read, assert_same, disk, opening};
 use aid_edges::Room;
-use disk_model::{Disk, MemoryDisk};
-use filing_journal::{Header, OpenError, found, recover};
-use std::alloc::Global;
+use disk_model::Disk;
+use filing_journal::{OpenError, found};
+use std::alloc::{AllocError, Global};
 use std::process::Abort;
-use std::test::Fail;
-
-const HEADER: Header = Header {
-    name: *b"AIDPELL1",
-    version: 1,
-    old: None,
-};
-
-fn disk(alloc: Global, bytes: &[u8], failing: &[u64]) -> Result<MemoryDisk, Fail> {
-    Ok(MemoryDisk::new(alloc, bytes.to_vec(alloc)?, failing.to_vec(alloc)?, None)?)
-}
 
 // Bytes that come again after 251 of them.
 fn pattern() -> [u8; 8192] {
@@ -26,96 +16,102 @@ fn pattern() -> [u8; 8192] {
     bytes
 }
 
-// Founds a journal, and puts these payloads.
-fn holding<D: Disk + Drop>(rt: &impl Abort, disk: D, payloads: &[&[u8]]) -> Option<D> {
+// A journal that is founded, and into which these payloads are put.
+fn holding<D: Disk>(rt: &impl Abort, disk: D, payloads: &[&[u8]]) -> D {
     assert!(rt; payloads.len() < 99);
-    let Ok(mut journal) = found(disk, HEADER) else {
-        return None;
+    let mut journal = match found(disk, HEADER) {
+        Ok(journal) => journal,
+        Err(_) => panic!(rt; "not founded"),
     };
     for payload in payloads {
         assert!(rt; !payload.is_empty() && payload.len() <= 8192);
         match journal.put(payload) {
             Ok(()) => {}
-            Err(_) => return None,
+            Err(_) => panic!(rt; "not put"),
         }
     }
-    Some(journal.into_disk())
+    journal.into_disk()
 }
 
 // Reads a journal of these payloads.
-fn assert_holds<D: Disk + Drop>(
-    rt: &impl Abort,
-    disk: D,
-    room: &mut Room,
-    payloads: &[&[u8]],
-) -> Result<D, OpenError> {
-    let mut opening = match recover(disk, HEADER) {
-        Ok(opening) => opening,
-        Err((error, _disk)) => return Err(error),
+fn read_back<D: Disk + Drop>(rt: &impl Abort, disk: D, room: &mut Room, payloads: &[&[u8]]) -> D {
+    let Ok(mut opening) = opening(disk) else {
+        panic!(rt; "not opened");
     };
     for payload in payloads {
-        let place = opening.next(room)?;
-        assert!(rt; place.is_some());
-        assert_eq!(rt; room.bytes(), *payload);
+        let is_read = opening.next(room).is_ok_and(|place| place.is_some());
+        assert!(rt; is_read && room.bytes() == *payload);
     }
-    let place = opening.next(room)?;
-    assert!(rt; place.is_none());
-    Ok(opening.into_disk())
+    assert_same(rt, &"behind the payloads", &opening.next(room), &Ok(None));
+    opening.into_disk()
 }
 
-// The answer to the second call of `next` on a journal of these bytes.
-fn second(
-    alloc: Global,
-    bytes: &[u8],
-    room: &mut Room,
-) -> Result<Result<Option<u64>, OpenError>, Fail> {
-    match recover(disk(alloc, bytes, &[])?, HEADER) {
-        Ok(mut opening) => {
-            let _ = opening.next(room);
-            Ok(opening.next(room))
-        }
-        Err((error, _disk)) => Ok(Err(error)),
+// The places round the end of the first piece.
+const FIRST: usize = 4084;
+
+const LAST: usize = 4119;
+
+#[test]
+fn reads_across_pieces(rt: HostRuntime) -> Result<(), AllocError> {
+    let mut room = Room::new(rt.alloc())?;
+    let bytes = pattern();
+    for place in FIRST..=LAST {
+        assert_across(&rt, rt.alloc(), &bytes, place, &mut room)?;
     }
+    Ok(())
+}
+
+// A record that ends at the place, where the second gate stands, is read, and so is what comes behind it, unless it is cut.
+fn assert_across(
+    rt: &impl Abort,
+    alloc: Global,
+    bytes: &[u8; 8192],
+    place: usize,
+    room: &mut Room,
+) -> Result<(), AllocError> {
+    assert!(rt; 21 <= place && place <= LAST);
+    let payloads = [&bytes[..place - 21], &bytes[100..130], bytes];
+    let kept = holding(rt, disk(alloc, &[], &[], None)?, &payloads);
+    let kept = read_back(rt, kept, room, &payloads);
+    assert!(rt; kept.image().len() == place + 8233);
+    let cut = Err(OpenError::Damaged(place as u64));
+    assert_read(rt, &place, alloc, &kept.image()[..place], room, cut)
 }
 
 #[test]
-fn reads_across_pieces(rt: HostRuntime) -> Result<(), Fail> {
+fn tells_where_a_payload_is_cut(rt: HostRuntime) -> Result<(), AllocError> {
     let mut room = Room::new(rt.alloc())?;
     let bytes = pattern();
-    let long = holding(&rt, disk(rt.alloc(), &[], &[])?, &[&bytes[..30], &bytes]).ok_or("not put")?;
-    assert_eq!(rt; long.image().len(), 8249);
-    // The first record ends where the second gate stands.
-    for place in 4084..4120 {
-        let payloads = [&bytes[..place - 21], &bytes[100..130], &bytes];
-        let kept = holding(&rt, disk(rt.alloc(), &[], &[])?, &payloads).ok_or("not put")?;
-        let kept = assert_holds(&rt, kept, &mut room, &payloads)?;
-        assert_eq!(rt; kept.image().len(), place + 8233);
-        let answer = second(rt.alloc(), &kept.image()[..place], &mut room)?;
-        assert_eq!(rt;
-            answer,
-            Err(OpenError::Damaged(place as u64)),
-            "cut at the gate"
-        );
-        let answer = second(rt.alloc(), &long.image()[..place], &mut room)?;
-        assert_eq!(rt;
-            answer,
+    let long = holding(
+        &rt,
+        disk(rt.alloc(), &[], &[], None)?,
+        &[&bytes[..30], &bytes],
+    );
+    assert!(rt; long.image().len() == 8249);
+    for place in FIRST..=LAST {
+        let cut = &long.image()[..place];
+        assert_read(
+            &rt,
+            &place,
+            rt.alloc(),
+            cut,
+            &mut room,
             Err(OpenError::Damaged(51)),
-            "a payload cut at {place}"
-        );
+        )?;
     }
     Ok(())
 }
 
 #[test]
-fn reads_a_piece_at_once(rt: HostRuntime) -> Result<(), Fail> {
+fn reads_a_piece_at_once(rt: HostRuntime) -> Result<(), AllocError> {
     let mut room = Room::new(rt.alloc())?;
     let bytes = pattern();
-    let payloads = [&bytes[..]; 13];
-    let kept = holding(&rt, disk(rt.alloc(), &[], &[])?, &payloads).ok_or("not put")?;
-    assert_eq!(rt; kept.image().len(), 106_578);
+    let payloads = vec![in rt.alloc(); bytes.as_slice(); 13]?;
+    let kept = holding(&rt, disk(rt.alloc(), &[], &[], None)?, &payloads);
+    assert_same(&rt, &"its length", &kept.image().len(), &106_578);
     // The 29th call would fail.
-    let failing = disk(rt.alloc(), kept.image(), &[29])?;
-    let read = assert_holds(&rt, failing, &mut room, &payloads)?;
-    assert_eq!(rt; read.longest_read(), 4096);
+    let failing = disk(rt.alloc(), kept.image(), &[29], None)?;
+    let read = read_back(&rt, failing, &mut room, &payloads);
+    assert_same(&rt, &"the longest read", &read.longest_read(), &4096);
     Ok(())
 }

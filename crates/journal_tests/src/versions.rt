@@ -1,9 +1,10 @@
 //! What no clause says of versions: which bytes are those of the version before, and the answers at them.
 use crate::journals::{BOTH, EMPTY};
-use disk_model::MemoryDisk;
+use crate::tools::{assert_same, disk};
+use disk_model::Disk;
 use filing_journal::{FoundError, Header, OpenError, found, recover};
-use std::alloc::Global;
-use std::test::Fail;
+use std::alloc::{AllocError, Global};
+use std::process::Abort;
 
 // A header of version 2, which names version 1 as the one before.
 const SECOND: Header = Header {
@@ -26,26 +27,37 @@ const FOURTH: Header = Header {
     old: Some(1),
 };
 
-fn disk(alloc: Global, bytes: &[u8]) -> Result<MemoryDisk, Fail> {
-    Ok(MemoryDisk::new(alloc, bytes.to_vec(alloc)?, vec![in alloc]?, None)?)
-}
-
-// Why no journal with this header is opened from these bytes, if none is.
-fn unopened(alloc: Global, bytes: &[u8], header: Header) -> Result<Option<OpenError>, Fail> {
-    match recover(disk(alloc, bytes)?, header) {
-        Ok(_opening) => Ok(None),
-        Err((error, _disk)) => Ok(Some(error)),
+// Why no journal with this header is opened on a disk, if none is.
+fn unopened<D: Disk + Drop>(disk: D, header: Header) -> Option<OpenError> {
+    match recover(disk, header) {
+        Ok(_opening) => None,
+        Err((error, _disk)) => Some(error),
     }
 }
 
-// Why no journal with this header is founded in a file of these bytes, if none is.
-fn unfounded(alloc: Global, bytes: &[u8], header: Header) -> Result<Option<FoundError>, Fail> {
-    match found(disk(alloc, bytes)?, header) {
-        Ok(_journal) => Ok(None),
-        Err((error, _disk)) => Ok(Some(error)),
+// Why no journal with this header is founded on a disk, if none is.
+fn unfounded<D: Disk + Drop>(disk: D, header: Header) -> Option<FoundError> {
+    match found(disk, header) {
+        Ok(_journal) => None,
+        Err((error, _disk)) => Some(error),
     }
 }
 
+// Both answers at a file of these bytes for a header.
+fn assert_answers(
+    rt: &impl Abort,
+    alloc: Global,
+    bytes: &[u8],
+    header: Header,
+    opened: Option<OpenError>,
+    founded: Option<FoundError>,
+) -> Result<(), AllocError> {
+    let found = unopened(disk(alloc, bytes, &[], None)?, header);
+    assert_same(rt, &"why it isn't opened", &found, &opened);
+    let found = unfounded(disk(alloc, bytes, &[], None)?, header);
+    assert_same(rt, &"why none is founded", &found, &founded);
+    Ok(())
+}
 // A file, and both answers at it for version 2 with version 1 before it.
 const ANSWERS: [(&[u8], Option<OpenError>, Option<FoundError>); 9] = [
     // Version 1, without payloads and with two.
@@ -97,27 +109,23 @@ const ANSWERS: [(&[u8], Option<OpenError>, Option<FoundError>); 9] = [
 ];
 
 #[test]
-fn answers_by_the_version(rt: HostRuntime) -> Result<(), Fail> {
-    for (bytes, no_opening, no_founding) in ANSWERS {
-        let opened = unopened(rt.alloc(), bytes, SECOND)?;
-        assert_eq!(rt; opened, no_opening);
-        let founded = unfounded(rt.alloc(), bytes, SECOND)?;
-        assert_eq!(rt; founded, no_founding);
+fn answers_by_the_version(rt: HostRuntime) -> Result<(), AllocError> {
+    for (bytes, opened, founded) in ANSWERS {
+        assert_answers(&rt, rt.alloc(), bytes, SECOND, opened, founded)?;
     }
     Ok(())
 }
 
 #[test]
-fn tells_the_version_that_is_named_alone(rt: HostRuntime) -> Result<(), Fail> {
-    for bytes in [EMPTY.as_slice(), BOTH.as_slice()] {
-        let opened = unopened(rt.alloc(), bytes, ALONE)?;
-        assert_eq!(rt; opened, Some(OpenError::NotJournal));
-        let founded = unfounded(rt.alloc(), bytes, ALONE)?;
-        assert_eq!(rt; founded, Some(FoundError::NotJournal));
-        let opened = unopened(rt.alloc(), bytes, FOURTH)?;
-        assert_eq!(rt; opened, Some(OpenError::OldVersion));
-        let founded = unfounded(rt.alloc(), bytes, FOURTH)?;
-        assert_eq!(rt; founded, Some(FoundError::Exists));
-    }
-    Ok(())
+fn tells_the_version_that_is_named_alone(rt: HostRuntime) -> Result<(), AllocError> {
+    assert_alone(&rt, rt.alloc(), &EMPTY)?;
+    assert_alone(&rt, rt.alloc(), &BOTH)
+}
+
+// A file of version 1 is no journal where the header doesn't name that version as the one before.
+fn assert_alone(rt: &impl Abort, alloc: Global, bytes: &[u8]) -> Result<(), AllocError> {
+    let none = Some(OpenError::NotJournal);
+    assert_answers(rt, alloc, bytes, ALONE, none, Some(FoundError::NotJournal))?;
+    let old = Some(OpenError::OldVersion);
+    assert_answers(rt, alloc, bytes, FOURTH, old, Some(FoundError::Exists))
 }

@@ -1,6 +1,6 @@
 use Rattle.std.proofs.Common.{IsTrue, [], subst}
 use Rattle.disk_model.specs.Telling.{IsHonest}
-use Rattle.journal_tests.proofs.journals.session_lengthened.Goals as goal
+use Rattle.journal_tests.proofs.journals.lengthened.Goals as goal
 
 pub lengthen-requires-clause-stands : goal.lengthen-requires-clause-stands
 lengthen-requires-clause-stands g c honest =
