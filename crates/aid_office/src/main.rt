@@ -7,38 +7,22 @@ use filing_journal::OpenError;
 use fund_policy::{Rule, level, quarter, standard};
 use kept_runs::{RunStop, end};
 use kept_session::ReadStop;
-use office_upgrade::upgrade;
+use program_edges::{
+    fill_streams, hold, is_born, keep_in_folder, open_input, open_journal, say, words_of,
+};
 use run_office::{DeskInput, run, run_desks};
+use run_upgrade::upgrade;
 use run_web::run_web;
 use run_words::{MainRow, behind_at, is_found, needs_journal, row_of, upgrade_file};
 use stamps::Stamp;
 use std::alloc::{AllocError, Global};
-use std::fs::{File, OpenOptions, TryLockError};
+use std::fs::File;
 use std::io::ErrorKind;
 use std::net::{Ipv4Addr, Net, TcpListener, TcpStream};
-use std::os::unix::fs::FileExt;
-use std::path::Path;
 use std::process::ExitCode;
 use std::sync::Wait;
 use std::thread::Threads;
-use std::{env, fs, io};
 use web_edges::PortEdge;
-
-// The words after the program's name.
-fn words_of(rt: &HostRuntime) -> io::Result<Vec<String>> {
-    let words = env::args(rt)?.skip(1).collect(rt.alloc())?;
-    Ok(words)
-}
-
-// Opens the journal's file, or makes an empty one.
-fn open(rt: &HostRuntime, path: &str) -> io::Result<File> {
-    OpenOptions::new()
-        .read(true)
-        .write(true)
-        .create(true)
-        .truncate(false)
-        .open(rt, path)
-}
 
 // How the program is used.
 const USAGE: &str = "\
@@ -60,66 +44,12 @@ usage: aid_office JOURNAL found
        aid_office JOURNAL upgrade JOURNAL-OF-VERSION-1
        aid_office JOURNAL at DAY CLERK .. (any of these but upgrade, by this clerk on this day)";
 
-// Says a sentence on standard error. Where that can't be written there is nobody to tell.
-fn say(rt: &HostRuntime, sentence: &str) {
-    let _ = eprintln!(rt; "{sentence}");
-}
-
-// Takes the file for this run alone, until it ends. Where another run holds it, standard error says so.
-fn hold(rt: &HostRuntime, file: &File) -> bool {
-    match file.try_lock() {
-        Ok(()) => true,
-        Err(TryLockError::WouldBlock) => {
-            say(
-                rt,
-                "another run holds the journal: start this one again when that one has ended",
-            );
-            false
-        }
-        Err(TryLockError::Error(error)) => {
-            let _ = eprintln!(rt; "the journal can't be held for this run alone: {error}");
-            false
-        }
-    }
-}
-
 // Whether the words have to come to the journal: of all rows, only those of a check don't.
 fn come_to_journal(row: MainRow, words: &[String]) -> bool {
     match row {
         MainRow::Run => needs_journal(words),
         MainRow::Desks { .. } | MainRow::Serve { .. } | MainRow::Upgrade => true,
     }
-}
-
-// Whether an office may stand in the file: it has a head and a gate, and its first byte is 1.
-fn is_born(file: &File) -> io::Result<bool> {
-    let mut head = [0u8; 17];
-    match file.read_exact_at(&mut head, 0) {
-        Ok(()) => Ok(head[0] == 1),
-        Err(error) if error.kind() == ErrorKind::UnexpectedEof => Ok(false),
-        Err(error) => Err(error),
-    }
-}
-
-// Makes sure that the folder in which the file itself stands has it, where the system can say so. Links are followed.
-fn keep_in_folder(rt: &HostRuntime, path: &str) -> io::Result<()> {
-    let file = fs::canonicalize(rt, path)?;
-    let folder = file.parent().unwrap_or(Path::new("/"));
-    match File::open(rt, folder)?.sync_all() {
-        Err(error) if error.kind() == ErrorKind::InvalidInput => Ok(()),
-        synced => synced,
-    }
-}
-
-// Opens the folder / three times. Where a run begins with a standard stream closed, the first file that it opens would
-// take that stream's place, and the journal would be read as its input or written as its text; now the folder does,
-// which takes no text and gives none.
-fn fill_streams(rt: &HostRuntime) -> io::Result<[File; 3]> {
-    Ok([
-        File::open(rt, "/")?,
-        File::open(rt, "/")?,
-        File::open(rt, "/")?,
-    ])
 }
 
 // How many words stand before the files of the desks: those of a stamp, where there is one, and `desks`.
@@ -138,14 +68,9 @@ fn open_inputs(
 ) -> Result<Vec<DeskInput<ReadEdge<File>>>, ReadStop> {
     let mut desks = Vec::new(rt.alloc());
     for path in words.iter().skip(words_before_files(words)) {
-        let file = match File::open(rt, path.as_str()) {
-            Ok(file) => file,
-            Err(error) => {
-                let _ = eprintln!(rt; "{path} can't be opened: {error}");
-                return Err(ReadStop::Read);
-            }
+        let Some(input) = open_input(rt, path.as_str()) else {
+            return Err(ReadStop::Read);
         };
-        let input = ReadEdge::new(file);
         let desk = DeskInput {
             input,
             stamp: *stamp,
@@ -237,7 +162,7 @@ fn main(rt: HostRuntime) -> ExitCode {
     }
     let path = words.remove(0);
     let disk_fault = ExitCode::from(RunStop::File(OpenError::DiskFault.into()).status());
-    let file = match open(&rt, path.as_str()) {
+    let file = match open_journal(&rt, path.as_str()) {
         Ok(file) => file,
         Err(error) => {
             let _ = eprintln!(rt; "the journal can't be opened: {error}");

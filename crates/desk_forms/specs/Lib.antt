@@ -1,5 +1,5 @@
+pub use Rattle.field_lines.specs.Lines
 pub use Rattle.aid_num.specs.Whole
-pub mod Lines
 pub mod Rows
 pub mod BookLines
 pub mod BookRows

@@ -3,10 +3,10 @@ use Rattle.std.specs.Prelude.{ℕ, ◌/◌, List, [], ◌++◌, ◌+◌, codes, 
 use Rattle.aid_num.specs.Cents.{cents_text}
 use Rattle.aid_num.specs.Percents.{percent_text}
 use Rattle.aid_num.specs.Whole.{whole_text}
+use Rattle.field_lines.specs.Lines.{refused_text}
 use Rattle.aid_types.specs.Words.{formula_text, way_text}
 use Rattle.aid_filings.specs.declared.reply.Outcome.{Outcome}
 use Rattle.aid_filings.specs.declared.reply.Outcome.TheVariants.{Noted, Indexed, Paid, Returned}
-use Rattle.aid_types.specs.declared.award.Refusal.{Refusal}
 use Rattle.aid_filings.specs.declared.reply.Reply.{Reply}
 use Rattle.aid_filings.specs.declared.reply.Reply.TheVariants as reply
 use Rattle.aid_filings.specs.declared.reply.Verdict.{Verdict}
@@ -25,11 +25,6 @@ outcome_text (Returned percent school owed post) =
 abbrev pub standing_text : ℕ → ℕ → List ℕ → ℕ → Outcome → List ℕ
 standing_text row front answer position outcome =
     decimal row ++ codes " " ++ decimal front ++ answer ++ decimal position ++ codes " " ++ outcome_text outcome ++ codes "\n"
-
--- ROW FRONT refused RULE KEPT BOUND
-abbrev pub refused_text : ℕ → ℕ → Refusal → List ℕ
-refused_text row front refusal =
-    decimal row ++ codes " " ++ decimal front ++ codes " refused " ++ decimal refusal.rule ++ codes " " ++ decimal refusal.kept ++ codes " " ++ decimal refusal.bound ++ codes "\n"
 
 -- the line that answers a filing, where so many filings stood before it; the other answers have none
 abbrev pub line_of : ℕ → ℕ → Verdict → List ℕ

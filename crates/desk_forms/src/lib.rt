@@ -6,13 +6,12 @@ mod filing;
 mod form;
 mod laws;
 mod line;
-mod lines;
 mod reply;
 mod row;
 
+pub use field_lines::{put_error, put_fine, put_tally};
 pub use filing::book_filing;
 pub use form::{FilingForm, FilingSaid};
 pub use laws::once;
 pub use line::put_book_error;
-pub use lines::{put_error, put_fine, put_tally};
 pub use reply::{outcome_line, put_answer, put_line, put_quote};

@@ -4,11 +4,12 @@ ghost use Rattle.arrayvec.specs.ArrayString.{array_string_len};
 ghost use Rattle.aid_num.specs.Cents.{cents_text};
 ghost use Rattle.aid_num.specs.Percents.{percent_text};
 ghost use Rattle.aid_num.specs.Whole.{whole_text};
-ghost use Rattle.desk_forms.specs.Replies.{line_of, outcome_text, quote_line, refused_text, reply_line, standing_text};
+ghost use Rattle.desk_forms.specs.Replies.{line_of, outcome_text, quote_line, reply_line, standing_text};
 
 use aid_filings::{Outcome, Reply, Verdict};
-use aid_types::{Formula, Refusal, Way, formula_name, way_name};
+use aid_types::{Formula, Way, formula_name, way_name};
 use arrayvec::ArrayString;
+use field_lines::{push_cents, push_count, push_number, refused_line};
 use itoa::Buffer;
 use std::alloc::AllocError;
 
@@ -123,24 +124,6 @@ fn standing_line(
     line
 }
 
-// The line of a refusal.
-fn refused_line(row: u32, front: u32, refusal: &Refusal) -> ArrayString<160>
-    ensures { result.bytes ≡ refused_text row front refusal.now }
-{
-    let mut line = ArrayString::<160>::new();
-    push_count(&mut line, row);
-    line.push_str(" ");
-    push_count(&mut line, front);
-    line.push_str(" refused ");
-    push_count(&mut line, u32::from(refusal.rule));
-    line.push_str(" ");
-    push_number(&mut line, refusal.kept);
-    line.push_str(" ");
-    push_number(&mut line, refusal.bound);
-    line.push_str("\n");
-    line
-}
-
 // Appends an outcome.
 fn push_outcome(line: &mut ArrayString<160>, outcome: &Outcome)
     requires room { array_string_len line.old + 100 ≤ 160 }
@@ -222,18 +205,6 @@ fn push_percent(line: &mut ArrayString<160>, tenths: u16)
     push_digit(line, (tenths % 10) as u8);
 }
 
-// Appends an amount in cents.
-fn push_cents(line: &mut ArrayString<160>, cents: u64)
-    requires room { array_string_len line.old + 23 ≤ 160 }
-    ensures bytes { line.new.bytes ≡ line.old.bytes ++ cents_text cents }
-    ensures len { array_string_len line.new ≤ array_string_len line.old + 23 }
-{
-    push_number(line, cents / 100);
-    line.push_str(".");
-    push_digit(line, (cents / 10 % 10) as u8);
-    push_digit(line, (cents % 10) as u8);
-}
-
 // Appends a digit.
 fn push_digit(line: &mut ArrayString<160>, digit: u8)
     requires digit { digit < 10 }
@@ -249,26 +220,6 @@ fn push_whole(line: &mut ArrayString<160>, number: i32)
     requires room { array_string_len line.old + 11 ≤ 160 }
     ensures bytes { line.new.bytes ≡ line.old.bytes ++ whole_text number }
     ensures len { array_string_len line.new ≤ array_string_len line.old + 11 }
-{
-    let mut digits = Buffer::new();
-    line.push_str(digits.format(number));
-}
-
-// Appends a number of at most ten digits.
-fn push_count(line: &mut ArrayString<160>, number: u32)
-    requires room { array_string_len line.old + 10 ≤ 160 }
-    ensures bytes { line.new.bytes ≡ line.old.bytes ++ decimal number }
-    ensures len { array_string_len line.new ≤ array_string_len line.old + 10 }
-{
-    let mut digits = Buffer::new();
-    line.push_str(digits.format(number));
-}
-
-// Appends a number of at most twenty digits.
-fn push_number(line: &mut ArrayString<160>, number: u64)
-    requires room { array_string_len line.old + 20 ≤ 160 }
-    ensures bytes { line.new.bytes ≡ line.old.bytes ++ decimal number }
-    ensures len { array_string_len line.new ≤ array_string_len line.old + 20 }
 {
     let mut digits = Buffer::new();
     line.push_str(digits.format(number));

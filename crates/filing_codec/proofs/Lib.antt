@@ -1,2 +1,4 @@
+pub mod Behind
 pub mod FilingLaws
 pub mod RowLaws
+pub mod Places

@@ -10,7 +10,8 @@ use Rattle.stamped_list.specs.declared.entry.StampedEntry.{StampedEntry}
 use Rattle.stamps.specs.declared.stamp.Stamp.{Stamp}
 use Rattle.headline.specs.Written.{CanBeKept, Files, stamped_bytes}
 use Rattle.headline.specs.Rules.{AreAdmitted, may_follow}
-use Rattle.desk_forms.specs.Replies.{refused_text, standing_text}
+use Rattle.desk_forms.specs.Replies.{standing_text}
+use Rattle.field_lines.specs.Lines.{refused_text}
 
 -- records, the oldest first: an open gate, the length of what is kept of a filing in four bytes, and that
 abbrev pub records_of : List (StampedEntry Filing) → List ℕ

@@ -1,2 +1,5 @@
 pub mod EndLaws
+pub mod Excused
+pub mod ListImages
 pub mod Puts
+pub mod Shown

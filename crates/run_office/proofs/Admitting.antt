@@ -1,5 +1,5 @@
 -- The rows that file what many desks added.
-use Rattle.std.proofs.Common.{◌≡◌, ◌⊎◌, inl, inr, ⊎_elim, ℕ, zero, suc, ◌+◌, ◌-◌, ◌<◌, List, [], ◌∷◌, ◌++◌, Option, Some, None, Result, Ok, Err, length, map, reverse, get_or, length-append, append_assoc, append-nil, refl, sym, ap, ap₂, ◌∙◌, subst, arith}
+use Rattle.std.proofs.Common.{◌≡◌, ◌⊎◌, inl, inr, ⊎_elim, ℕ, zero, suc, ◌+◌, ◌-◌, ◌<◌, List, [], ◌∷◌, ◌++◌, Some, None, Result, Ok, Err, length, map, reverse, get_or, length-append, append_assoc, append-nil, refl, sym, ap, ap₂, ◌∙◌, subst, arith}
 use Rattle.std.specs.Prelude.{Contains, codes, decimal, option_map, if◌then◌else◌}
 use Rattle.std.proofs.lemmas.List.{get_or-reverse, get_or_append_left, get_or_at, length-map, length-reverse}
 use mathlib.Core.List.{reverse_aux}
@@ -36,11 +36,13 @@ use Rattle.stamped_list.specs.declared.entry.StampedAsk.{StampedAsk}
 use Rattle.stamped_list.specs.declared.entry.StampedEntry.{StampedEntry}
 use Rattle.stamped_list.specs.declared.entry.StampedError.{StampedError}
 use Rattle.stamps.specs.declared.stamp.Stamp.{Stamp}
-use Rattle.run_office.specs.DeskTexts.{admitted_text, desk_prefix, desks_text, stop_line, stop_words}
-use Rattle.run_office.specs.DesksDone.{HasNamed, by_answer, by_stop}
-use Rattle.run_office.specs.Names.{names_of}
+use Rattle.kept_crews.specs.DeskTexts.{admitted_text, desk_prefix, desks_text, stop_line, stop_words}
+use Rattle.kept_crews.specs.DesksDone.{HasNamed, by_answer, by_stop}
+use Rattle.kept_crews.specs.Names.{names_of}
+use Rattle.run_office.specs.Copies.{same_stamped}
 use Rattle.run_office.specs.RanDesks.{FilesOwn, View}
-use Rattle.run_office.proofs.NameLists.{entries_told, length-told, rows_told, told_all, told_at, told_by}
+use Rattle.kept_crews.proofs.Admits.{admits_at, in_placed}
+use Rattle.kept_crews.proofs.NameLists.{entries_told, length-told, rows_told, told_all, told_at, told_by}
 use Rattle.run_office.proofs.Replies.{IsOf, fault_of, no_files, said_in, stop_begins}
 
 -- each row that was taken says what it means
@@ -57,43 +59,8 @@ said_at stamp number (row ∷ rows) (t ∷ taken) rest (suc i) s is lt =
     said_at stamp (suc number) rows taken rest i s more (omega (arith, lt)) ∙ ap (λ (n : ℕ). (asked (row_meaning n (get_or rows i [])), stamp)) (let same : suc number + i ≡ number + suc i = omega arith in same)
 
 -- a filing that was added past others is that which was asked
-asked_of : (past : List (StampedEntry Filing)) (ask : StampedAsk Ask) (f : StampedEntry Filing) → office_judging.added past ask ≡ Some f → filing_asked ask ≡ Some f
+pub asked_of : (past : List (StampedEntry Filing)) (ask : StampedAsk Ask) (f : StampedEntry Filing) → office_judging.added past ask ≡ Some f → filing_asked ask ≡ Some f
 asked_of past ask f = stamped_added filing_judging plainly_asked plainly_added past ask f
-
--- what an ask adds has its place and its row
-in_placed : (position : ℕ) (o : Option (StampedEntry Filing)) (by : RowName) (entry : ℕ × Filed (StampedEntry Filing)) → Contains (placed position o by) entry → (o ≡ Some entry.1.entry) × (entry.0 ≡ position) × (entry.1.by ≡ by)
-in_placed position None by entry (k, lt, is) = absurd (omega (arith, lt))
-in_placed position (Some f) by entry (zero, lt, is) = (ap (λ (p : ℕ × Filed (StampedEntry Filing)). Some p.1.entry) is, sym (ap (λ (p : ℕ × Filed (StampedEntry Filing)). p.0) is), sym (ap (λ (p : ℕ × Filed (StampedEntry Filing)). p.1.by) is))
-in_placed position (Some f) by entry (suc k, lt, is) = absurd (omega (arith, lt))
-
--- the row of one answer that admits an entry
-row_admits : (by : RowName) (past : List (StampedEntry Filing)) (row : Result (StampedAsk Ask) (StampedError RowError)) (entry : ℕ × Filed (StampedEntry Filing)) → Contains (admitted_row office_judging by past row) entry
-    → (ask : StampedAsk Ask) × (row ≡ Ok ask) × (filing_asked ask ≡ Some entry.1.entry) × (entry.1.by ≡ by)
-row_admits by past (Err error) entry (k, lt, is) = absurd (omega (arith, lt))
-row_admits by past (Ok ask) entry has = let (added, at, own) = in_placed (length past + 1) (office_judging.added past ask) by entry has in (ask, refl, asked_of past ask entry.1.entry added, own)
-
--- an answer that admits an entry has its place among the answers
-abbrev AdmitsAt : ℕ → ℕ → List (Answer (StampedEntry Filing) (StampedAsk Ask) (StampedError RowError)) → ℕ × Filed (StampedEntry Filing) → Type 0
-AdmitsAt desk number answers entry = (i : ℕ) × (ask : StampedAsk Ask) × (i < length answers) × (get_or (map (λ (a : Answer (StampedEntry Filing) (StampedAsk Ask) (StampedError RowError)). a.row) answers) i (Ok ask) ≡ Ok ask)
-    × (filing_asked ask ≡ Some entry.1.entry) × (entry.1.by.desk ≡ desk) × (entry.1.by.row ≡ number + i)
-
-first_or_later : (desk number : ℕ) (a : Answer (StampedEntry Filing) (StampedAsk Ask) (StampedError RowError)) (answers : List (Answer (StampedEntry Filing) (StampedAsk Ask) (StampedError RowError))) (entry : ℕ × Filed (StampedEntry Filing))
-    → (Contains (admitted_of office_judging desk (number + 1) answers) entry → AdmitsAt desk (number + 1) answers entry)
-    → Contains (admitted_row office_judging (record { desk = desk; row = number }) a.past a.row) entry ⊎ Contains (admitted_of office_judging desk (number + 1) answers) entry
-    → AdmitsAt desk number (a ∷ answers) entry
-first_or_later desk number a answers entry more (inl here) =
-    let (ask, is, files, by) = row_admits (record { desk = desk; row = number }) a.past a.row entry here in
-    let row : entry.1.by.row ≡ number = ap (λ (r : RowName). r.row) by in
-    (0, ask, omega arith, is, files, ap (λ (r : RowName). r.desk) by, omega (arith, row))
-first_or_later desk number a answers entry more (inr later) =
-    let (i, ask, lt, is, files, of, row) = more later in
-    (suc i, ask, omega (arith, lt), is, files, of, omega (arith, row))
-
-pub admits_at : (desk number : ℕ) (answers : List (Answer (StampedEntry Filing) (StampedAsk Ask) (StampedError RowError))) (entry : ℕ × Filed (StampedEntry Filing)) → Contains (admitted_of office_judging desk number answers) entry → AdmitsAt desk number answers entry
-admits_at desk number [] entry (k, lt, is) = absurd (omega (arith, lt))
-admits_at desk number (a ∷ answers) entry has =
-    first_or_later desk number a answers entry (admits_at desk (number + 1) answers entry)
-    (Contains-append_cases (admitted_row office_judging (record { desk = desk; row = number }) a.past a.row) (admitted_of office_judging desk (number + 1) answers) entry has)
 
 -- ---- a row files what it added
 files_at : (inputs : List DeskFiles) (by : RowName) (k i : ℕ) (ask : StampedAsk Ask) (f : StampedEntry Filing) (taken : List (Result (StampedAsk Ask) (StampedError RowError))) (rest : List (stamped_texts desk_texts).Meaning)
@@ -110,7 +77,7 @@ files_at inputs by k i ask f taken rest desk row lt at files is =
 pub row_files : {opening : Stand (Filed (StampedEntry Filing))} (inputs : List DeskFiles) (k : ℕ) (before after : View) (own : FilesOwn opening before after) (entry : ℕ × Filed (StampedEntry Filing))
     → IsOf (k + 1) (get_or inputs k no_files) before → HasNamed own entry → FilesUnder (row_at inputs entry.1.by) entry.1.entry
 row_files inputs k before after own entry of (by_answer has) =
-    let (i, ask, lt, is, files, desk, row) = admits_at before.number 1 own.files.answers entry has in
+    let (i, ask, lt, is, files, desk, row) = admits_at office_judging filing_asked asked_of before.number 1 own.files.answers entry has in
     let rows = map (λ (a : Answer (StampedEntry Filing) (StampedAsk Ask) (StampedError RowError)). a.row) own.files.answers in
     let many : length rows ≡ length own.files.answers = length-map own.files.answers (λ (a : Answer (StampedEntry Filing) (StampedAsk Ask) (StampedError RowError)). a.row) in
     files_at inputs entry.1.by k i ask entry.1.entry (rows ++ own.files.taken) own.files.rest (desk ∙ of.numbered) (omega (arith, row))
@@ -284,20 +251,20 @@ admits inputs lines count (f ∷ list) each =
 
 -- the oldest first, each with the row that is told of for it
 pub admitted_lines : (inputs : List DeskFiles) (lines : List ℕ) (desks : List View) (count : ℕ) (added : List (Filed (StampedEntry Filing)))
-    → ((k n : ℕ) (d : Filed (StampedEntry Filing)) → k < length added → n ≡ count + (length added - 1 - k) → IsOwn inputs lines (told_by desks (n + 1) (get_or added k d)) n)
-    → Admitted inputs lines count (reverse (entries_of added)) (admitted_text (count + 1) (names_of desks (count + 1) (reverse (rows_of added))))
+    → ((k n : ℕ) (d : Filed (StampedEntry Filing)) → k < length added → n ≡ count + (length added - 1 - k) → IsOwn inputs lines (told_by same_stamped desks (n + 1) (get_or added k d)) n)
+    → Admitted inputs lines count (reverse (entries_of added)) (admitted_text (count + 1) (names_of same_stamped desks (count + 1) (reverse (rows_of added))))
 admitted_lines inputs lines desks count added each =
-    subst (λ l. Admitted inputs lines count l (admitted_text (count + 1) (names_of desks (count + 1) (reverse (rows_of added))))) (entries_told desks (count + 1) (reverse added) ∙ turned added [])
-    (subst (λ l. Admitted inputs lines count (entries_of told) (admitted_text (count + 1) l)) (rows_told desks (count + 1) (reverse added) ∙ ap (names_of desks (count + 1)) (turned_rows added []))
+    subst (λ l. Admitted inputs lines count l (admitted_text (count + 1) (names_of same_stamped desks (count + 1) (reverse (rows_of added))))) (entries_told same_stamped desks (count + 1) (reverse added) ∙ turned added [])
+    (subst (λ l. Admitted inputs lines count (entries_of told) (admitted_text (count + 1) l)) (rows_told same_stamped desks (count + 1) (reverse added) ∙ ap (names_of same_stamped desks (count + 1)) (turned_rows added []))
     (admits inputs lines count told behind))
   where
     told : List (Filed (StampedEntry Filing))
-    told = told_all desks (count + 1) (reverse added)
+    told = told_all same_stamped desks (count + 1) (reverse added)
 
     behind : (k : ℕ) (d : Filed (StampedEntry Filing)) → k < length told → IsOwn inputs lines (get_or told k d) (count + k)
     behind k d lt =
-        let inside : k < length added = omega (arith, lt, length-told desks (count + 1) (reverse added), length-reverse added) in
+        let inside : k < length added = omega (arith, lt, length-told same_stamped desks (count + 1) (reverse added), length-reverse added) in
         let turn : k < length (reverse added) = omega (arith, inside, length-reverse added) in
         subst (λ (f : Filed (StampedEntry Filing)). IsOwn inputs lines f (count + k))
-        (ap₂ (λ (n : ℕ) (f : Filed (StampedEntry Filing)). told_by desks n f) (let same : count + k + 1 ≡ count + 1 + k = omega arith in same) (sym (get_or-reverse added k d inside)) ∙ sym (told_at desks (count + 1) (reverse added) k d turn))
+        (ap₂ (λ (n : ℕ) (f : Filed (StampedEntry Filing)). told_by same_stamped desks n f) (let same : count + k + 1 ≡ count + 1 + k = omega arith in same) (sym (get_or-reverse added k d inside)) ∙ sym (told_at same_stamped desks (count + 1) (reverse added) k d turn))
         (each (length added - 1 - k) (count + k) d (omega (arith, inside)) (omega (arith, inside)))

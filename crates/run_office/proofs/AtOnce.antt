@@ -27,7 +27,9 @@ use Rattle.kept_list.proofs.Histories.{recovers_once}
 use Rattle.kept_office.specs.OfficeLaws.{office_alone}
 use Rattle.kept_office.specs.Recovers as kept
 use Rattle.kept_office.specs.Scheme.{office_scheme}
-use Rattle.kept_office.specs.Turns.{asked as filing_asked}
+use Rattle.kept_office.specs.Turns.{asked as filing_asked, office_judging}
+use Rattle.run_rows.specs.Asks.{desk_texts}
+use Rattle.stamped_list.specs.Rows.{stamped_texts}
 use Rattle.kept_session.specs.Links.{IsOpened}
 use Rattle.kept_session.specs.declared.stop.ReadStop.{ReadStop}
 use Rattle.kept_session.specs.declared.stop.ReadStop.TheVariants as reading
@@ -39,20 +41,24 @@ use Rattle.kept_runs.specs.Ends.{EndsWith, told, untold}
 use Rattle.kept_runs.specs.Statuses.{open_line, open_status, read_line, read_status}
 use Rattle.stamped_list.specs.Entries.{entries}
 use Rattle.stamped_list.specs.declared.entry.StampedEntry.{StampedEntry}
-use Rattle.run_office.specs.DeskTexts.{admitted_text, desks_status, desks_text}
-use Rattle.run_office.specs.DesksDone.{HasNamed}
-use Rattle.run_office.specs.Names.{names_of}
-use Rattle.run_office.specs.RanDesks.{AreRead, FilesAll, unopened, starved, worked, HasFiled, IsDeskOf, RanDesks, unasked, unread, read, View, input_at}
+use Rattle.kept_crews.specs.DeskTexts.{admitted_text, desks_status, desks_text}
+use Rattle.kept_crews.specs.DesksDone.{HasNamed}
+use Rattle.kept_crews.specs.Names.{names_of}
+use Rattle.kept_crews.specs.RanCrew.{AreRead, IsDeskOf, unopened, starved, worked, unasked, unread, read, input_at, rows_at}
+use Rattle.run_office.specs.Copies.{kept_stamped, same_stamped}
+use Rattle.run_office.specs.CopyLaws.{stamped_alike, stamped_itself, stamped_owned, stamped_tells}
+use Rattle.run_office.specs.RanDesks.{FilesAll, HasFiled, RanDesks, View, left_of, reads_of, rows_under}
 use Rattle.run_office.specs.declared.desks.DeskInput.{DeskInput}
-use Rattle.run_office.proofs.Admitting.{IsOwn, admitted_lines, numbered_at, row_files, row_shown}
-use Rattle.run_office.proofs.ByPlace.{row_behind, rows_named}
-use Rattle.run_office.proofs.Filers.{in_one}
-use Rattle.run_office.proofs.Following.{entries_append, entries_older, length-entries}
-use Rattle.run_office.proofs.NameLists.{told_by}
-use Rattle.run_office.proofs.Naming.{told_named}
-use Rattle.run_office.proofs.Named.{of_desk, seen_in_closed, undecided_at}
-use Rattle.run_office.proofs.Reading.{some_of}
-use Rattle.run_office.proofs.Replies.{IsOf, all_desks, few_statuses, no_files, said_in, status_shown, stopped_status, text_shown}
+use Rattle.run_office.proofs.Admitting.{IsOwn, admitted_lines, asked_of, numbered_at, row_files, row_shown}
+use Rattle.kept_crews.proofs.ByPlace.{row_behind, rows_named}
+use Rattle.kept_crews.proofs.Filers.{in_one}
+use Rattle.kept_crews.proofs.Following.{entries_append, entries_older, length-entries}
+use Rattle.kept_crews.proofs.NameLists.{told_by}
+use Rattle.kept_crews.proofs.Naming.{told_named}
+use Rattle.kept_crews.proofs.Named.{of_desk, seen_in_closed, undecided_at}
+use Rattle.kept_crews.proofs.Reading.{some_of}
+use Rattle.kept_crews.proofs.CrewStatus.{few_statuses, status_shown, stopped_status, text_shown}
+use Rattle.run_office.proofs.Replies.{IsOf, all_desks, no_files, said_in}
 
 -- of a run's last text a front was written, and all of it where the status isn't that of a failed write
 record Wrote {K : Type 0} (sink : SinkGhosts K) (text : List ℕ) (shown : ℕ) (out out' : K) (status : ℕ) : Type 0 where
@@ -144,7 +150,7 @@ module _ {D S K : Type 0} (disk : Ghosts D) (source : SourceGhosts S) (sink : Si
       end = wrote sink line shown status out out' writes ends
 
   -- ---- the desks filed
-  module _ (before after : List View) (has_read : AreRead source (length inputs) inputs inputs' before) (list history : List (StampedEntry Filing)) (pending : Option (StampedEntry Filing)) (log : List RowName) (waiting : Option RowName) (at : D)
+  module _ (before after : List View) (has_read : AreRead left_of rows_under (reads_of source) (length inputs) inputs inputs' before) (list history : List (StampedEntry Filing)) (pending : Option (StampedEntry Filing)) (log : List RowName) (waiting : Option RowName) (at : D)
       (opened : IsOpened disk office_scheme list old at)
       (ran : HasFiled (stand_of list None [] None (disk.faults old) (disk.tells at).honest) (stand_of history pending log waiting (disk.faults new) (disk.tells new).honest) before after)
       (sound : IsHonest (disk.tells new) → IsSound office_scheme (disk.tells new) history pending) where
@@ -187,7 +193,7 @@ module _ {D S K : Type 0} (disk : Ghosts D) (source : SourceGhosts S) (sink : Si
         i : DeskInput S
         i = some_of inputs k inside
 
-        desk : IsDeskOf (k + 1) (get_or inputs k i).stamp (input_at source inputs inputs' k i) (get_or before k d)
+        desk : IsDeskOf left_of (k + 1) (rows_at rows_under (reads_of source) inputs k i) (input_at (reads_of source) inputs inputs' k i) (get_or before k d)
         desk = has_read.each k i d inside
 
     -- where a desk stopped, the status isn't 0
@@ -203,8 +209,8 @@ module _ {D S K : Type 0} (disk : Ghosts D) (source : SourceGhosts S) (sink : Si
         subst (λ l. DeskTexts by list l status 1 files (desks_text after)) closed (subst (DeskTexts by list history status 1 files) (sym (text_shown after ran.desks ran.shown))
         (all_desks by start list history status (entries_filed list []) legal 1 files before ran.desks (has_read.count ∙ sym (length-map inputs files_of)) ran.count
         ran.each (λ k d lt. subst (λ (n : ℕ). IsOf n (get_or files k no_files) (get_or before k d)) (omega arith) (of k d lt))
-        (λ k d lt. subst (IsOlder (entries_of (ran.each k d lt).known.seen)) (entries_filed history log) (entries_older (ran.each k d lt).known.seen end.list (seen_in_closed start end before after ran k d lt)))
-        (λ k d lt. rows_named start end before after ran k d lt (1 + k) ((of k d lt).numbered ∙ omega arith))
+        (λ k d lt. subst (IsOlder (entries_of (ran.each k d lt).known.seen)) (entries_filed history log) (entries_older (ran.each k d lt).known.seen end.list (seen_in_closed office_judging filing_asked kept_stamped (stamped_texts desk_texts) left_of start end before after ran k d lt)))
+        (λ k d lt. rows_named office_judging filing_asked kept_stamped (stamped_texts desk_texts) left_of start end before after ran k d lt (1 + k) ((of k d lt).numbered ∙ omega arith))
         stopped))
 
     -- the row that a desk's entry is named by files it
@@ -216,7 +222,7 @@ module _ {D S K : Type 0} (disk : Ghosts D) (source : SourceGhosts S) (sink : Si
     named_shown count entry at (k, d, lt, named) = row_shown files ran.desks k count (get_or before k d) d (ran.each k d lt) entry (omega (arith, lt, ran.count)) (of k d lt) named at
 
     abbrev names : List RowName
-    names = names_of after (length list + 1) (reverse (rows_of ran.ran.added))
+    names = names_of same_stamped after (length list + 1) (reverse (rows_of ran.ran.added))
 
     numbers : (k : ℕ) (d : View) → k < length before → (get_or before k d).number ≡ k + 1
     numbers k d lt = (of k d lt).numbered
@@ -227,7 +233,7 @@ module _ {D S K : Type 0} (disk : Ghosts D) (source : SourceGhosts S) (sink : Si
         let many : length start.list ≡ length list = sym (length-entries start.list) ∙ ap length (entries_filed list []) in
         let here : length start.list + (length ran.ran.added - 1 - k) + 1 ≡ n + 1 = omega (arith, many, at) in
         let has = subst (λ (p : ℕ). Contains (numbered (length start.list) ran.ran.added) (p, get_or ran.ran.added k d)) here (numbered_at (length start.list) ran.ran.added k d lt) in
-        named_shown n (n + 1, told_by after (n + 1) (get_or ran.ran.added k d)) refl (told_named start end before after ran numbers (n + 1, get_or ran.ran.added k d) has)))
+        named_shown n (n + 1, told_by same_stamped after (n + 1) (get_or ran.ran.added k d)) refl (told_named office_judging filing_asked kept_stamped same_stamped (stamped_texts desk_texts) left_of asked_of stamped_tells stamped_itself stamped_owned stamped_alike start end before after ran numbers (n + 1, get_or ran.ran.added k d) has)))
 
     -- an undecided filing is a row's at which its desk stopped
     undecided_files : ShowStops → (f : StampedEntry Filing) → pending ≡ Some f → (status ≢ 0) × (by : RowName) × FilesUnder (row_at files by) f
@@ -241,7 +247,7 @@ module _ {D S K : Type 0} (disk : Ghosts D) (source : SourceGhosts S) (sink : Si
             let own = ran.each k x inside in
             let left = subst (λ l. Contains l entry) (ap left_in (ap (λ (v : View). v.pass) at ∙ own.has)) there in
             let ended = (undecided_at filing_asked _ (get_or ran.desks k x).ended own.files.taken own.files.rest own.known entry own.files.ends left).0 in
-            (stopped k x (DiskFault (Some entry.0)) inside ended, by, named_files entry (of_desk start end before after ran k x entry lt at (inr there)))
+            (stopped k x (DiskFault (Some entry.0)) inside ended, by, named_files entry (of_desk office_judging filing_asked kept_stamped (stamped_texts desk_texts) left_of start end before after ran k x entry lt at (inr there)))
 
         go : (w : Option RowName) → waiting ≡ w → (status ≢ 0) × (by : RowName) × FilesUnder (row_at files by) f
         go None none = of_row no_row (ap (λ p. filed_pending p waiting) is ∙ ap (λ w. filed_pending (Some f) w) none)
@@ -289,7 +295,7 @@ module _ {D S K : Type 0} (disk : Ghosts D) (source : SourceGhosts S) (sink : Si
       plainly (subst (λ (l : List (StampedEntry Filing)). EachMoment (disk.tells old) (disk.tells new) (λ file. kept.Recovers file l)) same
       (is.moments honest (subst (λ (l : List (StampedEntry Filing)). EachImage (disk.tells old) (λ file. kept.Recovers file l)) (sym same) kept_images)))
 
-  of_files : (before : List View) → AreRead source (length inputs) inputs inputs' before → FilesAll disk sink old new before out out' status → AtOnce
+  of_files : (before : List View) → AreRead left_of rows_under (reads_of source) (length inputs) inputs inputs' before → FilesAll disk sink old new before out out' status → AtOnce
   of_files before has_read (unopened error _ is rose ends) =
       idle_by (open_line error) (open_status error) (open_fault error (is.complete honest past (kept_images (disk.tells old).reads (here old honest)))) (plainly (is.moments honest past kept_images)) ends
   of_files before has_read (starved list _ opened ends) = idle_by (codes "fault memory\n") 9 memory_fault (moments_of_opened list opened) ends

@@ -1,19 +1,12 @@
 -- Why a command that can be done ends early: an edge failed, or there was no memory.
 use Rattle.std.proofs.Common.{◌≡◌, ◌⊎◌, inl, inr, ℕ, ◌≤◌, List, length, Result, Ok, Err, IsTrue, refl, arith}
-use Rattle.std.proofs.lemmas.Bool.{eq-eqb}
 use Rattle.std.specs.Prelude.{IfErr}
 use Rattle.aid_edges.specs.Faults.{Rose}
 use Rattle.disk_model.specs.Telling.{IsHonest}
 use Rattle.disk_model.specs.declared.disk.Disk.{Ghosts}
-use Rattle.filing_journal.specs.Head.{IsBorn, IsOld}
-use Rattle.filing_journal.specs.Stands.{IsUnborn}
-use Rattle.filing_journal.specs.declared.opening.OpenError.{OpenError}
-use Rattle.filing_journal.specs.declared.opening.OpenError.TheVariants as opening
-use Rattle.filing_journal.proofs.Unique.{not_unborn, old_not_unborn}
+use Rattle.filing_journal.specs.Head.{IsBorn}
 use Rattle.kept_list.specs.Faulty.{IsFaultyAt}
 use Rattle.kept_list.specs.Scheme.{Judging, Scheme}
-use Rattle.kept_list.specs.declared.kept.FoundFault.{FoundFault}
-use Rattle.kept_list.specs.declared.kept.FoundFault.TheVariants as fault_of
 use Rattle.kept_office.specs.Scheme.{office_scheme}
 use Rattle.kept_office.specs.Turns.{filing_judging, office_judging}
 use Rattle.desk_forms.specs.Lines.{fine_line}
@@ -26,16 +19,9 @@ use Rattle.kept_session.specs.Checks as looking
 use Rattle.kept_session.specs.Edges.{Input, Output}
 use Rattle.kept_session.specs.Reports.{Reports}
 use Rattle.kept_session.specs.Reports as telling
-use Rattle.kept_session.specs.Sessions.{FoundSession, founded, unsaid, refused, IsNotFounded, IsUnopened, IsUnread, Opens, unopened, opened, Session, unread, read, ended_filing}
 use Rattle.kept_list.specs.Texts.{Texts}
 use Rattle.kept_session.specs.declared.checking.CheckStop.{CheckStop}
 use Rattle.kept_session.specs.declared.checking.CheckTally.{CheckTally}
-use Rattle.kept_session.specs.declared.stop.FileStop.{FileStop}
-use Rattle.kept_session.specs.declared.stop.FileStop.TheVariants as filing_stop
-use Rattle.kept_session.specs.declared.stop.FoundStop.{FoundStop}
-use Rattle.kept_session.specs.declared.stop.FoundStop.TheVariants.{Founding}
-use Rattle.kept_session.specs.declared.stop.ReadStop.{ReadStop}
-use Rattle.kept_session.specs.declared.stop.ReadStop.TheVariants as reading
 use Rattle.kept_session.specs.declared.stop.SessionStop.{SessionStop}
 use Rattle.stamps.specs.declared.stamp.Stamp.{Stamp}
 use Rattle.stamped_list.specs.Rows.{stamped_rows, stamped_texts}
@@ -47,61 +33,20 @@ use Rattle.generated_year.specs.Payments.{year_judging}
 use Rattle.run_rows.specs.Asks.{book_rows, book_texts, desk_rows, desk_texts, quote_rows, quote_texts}
 use Rattle.run_office.specs.Texts.{no_verdicts, report_text}
 use Rattle.run_office.specs.Rounds.{PolicyAnswers, fund_plans, round_texts}
-use Rattle.run_office.specs.Ran.{CanBeDone, ChecksBook, ChecksRows, Counts, HasCause, Does, founding, filing, booking, quoting, reporting, funding, generating, checking_rows, checking_book, Tallies, tallied, unwritten, starved, stopped, from, up_to}
+use Rattle.run_office.specs.Ran.{CanBeDone, ChecksBook, ChecksRows, Does, founding, filing, booking, quoting, reporting, funding, generating, checking_rows, checking_book, Tallies, tallied, unwritten, starved, stopped, from, up_to}
 use Rattle.aid_edges.specs.declared.sink.Sink.{Ghosts as SinkGhosts}
+use Rattle.kept_runs.specs.Counts.{Counts, HasCause}
 use Rattle.kept_runs.specs.Ends.{Ends}
-use Rattle.kept_runs.specs.Ends as ending
 use Rattle.run_office.specs.Ran as run
-use Rattle.kept_runs.specs.Statuses.{check_status, ended_check, ended_file, ended_found, found_status, open_status, read_status, status_of}
+use Rattle.kept_runs.specs.Statuses.{check_status, ended_check, ended_file, status_of}
 use Rattle.kept_runs.specs.declared.stop.RunStop.{RunStop}
-use Rattle.kept_runs.proofs.EndLaws.{disk_cause, read_cause}
-
--- the statuses of a fault of an edge, and of want of memory
-abbrev pub IsExcused : ℕ → Type 0
-IsExcused status = (status ≡ 3) ⊎ ((status ≡ 4) ⊎ ((status ≡ 5) ⊎ (status ≡ 9)))
-
--- a founding in an unborn file
-not_founded_by : {D Entry : Type 0} (disk : Ghosts D) (scheme : Scheme Entry) (old new : D) (fault : FoundFault) → IsNotFounded disk scheme fault old new → IsHonest (disk.tells old)
-    → IsUnborn (disk.tells old).reads → IsExcused (found_status (Founding fault))
-not_founded_by disk scheme old new fault_of.Exists n honest unborn = absurd (stands (n.exists honest refl).0)
-  where
-    stands : IsBorn scheme.header (disk.tells old).reads ⊎ IsOld scheme.header (disk.tells old).reads → ⊥
-    stands (inl born) = not_unborn scheme.header (disk.tells old).reads born unborn
-    stands (inr before) = old_not_unborn scheme.header (disk.tells old).reads before unborn
-not_founded_by disk scheme old new fault_of.NotJournal n honest unborn = absurd ((n.foreign honest refl).0.not_unborn unborn)
-not_founded_by disk scheme old new fault_of.DiskFault n honest unborn = inr (inr (inl refl))
-not_founded_by disk scheme old new fault_of.NoMemory n honest unborn = inr (inr (inr refl))
-
-founded_by : {D Entry : Type 0} (disk : Ghosts D) (scheme : Scheme Entry) (old new : D) (line : List ℕ) (output : Output) (ended : Result Unit FoundStop) → FoundSession disk scheme old new line output ended
-    → IsHonest (disk.tells old) → IsUnborn (disk.tells old).reads → IfErr (ended_found ended) (λ stop. IsExcused (status_of stop))
-founded_by disk scheme old new line output ended (founded is wrote) honest unborn = tt
-founded_by disk scheme old new line output ended (unsaid is wrote) honest unborn = inr (inl refl)
-founded_by disk scheme old new line output ended (refused fault n same) honest unborn = not_founded_by disk scheme old new fault n honest unborn
-
--- the reading of an input that isn't too long
-unread_by : (stop : ReadStop) (limit : ℕ) (input : Input) → IsUnread stop limit input → IsTrue input.honest → length input.before ≤ limit → IsExcused (read_status stop)
-unread_by reading.Read limit input is honest short = inl refl
-unread_by reading.TooLong limit input is honest short = absurd (omega (arith, is honest, short))
-unread_by reading.NoMemory limit input is honest short = inr (inr (inr refl))
+use Rattle.kept_runs.proofs.Excused.{IsExcused, filed_by, founded_by, opened_by, session_by, unopened_by, unread_by}
+use Rattle.kept_runs.proofs.Shown.{ends_done}
 
 -- a session over a born file that isn't damaged
 module _ {D Entry : Type 0} (disk : Ghosts D) (scheme : Scheme Entry) (old new : D) (honest : IsHonest (disk.tells old)) (born : IsBorn scheme.header (disk.tells old).reads) (whole : (place : ℕ) → IsFaultyAt scheme (disk.tells old).reads place → ⊥) where
-  unopened_by : (error : OpenError) → IsUnopened disk scheme error old new → IsExcused (open_status error)
-  unopened_by opening.NoOffice u = absurd (not_unborn scheme.header (disk.tells old).reads born (u.unborn honest refl))
-  unopened_by opening.NotJournal u = absurd ((u.foreign honest refl).not_born born)
-  unopened_by opening.OldVersion u = absurd ((u.old honest refl).not_born born)
-  unopened_by (opening.Damaged place) u = absurd (whole place (u.damaged honest place refl).1)
-  unopened_by opening.DiskFault u = inr (inr (inl refl))
-  unopened_by opening.NoMemory u = inr (inr (inr refl))
-
-  filed_by : (ended : Result Unit FileStop) → IfErr (ended_file (ended_filing ended)) (λ stop. IsExcused (status_of stop))
-  filed_by (Ok done) = tt
-  filed_by (Err filing_stop.Write) = inr (inl refl)
-  filed_by (Err (filing_stop.DiskFault undecided)) = inr (inr (inl refl))
-  filed_by (Err filing_stop.NoMemory) = inr (inr (inr refl))
-
   reported_by : (text : List Entry → List ℕ) (output : Output) (ended : Result Unit SessionStop) → Reports disk scheme text old new output ended → IfErr (ended_file ended) (λ stop. IsExcused (status_of stop))
-  reported_by text output ended (telling.unopened error u same) = unopened_by error u
+  reported_by text output ended (telling.unopened error u same) = unopened_by disk scheme old new honest born whole error u
   reported_by text output ended (telling.told past is wrote) = tt
   reported_by text output ended (telling.unwritten past is cut) = inr (inl refl)
   reported_by text output ended (telling.starved past is same) = inr (inr (inr refl))
@@ -110,11 +55,11 @@ module _ {D Entry : Type 0} (disk : Ghosts D) (scheme : Scheme Entry) (old new :
     module _ {Tally : Type 0} (counts : Tally → Verdict → Tally) (ending : Tally → List ℕ) (start : Tally) where
       counted_by : (left : List texts.Meaning) (ended : Result Unit SessionStop) → Counted disk scheme judging texts counts ending start old new output left ended
           → IfErr (ended_file ended) (λ stop. IsExcused (status_of stop))
-      counted_by left ended (counting.unopened error u same) = unopened_by error u
+      counted_by left ended (counting.unopened error u same) = unopened_by disk scheme old new honest born whole error u
       counted_by left ended (counting.ended past at final error is counts wrote) = tt
       counted_by left ended (counting.unwritten past at final error is counts cut) = inr (inl refl)
       counted_by left ended (counting.untold past at final error is counts same) = inr (inr (inr refl))
-      counted_by left ended (counting.stopped past at final stop is counts same) = filed_by (Err stop)
+      counted_by left ended (counting.stopped past at final stop is counts same) = filed_by disk scheme old new honest born whole (Err stop)
 
       counted_session_by : (rows_of : List ℕ → List texts.Meaning) (limit : ℕ) (input : Input) (ended : Result Unit SessionStop)
           → CountedSession disk scheme judging texts counts ending start rows_of limit old new input output ended
@@ -124,19 +69,9 @@ module _ {D Entry : Type 0} (disk : Ghosts D) (scheme : Scheme Entry) (old new :
 
     planned_by : (plans : List Entry → List Ask → List ℕ → Type 0) (ended : Result Unit SessionStop) → Planned disk scheme judging texts plans old new output ended
         → IfErr (ended_file ended) (λ stop. IsExcused (status_of stop))
-    planned_by plans ended (planning.unopened error u same) = unopened_by error u
+    planned_by plans ended (planning.unopened error u same) = unopened_by disk scheme old new honest born whole error u
     planned_by plans ended (planning.unplanned past is same) = inr (inr (inr refl))
-    planned_by plans ended (planning.filed past at asks closing inner is planned closes) = filed_by inner
-
-    opened_by : (left : List texts.Meaning) (ended : Result Unit SessionStop) → Opens disk scheme judging texts old new output left ended
-        → IfErr (ended_file ended) (λ stop. IsExcused (status_of stop))
-    opened_by left ended (unopened error u same) = unopened_by error u
-    opened_by left ended (opened past now at inner is takes) = filed_by inner
-
-    session_by : (rows_of : List ℕ → List texts.Meaning) (limit : ℕ) (input : Input) (ended : Result Unit SessionStop) → Session disk scheme judging texts rows_of limit old new input output ended
-        → IsTrue input.honest → length input.before ≤ limit → IfErr (ended_file ended) (λ stop. IsExcused (status_of stop))
-    session_by rows_of limit input ended (unread stop is same silent) source short = unread_by stop limit input is source short
-    session_by rows_of limit input ended (read left inner is are opens) source short = opened_by left inner opens
+    planned_by plans ended (planning.filed past at asks closing inner is planned closes) = filed_by disk scheme old new honest born whole inner
 
 -- rows that are looked at
 looked_by : {Ask Verdict Error : Type 0} (texts : Texts Ask Verdict Error) (fine : ℕ → List ℕ) (output : Output) (rows : List (Result Ask Error)) (ended : Result CheckTally CheckStop)
@@ -189,26 +124,9 @@ done_by gives disk old new input output stamp command ended (generating generate
 done_by gives disk old new input output stamp command ended (checking_rows _ same checks) can = rows_by input output ended checks can.0 can.1
 done_by gives disk old new input output stamp command ended (checking_book _ same checks) can = book_by input output ended checks can.0 can.1
 
-ends_by : {K : Type 0} (sink : SinkGhosts K) (old new : K) (ended : Result Unit RunStop) (status : ℕ) → Ends sink old new ended status → IfErr ended (λ stop. IsExcused (status_of stop))
-    → (status ≡ 0) ⊎ IsExcused status
-ends_by sink old new ended status (ending.well same) by = inl refl
-ends_by sink old new ended status (ending.stopped stop _ (ending.told put)) by = inr by
-ends_by sink old new ended status (ending.stopped stop _ (ending.untold cut)) by = inr (inr (inl refl))
-
-unfailed : (status : ℕ) (A B C : Type 0) → (status ≡ 0) ⊎ IsExcused status → (status ≡ 3 → A) → (status ≡ 4 → B) → (status ≡ 5 → C) → (A → ⊥) → (B → ⊥) → (C → ⊥) → (status ≡ 0) ⊎ (status ≡ 9)
-unfailed status A B C (inl good) a b c no_a no_b no_c = inl good
-unfailed status A B C (inr (inl three)) a b c no_a no_b no_c = absurd (no_a (a three))
-unfailed status A B C (inr (inr (inl four))) a b c no_a no_b no_c = absurd (no_b (b four))
-unfailed status A B C (inr (inr (inr (inl five)))) a b c no_a no_b no_c = absurd (no_c (c five))
-unfailed status A B C (inr (inr (inr (inr nine)))) a b c no_a no_b no_c = inr nine
-
 -- where no edge failed, a command that can be done is done, or there was no memory
 pub complete : {D K : Type 0} (gives : PolicyAnswers) (disk : Ghosts D) (sink : SinkGhosts K) (counts : Counts) (old new : D) (input : Input) (before : Output) (at out : K) (stamp : Stamp) (command : Command) (ended : Result Unit RunStop) (status : ℕ)
     → Does gives disk old new input before stamp command ended → HasCause counts ended status → Ends sink at out ended status → CanBeDone command input.honest (length input.before) (disk.tells old)
     → (Rose counts.source.0 counts.source.1 → ⊥) → (Rose counts.sink.0 counts.sink.1 → ⊥) → (Rose counts.disk.0 counts.disk.1 → ⊥) → (status ≡ 0) ⊎ (status ≡ 9)
 complete gives disk sink counts old new input before at out stamp command ended status does cause ends can =
-    unfailed status (Rose counts.source.0 counts.source.1) (Rose counts.sink.0 counts.sink.1) (Rose counts.disk.0 counts.disk.1)
-    (ends_by sink at out ended status ends (done_by gives disk old new input before stamp command ended does can))
-    (λ three. cause.source.rose (read_cause sink at out ended status ends three))
-    (λ four. cause.sink.rose (eq-eqb status 4 four))
-    (λ five. cause.disk.rose (disk_cause sink at out ended status ends five))
+    ends_done sink counts at out ended status cause ends (done_by gives disk old new input before stamp command ended does can)

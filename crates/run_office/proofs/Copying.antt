@@ -3,7 +3,7 @@ use Rattle.std.proofs.Common.{◌≡◌, Some, None, refl, sym, ap, ◌∙◌}
 use Rattle.aid_filings.specs.declared.filing.Filing.{Filing}
 use Rattle.aid_filings.specs.declared.filing.What.{What}
 use Rattle.aid_filings.specs.declared.filing.What.TheVariants.{Book}
-use Rattle.run_office.specs.Names.{kept_filing, kept_what}
+use Rattle.run_office.specs.Copies.{kept_filing, kept_what}
 
 none_of : (filing : Filing) (what : What) → kept_what what ≡ None → kept_filing filing what ≡ None
 none_of filing (Book book) is = refl

@@ -41,7 +41,8 @@ use Rattle.stamped_list.specs.declared.entry.StampedEntry.{StampedEntry}
 use Rattle.stamped_list.specs.declared.entry.StampedError.{StampedError}
 use Rattle.kept_runs.specs.Ends.{EndsWith, told, untold}
 use Rattle.kept_runs.specs.Statuses.{session_line, session_status}
-use Rattle.run_office.specs.Ran.{FileRan, written}
+use Rattle.kept_runs.specs.Counts.{written}
+use Rattle.run_office.specs.Ran.{FileRan}
 
 -- ---- the end of a run
 -- a text is a line that says what failed, or a front of it

@@ -6,15 +6,12 @@ use Rattle.aid_filings.specs.declared.reply.Ask.{Ask}
 use Rattle.field_rows.specs.declared.error.RowError.{RowError}
 use Rattle.disk_model.specs.Telling.{EachImage, EachMoment, IsHonest}
 use Rattle.disk_model.specs.declared.disk.Disk.{Ghosts}
-use Rattle.disk_model.proofs.Moments.{each_moment_of_read, started, weaken}
-use Rattle.filing_journal.specs.Stands.{IsUnborn}
-use Rattle.filing_journal.proofs.Unique.{born, not_unborn}
-use Rattle.kept_list.specs.Recovers.{payloads_of}
+use Rattle.disk_model.proofs.Moments.{started, weaken}
 use Rattle.kept_list.specs.Turns.{with_entry}
 use Rattle.kept_list.proofs.Histories.{recovers_once}
 use Rattle.kept_office.specs.OfficeLaws.{office_alone}
 use Rattle.kept_office.specs.Recovers.{Recovers}
-use Rattle.kept_office.specs.Scheme.{office_header, office_scheme}
+use Rattle.kept_office.specs.Scheme.{office_scheme}
 use Rattle.kept_office.specs.Turns.{filing_added, filing_judging, office_judging}
 use Rattle.generated_year.specs.Texts.{rows_of_text, year_texts}
 use Rattle.generated_year.specs.Counted.{year_counted, year_ending}
@@ -27,9 +24,8 @@ use Rattle.kept_session.specs.Edges.{Input, Output}
 use Rattle.kept_session.specs.Links.{IsOpened}
 use Rattle.kept_session.specs.Reports.{Reports}
 use Rattle.kept_session.specs.Reports as telling
-use Rattle.kept_session.specs.Sessions.{FoundSession, founded, unsaid, refused, Opens, Session, read}
+use Rattle.kept_session.specs.Sessions.{Opens, Session, read}
 use Rattle.kept_list.specs.Texts.{after_row, after_rows}
-use Rattle.kept_session.specs.declared.stop.FoundStop.{FoundStop}
 use Rattle.kept_session.specs.declared.stop.SessionStop.{SessionStop}
 use Rattle.kept_session.proofs.Fronts.{images_of_session, moments_of_session}
 use Rattle.office_history.specs.Answer.{answer_to, is_admit}
@@ -51,8 +47,9 @@ use Rattle.run_office.specs.Texts.{no_verdicts, report_text}
 use Rattle.run_office.specs.Rounds.{PolicyAnswers, fund_plans, round_texts}
 use Rattle.run_office.specs.Moments.{MayRecover, RoundStands, Stands, StoodBefore}
 use Rattle.run_office.specs.Ran.{Does, founding, filing, booking, quoting, reporting, funding, generating, checking_rows, checking_book}
-use Rattle.kept_runs.specs.Statuses.{ended_file, ended_found}
+use Rattle.kept_runs.specs.Statuses.{ended_file}
 use Rattle.kept_runs.specs.declared.stop.RunStop.{RunStop}
+use Rattle.kept_runs.proofs.ListImages.{moments_of_found, stands_of_found, stays}
 
 -- a file recovers one history at most
 once : (file : List ℕ) (one other : List (StampedEntry Filing)) → Recovers file one → Recovers file other → one ≡ other
@@ -141,27 +138,6 @@ module _ {D : Type 0} (gives : PolicyAnswers) (disk : Ghosts D) (only : (d : D) 
   abbrev Each : D → List (StampedEntry Filing) → Type 0
   Each at past = EachImage (disk.tells at) (λ file. Recovers file past)
 
-  -- where no call was made
-  stays : (old new : D) (past : List (StampedEntry Filing)) → IsHonest (disk.tells old) → Each old past → new ≡ old → EachMoment (disk.tells old) (disk.tells new) (λ file. Recovers file past)
-  stays old new past honest each same =
-      subst (λ (d : D). EachMoment (disk.tells old) (disk.tells d) (λ file. Recovers file past)) (sym same)
-      (started (disk.tells old) (λ file. Recovers file past) (λ c since. each c (only old c honest since)))
-
-  -- a disk whose images recover a list isn't unborn
-  is_born : (old : D) (past : List (StampedEntry Filing)) → IsHonest (disk.tells old) → Each old past → IsUnborn (disk.tells old).reads → ⊥
-  is_born old past honest each =
-      not_unborn office_header (disk.tells old).reads (born office_header (disk.tells old).reads (payloads_of office_scheme.spelling past) (each (disk.tells old).reads (here old honest)).stands)
-
-  -- a founding there only looks
-  moments_of_found : (old new : D) (line : List ℕ) (output : Output) (ended : Result Unit FoundStop) (past : List (StampedEntry Filing)) → IsHonest (disk.tells old) → Each old past
-      → FoundSession disk office_scheme old new line output ended → EachMoment (disk.tells old) (disk.tells new) (λ file. Recovers file past)
-  moments_of_found old new line output ended past honest each (founded is wrote) = absurd (is_born old past honest each (is.unborn honest))
-  moments_of_found old new line output ended past honest each (unsaid is wrote) = absurd (is_born old past honest each (is.unborn honest))
-  moments_of_found old new line output ended past honest each (refused fault n same) =
-      ⊎_elim (λ unborn. absurd (is_born old past honest each unborn))
-      (λ looked. each_moment_of_read (disk.tells old) (disk.tells new) (λ file. Recovers file past) (λ c since. only old c honest since) each looked)
-      (n.untouched honest)
-
   -- a quote is a session over an input that has no bytes, and says what is asked
   as_session : (quote : QuoteRequest) (stamp : Stamp) (old new : D) (output : Output) (ended : Result Unit SessionStop) → Opens disk office_scheme office_judging (stamped_texts quote_texts) old new output (stamped_rows stamp (quote_rows quote)) ended
       → Session disk office_scheme office_judging (stamped_texts quote_texts) (λ text. stamped_rows stamp (quote_rows quote)) 0 old new (record { honest = true; before = []; after = [] }) output ended
@@ -185,7 +161,7 @@ module _ {D : Type 0} (gives : PolicyAnswers) (disk : Ghosts D) (only : (d : D) 
 
   moments : (stamp : Stamp) (old new : D) (input : Input) (output : Output) (command : Command) (ended : Result Unit RunStop) (past : List (StampedEntry Filing)) → Does gives disk old new input output stamp command ended
       → IsHonest (disk.tells old) → Each old past → EachMoment (disk.tells old) (disk.tells new) (MayRecover gives stamp command input past)
-  moments stamp old new input output command ended past (founding inner session) honest each = moments_of_found old new _ output inner past honest each session
+  moments stamp old new input output command ended past (founding inner session) honest each = moments_of_found disk office_scheme only here old new _ output inner past honest each session
   moments stamp old new input output command ended past (filing inner session) honest each =
       moments_of_session disk office_scheme office_judging only (stamped_texts desk_texts) output once (desk_under stamp) 16777216 input here inner past old new honest each session
   moments stamp old new input output command ended past (booking book inner session) honest each =
@@ -201,8 +177,8 @@ module _ {D : Type 0} (gives : PolicyAnswers) (disk : Ghosts D) (only : (d : D) 
   moments stamp old new input output command ended past (generating generate inner session) honest each =
       moments_of_counted_session disk office_scheme (stamped_judging (year_judging filing_judging)) only (stamped_texts year_texts) once here year_counted year_ending no_verdicts
       (year_under stamp generate) 16777216 input output inner past old new honest each session
-  moments stamp old new input output command ended past (checking_rows _ same checks) honest each = stays old new past honest each same
-  moments stamp old new input output command ended past (checking_book _ same checks) honest each = stays old new past honest each same
+  moments stamp old new input output command ended past (checking_rows _ same checks) honest each = stays disk office_scheme only here (λ file. Recovers file past) old new honest each same
+  moments stamp old new input output command ended past (checking_book _ same checks) honest each = stays disk office_scheme only here (λ file. Recovers file past) old new honest each same
 
   -- where no command was begun
   pub moments_unread : (stamp : Stamp) (old : D) (input : Input) (command : Command) (past : List (StampedEntry Filing)) → IsHonest (disk.tells old) → Each old past → EachMoment (disk.tells old) (disk.tells old) (MayRecover gives stamp command input past)
@@ -219,12 +195,6 @@ module _ {D : Type 0} (gives : PolicyAnswers) (disk : Ghosts D) (only : (d : D) 
   session_done : (ended : Result Unit SessionStop) → ended_file ended ≡ Ok tt → ended ≡ Ok tt
   session_done (Ok done) is = refl
   session_done (Err stop) is = absurd (let bad : ⊥ = cc in bad)
-
-  stands_of_found : (old new : D) (line : List ℕ) (output : Output) (ended : Result Unit FoundStop) → IsHonest (disk.tells old)
-      → FoundSession disk office_scheme old new line output ended → ended_found ended ≡ Ok tt → Each new []
-  stands_of_found old new line output ended honest (founded is wrote) well = is.images honest
-  stands_of_found old new line output ended honest (unsaid is wrote) well = absurd (let bad : ⊥ = cc in bad)
-  stands_of_found old new line output ended honest (refused fault n same) well = absurd (let bad : ⊥ = cc in bad)
 
   stands_of_report : (old new : D) (text : List (StampedEntry Filing) → List ℕ) (output : Output) (ended : Result Unit SessionStop) (past : List (StampedEntry Filing)) → IsHonest (disk.tells old) → Recovers (disk.tells old).reads past
       → Reports disk office_scheme text old new output ended → ended ≡ Ok tt → Each new past
@@ -255,7 +225,7 @@ module _ {D : Type 0} (gives : PolicyAnswers) (disk : Ghosts D) (only : (d : D) 
 
   stands : (stamp : Stamp) (old new : D) (input : Input) (output : Output) (command : Command) (ended : Result Unit RunStop) (past : List (StampedEntry Filing)) → Does gives disk old new input output stamp command ended
       → ended ≡ Ok tt → IsHonest (disk.tells old) → StoodBefore command (disk.tells old).reads past → Stands gives stamp command input past (disk.tells new)
-  stands stamp old new input output command ended past (founding inner session) well honest stood = stands_of_found old new _ output inner honest session well
+  stands stamp old new input output command ended past (founding inner session) well honest stood = stands_of_found disk office_scheme only here old new _ output inner honest session well
   stands stamp old new input output command ended past (filing inner session) well honest stood =
       images_of_session disk office_scheme office_judging only (stamped_texts desk_texts) output once (desk_under stamp) 16777216 input inner past old new (session_done inner well) honest stood session
   stands stamp old new input output command ended past (booking book inner session) well honest stood =

@@ -1,9 +1,6 @@
 -- The lines of desks, as replies to their rows.
-use Rattle.std.proofs.Common.{◌≡◌, ◌≢◌, ◌⊎◌, inl, inr, ℕ, suc, ◌+◌, ◌<◌, Bool, true, false, List, [], ◌∷◌, ◌++◌, Some, None, Result, length, map, get_or, append_assoc, append-nil, refl, sym, ap, ap₂, ◌∙◌, subst, arith}
-use Rattle.std.specs.Prelude.{◌||◌, codes, decimal, if◌then◌else◌}
-use Rattle.std.specs.List.{list_any}
-use Rattle.std.proofs.lemmas.Bool.{false≢true}
-use Rattle.std.proofs.lemmas.List.Folds.{list_any_at}
+use Rattle.std.proofs.Common.{◌≡◌, ◌≢◌, ◌⊎◌, inl, inr, ℕ, suc, ◌+◌, ◌<◌, List, [], ◌∷◌, ◌++◌, Some, None, Result, length, map, get_or, append_assoc, append-nil, refl, sym, ap, ap₂, ◌∙◌, subst, arith}
+use Rattle.std.specs.Prelude.{codes, decimal}
 use Rattle.aid_filings.specs.declared.filing.Filing.{Filing}
 use Rattle.aid_filings.specs.declared.reply.Ask.{Ask}
 use Rattle.desk_forms.specs.Rows.{meanings_from, row_meaning}
@@ -14,7 +11,6 @@ use Rattle.headline.specs.Filed.{IsFault, Row}
 use Rattle.headline.proofs.Office.{answered_under}
 use Rattle.kept_desks.specs.Answered.{Answer, Ends, Follows, answer_lines}
 use Rattle.kept_desks.specs.DeskTexts.{desk_text, stop_at, stop_text}
-use Rattle.kept_desks.specs.Desks.{all_shown, shown_of}
 use Rattle.kept_list.specs.Names.{entries_of}
 use Rattle.kept_list.specs.declared.names.Filed.{Filed}
 use Rattle.kept_list.specs.declared.names.RowName.{RowName}
@@ -35,10 +31,10 @@ use Rattle.stamped_list.specs.declared.entry.StampedAsk.{StampedAsk}
 use Rattle.stamped_list.specs.declared.entry.StampedEntry.{StampedEntry}
 use Rattle.stamped_list.specs.declared.entry.StampedError.{StampedError}
 use Rattle.stamps.specs.declared.stamp.Stamp.{Stamp}
-use Rattle.run_office.specs.DeskTexts.{desk_prefix, desks_status, desks_text, had_disk_fault, had_no_memory, stop_line, stop_words}
+use Rattle.kept_crews.specs.DeskTexts.{desk_prefix, desks_text, stop_line, stop_words}
 use Rattle.run_office.specs.RanDesks.{FilesOwn, View, left_of}
-use Rattle.run_office.proofs.ByPlace.{AreNamed}
-use Rattle.run_office.proofs.Following.{follows_older, older_refl, older_trans}
+use Rattle.kept_crews.proofs.ByPlace.{AreNamed}
+use Rattle.kept_crews.proofs.Following.{follows_older, older_refl, older_trans}
 
 -- a part of a legal history is legal
 legal_behind : (added old : List (StampedEntry Filing)) → IsLegal (entries (added ++ old)) → IsLegal (entries old)
@@ -95,7 +91,7 @@ stop_begins prefix row stop = ap (λ l. prefix ++ l) (words stop) ∙ (sym (appe
 
 -- one row more, in front
 reply : (by : ℕ → RowName) (desk number : ℕ) (stamp : Stamp) (closed seen now : List (StampedEntry Filing)) (a : Answer (StampedEntry Filing) (StampedAsk Ask) (StampedError RowError)) (answers : List (Answer (StampedEntry Filing) (StampedAsk Ask) (StampedError RowError))) (row : Row) (rows : List Row) (left : List (stamped_texts desk_texts).Meaning)
-    → IsLegal (entries closed) → IsOlder now closed → Follows office_judging seen (a ∷ answers) now → AreNamed by desk number (a ∷ answers) → said_under said_by a.row ≡ (asked (row_meaning number row), stamp)
+    → IsLegal (entries closed) → IsOlder now closed → Follows office_judging seen (a ∷ answers) now → AreNamed office_judging by desk number (a ∷ answers) → said_under said_by a.row ≡ (asked (row_meaning number row), stamp)
     → Replied by desk stamp closed (number + 1) rows (after_row office_judging a.past a.row) (length answers) left (answer_lines office_judging (stamped_texts desk_texts) (desk_prefix desk) (number + 1) answers)
     → Replied by desk stamp closed number (row ∷ rows) seen (length (a ∷ answers)) left (answer_lines office_judging (stamped_texts desk_texts) (desk_prefix desk) number (a ∷ answers))
 reply by desk number stamp closed seen now a answers row rows left legal older follows named means more = record {
@@ -115,7 +111,7 @@ reply by desk number stamp closed seen now a answers row rows left legal older f
 
 -- the answers of a desk are replies to its rows in front
 replied : (by : ℕ → RowName) (desk number : ℕ) (stamp : Stamp) (closed seen now : List (StampedEntry Filing)) (answers : List (Answer (StampedEntry Filing) (StampedAsk Ask) (StampedError RowError))) (taken : List (Result (StampedAsk Ask) (StampedError RowError))) (rest : List (stamped_texts desk_texts).Meaning) (rows : List Row)
-    → IsLegal (entries closed) → IsOlder now closed → Follows office_judging seen answers now → AreNamed by desk number answers
+    → IsLegal (entries closed) → IsOlder now closed → Follows office_judging seen answers now → AreNamed office_judging by desk number answers
     → said_from number stamp rows ≡ map (said_under said_by) (map (λ (a : Answer (StampedEntry Filing) (StampedAsk Ask) (StampedError RowError)). a.row) answers ++ taken) ++ rest
     → Replied by desk stamp closed number rows seen (length answers) (map (said_under said_by) taken ++ rest) (answer_lines office_judging (stamped_texts desk_texts) (desk_prefix desk) number answers)
 replied by desk number stamp closed seen now [] taken rest rows legal older follows named is = record {
@@ -143,7 +139,7 @@ pub record IsOf (number : ℕ) (files : DeskFiles) (desk : View) : Type 0 where
 module _ (by : ℕ → RowName) (opening : Stand (Filed (StampedEntry Filing))) (past closed : List (StampedEntry Filing)) (status : ℕ) (opens : entries_of opening.list ≡ past) (legal : IsLegal (entries closed)) where
   -- what a desk writes
   one_desk : (number : ℕ) (files : DeskFiles) (before after : View) (own : FilesOwn opening before after) → IsOf number files before → IsOlder (entries_of own.known.seen) closed
-      → AreNamed by number 1 own.files.answers → ((stop : DeskStop) → after.ended ≡ Stopped stop → status ≢ 0) → DeskText by number files.0 files.1 past closed status (desk_text (stop_line after.prefix) after)
+      → AreNamed office_judging by number 1 own.files.answers → ((stop : DeskStop) → after.ended ≡ Stopped stop → status ≢ 0) → DeskText by number files.0 files.1 past closed status (desk_text (stop_line after.prefix) after)
   one_desk number files before after own of older named stopped = record {
     answered = replies.front;
     left = replies.behind;
@@ -179,7 +175,7 @@ module _ (by : ℕ → RowName) (opening : Stand (Filed (StampedEntry Filing))) 
       → (each : (k : ℕ) (d : View) → k < length before → FilesOwn opening (get_or before k d) (get_or desks k d))
       → ((k : ℕ) (d : View) → k < length before → IsOf (number + k) (get_or inputs k no_files) (get_or before k d))
       → ((k : ℕ) (d : View) (lt : k < length before) → IsOlder (entries_of (each k d lt).known.seen) closed)
-      → ((k : ℕ) (d : View) (lt : k < length before) → AreNamed by (number + k) 1 (each k d lt).files.answers)
+      → ((k : ℕ) (d : View) (lt : k < length before) → AreNamed office_judging by (number + k) 1 (each k d lt).files.answers)
       → ((k : ℕ) (d : View) (stop : DeskStop) → k < length before → (get_or desks k d).ended ≡ Stopped stop → status ≢ 0) → DeskTexts by past closed status number inputs (desks_text desks)
   all_desks number [] [] [] one two each of older named stopped = many.none number
   all_desks number [] [] (d ∷ desks) one two each of older named stopped = absurd (omega (arith, two))
@@ -189,56 +185,8 @@ module _ (by : ℕ → RowName) (opening : Stand (Filed (StampedEntry Filing))) 
   all_desks number (files ∷ inputs) (b ∷ before) (d ∷ desks) one two each of older named stopped =
       many.more number files inputs (desk_text (stop_line d.prefix) d) (desks_text desks)
       (one_desk number files b d (each 0 b (omega arith)) (subst (λ (n : ℕ). IsOf n files b) (omega arith) (of 0 b (omega arith))) (older 0 b (omega arith))
-      (subst (λ (n : ℕ). AreNamed by n 1 (each 0 b (omega arith)).files.answers) (omega arith) (named 0 b (omega arith))) (λ stop is. stopped 0 b stop (omega arith) is))
+      (subst (λ (n : ℕ). AreNamed office_judging by n 1 (each 0 b (omega arith)).files.answers) (omega arith) (named 0 b (omega arith))) (λ stop is. stopped 0 b stop (omega arith) is))
       (all_desks (number + 1) inputs before desks (omega (arith, one)) (omega (arith, two)) (λ k x lt. each (suc k) x (omega (arith, lt)))
       (λ k x lt. subst (λ (n : ℕ). IsOf n (get_or inputs k no_files) (get_or before k x)) (omega arith) (of (suc k) x (omega (arith, lt))))
       (λ k x lt. older (suc k) x (omega (arith, lt)))
-      (λ k x lt. subst (λ (n : ℕ). AreNamed by n 1 (each (suc k) x (omega (arith, lt))).files.answers) (omega arith) (named (suc k) x (omega (arith, lt)))) (λ k x stop lt is. stopped (suc k) x stop (omega (arith, lt)) is))
-
--- ---- what is shown of desks
--- their texts are
-pub text_shown : (one other : List View) → all_shown one ≡ all_shown other → desks_text one ≡ desks_text other
-text_shown [] [] same = refl
-text_shown [] (y ∷ other) same = absurd (let bad : ⊥ = cc in bad)
-text_shown (x ∷ one) [] same = absurd (let bad : ⊥ = cc in bad)
-text_shown (x ∷ one) (y ∷ other) same =
-    let first : shown_of x ≡ shown_of y = cc in
-    let more : all_shown one ≡ all_shown other = cc in
-    ap₂ (λ l r. l ++ r) (ap (λ s. s.3 ++ stop_text (stop_line s.1) (stop_at s.0 s.4 s.5)) first) (text_shown one other more)
-
-any_shown : (test : DeskEnd → Bool) (one other : List View) → all_shown one ≡ all_shown other → list_any (λ (d : View). test d.ended) one ≡ list_any (λ (d : View). test d.ended) other
-any_shown test [] [] same = refl
-any_shown test [] (y ∷ other) same = absurd (let bad : ⊥ = cc in bad)
-any_shown test (x ∷ one) [] same = absurd (let bad : ⊥ = cc in bad)
-any_shown test (x ∷ one) (y ∷ other) same =
-    let first : shown_of x ≡ shown_of y = cc in
-    let more : all_shown one ≡ all_shown other = cc in
-    ap₂ (λ (a b : Bool). a || b) (ap (λ s. test s.5) first) (any_shown test one other more)
-
-abbrev status_by : Bool → Bool → ℕ
-status_by faulted starved = if faulted then 5 else if starved then 9 else 0
-
-pub status_shown : (one other : List View) → all_shown one ≡ all_shown other → desks_status one ≡ desks_status other
-status_shown one other same = ap₂ status_by (any_shown had_disk_fault one other same) (any_shown had_no_memory one other same)
-
--- ---- the status
-status_some : (faulted starved : Bool) → (faulted ≡ true) ⊎ (starved ≡ true) → status_by faulted starved ≢ 0
-status_some true starved some zero_is = omega (arith, zero_is)
-status_some false true some zero_is = omega (arith, zero_is)
-status_some false false (inl is) zero_is = false≢true is
-status_some false false (inr is) zero_is = false≢true is
-
-status_few : (faulted starved : Bool) (n : ℕ) → 0 < n → n ≢ 5 → n ≢ 9 → status_by faulted starved ≢ n
-status_few true starved n some five nine is = five (sym is)
-status_few false true n some five nine is = nine (sym is)
-status_few false false n some five nine is = omega (arith, some, is)
-
-pub stopped_status : (desks : List View) (k : ℕ) (d : View) (stop : DeskStop) → k < length desks → (get_or desks k d).ended ≡ Stopped stop → desks_status desks ≢ 0
-stopped_status desks k d stop lt is = status_some (list_any (λ (x : View). had_disk_fault x.ended) desks) (list_any (λ (x : View). had_no_memory x.ended) desks) (some stop is)
-  where
-    some : (s : DeskStop) → (get_or desks k d).ended ≡ Stopped s → (list_any (λ (x : View). had_disk_fault x.ended) desks ≡ true) ⊎ (list_any (λ (x : View). had_no_memory x.ended) desks ≡ true)
-    some (DiskFault undecided) at = inl (list_any_at (λ (x : View). had_disk_fault x.ended) desks k d lt (ap had_disk_fault at))
-    some NoMemory at = inr (list_any_at (λ (x : View). had_no_memory x.ended) desks k d lt (ap had_no_memory at))
-
-pub few_statuses : (desks : List View) (n : ℕ) → 0 < n → n ≢ 5 → n ≢ 9 → desks_status desks ≢ n
-few_statuses desks = status_few (list_any (λ (x : View). had_disk_fault x.ended) desks) (list_any (λ (x : View). had_no_memory x.ended) desks)
+      (λ k x lt. subst (λ (n : ℕ). AreNamed office_judging by n 1 (each (suc k) x (omega (arith, lt))).files.answers) (omega arith) (named (suc k) x (omega (arith, lt)))) (λ k x stop lt is. stopped (suc k) x stop (omega (arith, lt)) is))

@@ -1,15 +1,15 @@
 -- What the status of a run shows.
-use Rattle.std.proofs.Common.{◌≡◌, ℕ, Bool, List, Result, Ok, Err, ap, arith, length, refl, subst}
-use Rattle.std.proofs.lemmas.Bool.{true≢false}
+use Rattle.std.proofs.Common.{◌≡◌, ℕ, List, Result, Ok, Err, ap, arith, length, refl, subst}
 use Rattle.aid_edges.specs.declared.sink.Sink.{Ghosts as SinkGhosts}
 use Rattle.disk_model.specs.declared.disk.Disk.{Ghosts}
 use Rattle.kept_session.specs.Edges.{Input}
 use Rattle.run_office.specs.Rounds.{PolicyAnswers}
-use Rattle.run_office.specs.Ran.{Counts, Does, FileRan, HasCause, Ran, Shows, booking, checking_book, checking_rows, did, filing, founding, funding, generating, no_memory, no_row, quoting, reporting, unread_words, written}
+use Rattle.run_office.specs.Ran.{Does, FileRan, Ran, booking, checking_book, checking_rows, did, filing, founding, funding, generating, no_memory, no_row, quoting, reporting, unread_words}
 use Rattle.stamps.specs.declared.stamp.Stamp.{Stamp}
 use Rattle.run_words.specs.declared.command.Command.{Command}
 use Rattle.run_words.specs.declared.command.Command.TheVariants as commands
-use Rattle.kept_runs.specs.Ends.{Ends, EndsWith, Moved, stopped, told, untold, well}
+use Rattle.kept_runs.specs.Counts.{Counts, Shows, written}
+use Rattle.kept_runs.specs.Ends.{Ends, EndsWith, stopped, well}
 use Rattle.kept_runs.specs.Statuses.{ended_file, fault_line, session_line, session_status, status_of}
 use Rattle.kept_session.specs.Sessions as sessions
 use Rattle.kept_session.specs.declared.stop.ReadStop.TheVariants as reading
@@ -17,16 +17,7 @@ use Rattle.kept_session.specs.declared.stop.SessionStop.{SessionStop}
 use Rattle.kept_session.specs.declared.stop.SessionStop.TheVariants.{Reading}
 use Rattle.kept_runs.specs.declared.stop.RunStop.{RunStop}
 use Rattle.kept_runs.specs.declared.stop.RunStop.TheVariants.{File, Usage}
-use Rattle.kept_runs.proofs.EndLaws.{shown}
-
-ends_show : {K : Type 0} (sink : SinkGhosts K) (old new : K) (counts : Counts) (ended : Result Unit RunStop) (status : ℕ) → HasCause counts ended status → Ends sink old new ended status → Shows counts status
-ends_show sink old new counts ended status cause (well same) = record { sink = cause.sink; source = λ other. cause.source; disk = λ other. cause.disk }
-ends_show sink old new counts ended status cause (stopped stop _ (told put)) = record {
-  sink = cause.sink;
-  source = λ other. subst (λ (b : Bool). Moved b counts.source) (shown stop).read cause.source;
-  disk = λ other. subst (λ (b : Bool). Moved b counts.disk) (shown stop).disk cause.disk;
-}
-ends_show sink old new counts ended status cause (stopped stop _ (untold cut)) = record { sink = cause.sink; source = λ other. absurd (true≢false other); disk = λ other. absurd (true≢false other) }
+use Rattle.kept_runs.proofs.Shown.{ends_show}
 
 -- of a whole run
 pub run_shows : {D K : Type 0} (names : List (List ℕ)) (gives : PolicyAnswers) (disk : Ghosts D) (sink : SinkGhosts K) (counts : Counts) (words : List (List ℕ)) (old new : D) (input : Input) (out out' : K) (status : ℕ)

@@ -1,6 +1,5 @@
-pub mod DeskTexts
-pub mod Names
-pub mod DesksDone
+pub mod Copies
+pub mod CopyLaws
 pub mod RanDesks
 pub mod Moments
 pub mod Ran

@@ -38,8 +38,9 @@ use Rattle.run_office.specs.Rounds.{PolicyAnswers, fund_plans, round_texts}
 use Rattle.stamps.specs.declared.stamp.Stamp.{Stamp}
 use Rattle.stamped_list.specs.Rows.{stamped_rows, stamped_texts}
 use Rattle.stamped_list.specs.Stamped.{stamped_judging}
-use Rattle.kept_runs.specs.Ends.{Ends, EndsWith, IsShort, Moved}
-use Rattle.kept_runs.specs.Statuses.{ended_check, ended_file, ended_found, is_disk_fault, is_read_fault, session_line, session_status}
+use Rattle.kept_runs.specs.Counts.{Counts, HasCause, written}
+use Rattle.kept_runs.specs.Ends.{Ends, EndsWith, IsShort}
+use Rattle.kept_runs.specs.Statuses.{ended_check, ended_file, ended_found, session_line, session_status}
 use Rattle.kept_runs.specs.declared.stop.RunStop.{RunStop}
 use Rattle.kept_runs.specs.declared.stop.RunStop.TheVariants as stops
 
@@ -49,10 +50,6 @@ up_to text output = record output { after = text }
 
 abbrev pub from : List ℕ → Output → Output
 from text output = record output { before = text }
-
--- what a sink has taken between two states of it
-abbrev pub written : {K : Type 0} → SinkGhosts K → K → K → Output
-written sink old new = record { honest = sink.honest old; before = sink.text old; after = sink.text new }
 
 -- What follows the lines of rows that were looked at: `rows N errors M`, where all of them were.
 pub data Tallies (output : Output) : Result CheckTally CheckStop → Result Unit RunStop → Type 0 where
@@ -104,26 +101,6 @@ pub data Does {D : Type 0} (gives : PolicyAnswers) (disk : Ghosts D) (old new : 
   -- `check rows` and `check book`: lines are written, and no call is made on the disk
   checking_rows : (ended : Result Unit RunStop) → new ≡ old → ChecksRows input output ended → Does gives disk old new input output stamp CheckRows ended
   checking_book : (ended : Result Unit RunStop) → new ≡ old → ChecksBook input output ended → Does gives disk old new input output stamp CheckBook ended
-
--- the counts of faults before and after: of the source, the sink and the disk
-pub record Counts : Type 0 where
-  pub source : ℕ × ℕ
-  pub sink : ℕ × ℕ
-  pub disk : ℕ × ℕ
-
--- Why a run ended as it did: the count of the source, or of the disk, rose exactly where it stopped by that; and the count of
--- the sink exactly where the status is 4.
-pub record HasCause (counts : Counts) (ended : Result Unit RunStop) (status : ℕ) : Type 0 where
-  pub source : Moved (is_read_fault ended) counts.source
-  pub disk : Moved (is_disk_fault ended) counts.disk
-  pub sink : Moved (status == 4) counts.sink
-
--- What a status shows of the counts: the sink's rose exactly at 4; and at every other status the source's exactly at 3, and the
--- disk's exactly at 5.
-pub record Shows (counts : Counts) (status : ℕ) : Type 0 where
-  pub sink : Moved (status == 4) counts.sink
-  pub source : (status == 4) ≡ false → Moved (status == 3) counts.source
-  pub disk : (status == 4) ≡ false → Moved (status == 5) counts.disk
 
 -- why a run stops that has no memory for its words
 abbrev pub no_memory : RunStop

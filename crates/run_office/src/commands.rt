@@ -14,24 +14,25 @@ ghost use Rattle.stamps.specs.declared.stamp.Stamp.{Stamp as StampData};
 ghost use Rattle.stamped_list.specs.Entries.{entries};
 ghost use Rattle.stamped_list.specs.declared.entry.StampedEntry.{StampedEntry};
 ghost use Rattle.run_office.specs.Moments.{MayRecover, Stands, StoodBefore};
-ghost use Rattle.run_office.specs.Ran.{CanBeDone, Does, FileRan, Ran, Shows, reads_input};
+ghost use Rattle.run_office.specs.Ran.{CanBeDone, Does, FileRan, Ran, reads_input};
+ghost use Rattle.kept_runs.specs.Counts.{Shows};
 ghost use Rattle.kept_runs.specs.Ends.{Moved};
 ghost use Rattle.run_office.specs.Rounds.{IsPolicyAmong, gives_at};
 ghost use Rattle.kept_runs.specs.Statuses.{is_disk_fault, is_read_fault, is_write_fault};
 
 use crate::checks::{check_book, check_rows};
 use crate::fund::file_round;
+use crate::inputs::{file_book, file_rows, file_year};
 use crate::report::OfficeReport;
 use aid_edges::{Sink, Source};
 use disk_model::Disk;
 use fund_policy::{Policies, Rule};
-use generated_year::{GeneratedOffice, YearForms, YearTally};
-use kept_office::{FiledOffice, StampedOffice};
+use kept_office::StampedOffice;
 use kept_runs::{RunStop, end, ended_filing, ended_founding};
-use kept_session::{ReadStop, SessionStop, answer, file, file_counted, found, write_report};
-use run_rows::{BookForms, DeskForms, QuoteRow};
+use kept_session::{ReadStop, SessionStop, answer, found, write_report};
+use run_rows::QuoteRow;
 use run_words::{Command, command_of};
-use stamped_list::{StampedForms, StampedRows, Stamping};
+use stamped_list::StampedRows;
 use stamps::Stamp;
 use std::alloc::Global;
 
@@ -65,26 +66,8 @@ fn do_command<D: Disk, S: Source, K: Sink>(
             let (ended, disk) = found::<D, K, StampedOffice>(alloc, disk, b"founded\n", out);
             (ended_founding(ended), disk)
         }
-        Command::File => {
-            let forms = StampedForms {
-                forms: DeskForms,
-                stamp,
-            };
-            let (ended, disk) = file::<D, S, K, StampedOffice, StampedForms<DeskForms>>(
-                alloc, disk, &forms, input, out,
-            );
-            (ended_filing(ended), disk)
-        }
-        Command::Book(book) => {
-            let forms = StampedForms {
-                forms: BookForms { book },
-                stamp,
-            };
-            let (ended, disk) = file::<D, S, K, StampedOffice, StampedForms<BookForms>>(
-                alloc, disk, &forms, input, out,
-            );
-            (ended_filing(ended), disk)
-        }
+        Command::File => file_rows(alloc, stamp, disk, input, out),
+        Command::Book(book) => file_book(alloc, stamp, book, disk, input, out),
         Command::Quote(quote) => {
             let rows = QuoteRow::new(quote);
             let (ended, disk) = answer::<D, K, StampedOffice, StampedRows<QuoteRow>>(
@@ -107,22 +90,7 @@ fn do_command<D: Disk, S: Source, K: Sink>(
             let (ended, disk) = file_round(alloc, disk, fund, policy, stamp, out);
             (ended_filing(ended), disk)
         }
-        Command::Generate(generate) => {
-            let year = YearForms {
-                students: generate.students,
-                seed: generate.seed,
-            };
-            let forms = StampedForms { forms: year, stamp };
-            let (ended, disk) = file_counted::<
-                D,
-                S,
-                K,
-                Stamping<GeneratedOffice<FiledOffice>>,
-                StampedForms<YearForms>,
-                YearTally,
-            >(alloc, disk, &forms, YearTally::EMPTY, input, out);
-            (ended_filing(ended), disk)
-        }
+        Command::Generate(generate) => file_year(alloc, stamp, generate, disk, input, out),
         Command::CheckRows => (check_rows(alloc, input, out), disk),
         Command::CheckBook => (check_book(alloc, input, out), disk),
     }

@@ -4,17 +4,11 @@
 
 mod checks;
 mod commands;
-mod desk_lines;
+mod copies;
 mod desks;
 mod fund;
-mod laws;
-mod names;
+mod inputs;
 mod report;
 
 pub use commands::run;
 pub use desks::{DeskInput, run_desks};
-pub use laws::{
-    added_are_named, answered_on_closed, desk_causes, faults_are_counted, first_is_named,
-    fronts_rise, undecided_is_next,
-};
-pub use names::OfficeDesk;

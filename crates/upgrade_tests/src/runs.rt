@@ -1,7 +1,7 @@
 // One upgrade over files in memory.
 use aid_edges::MemorySink;
 use disk_model::{DiskStop, MemoryDisk};
-use office_upgrade::upgrade;
+use run_upgrade::upgrade;
 use std::alloc::Global;
 use std::test::Fail;
 

@@ -11,15 +11,14 @@ pub returns-in-Found-clause-does : goal.returns-in-Found-clause-does
 returns-in-Found-clause-does g c = rw (c.in-Found.is, c.ended_founding.ensures) (founding c.found-ended.result.0 c.found-ended.ensures.session)
 
 pub returns-in-File-clause-does : goal.returns-in-File-clause-does
-returns-in-File-clause-does g c = rw (c.in-File.is, c.ended_filing.ensures) (filing c.file-ended.result.0 c.file-ended.ensures.session)
+returns-in-File-clause-does g c = let (ended, is, session) = c.file_rows.ensures.session in rw (c.in-File.is, is) (filing ended session)
 
 pub returns-in-Book-clause-does : goal.returns-in-Book-clause-does
-returns-in-Book-clause-does g c =
-    rw (c.in-Book.is, c.ended_filing-in-Book.ensures) (booking c.in-Book.book c.file-ended-in-Book.result.0 c.file-ended-in-Book.ensures.session)
+returns-in-Book-clause-does g c = let (ended, is, session) = c.file_book.ensures.session in rw (c.in-Book.is, is) (booking c.in-Book.book ended session)
 
 pub returns-in-Quote-clause-does : goal.returns-in-Quote-clause-does
 returns-in-Quote-clause-does g c =
-    rw (c.in-Quote.is, c.ended_filing-in-Quote.ensures) (quoting c.in-Quote.quote c.answer-ended.result.0 (rw c.new-rows.ensures at c.answer-ended.ensures.session))
+    rw (c.in-Quote.is, c.ended_filing.ensures) (quoting c.in-Quote.quote c.answer-ended.result.0 (rw c.new-rows.ensures at c.answer-ended.ensures.session))
 
 pub returns-in-Report-clause-does : goal.returns-in-Report-clause-does
 returns-in-Report-clause-does g c =
@@ -35,8 +34,7 @@ returns-in-Fund-clause-does g c =
     c.file_round-ended.ensures.planned))
 
 pub returns-in-Generate-clause-does : goal.returns-in-Generate-clause-does
-returns-in-Generate-clause-does g c =
-    rw (c.in-Generate.is, c.ended_filing-in-Generate.ensures) (generating c.in-Generate.generate c.file_counted-ended.result.0 c.file_counted-ended.ensures.session)
+returns-in-Generate-clause-does g c = let (ended, is, session) = c.file_year.ensures.session in rw (c.in-Generate.is, is) (generating c.in-Generate.generate ended session)
 
 pub returns-in-CheckRows-clause-does : goal.returns-in-CheckRows-clause-does
 returns-in-CheckRows-clause-does g c = rw c.in-CheckRows.is (checking_rows c.check_rows.result refl c.check_rows.ensures.checks)

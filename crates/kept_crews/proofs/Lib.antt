@@ -1,0 +1,14 @@
+pub mod Admits
+pub mod ByPlace
+pub mod Closing
+pub mod Crew
+pub mod CrewStatus
+pub mod DeskCauses
+pub mod DesksDone
+pub mod Filers
+pub mod Following
+pub mod NameLists
+pub mod Named
+pub mod Naming
+pub mod Putting
+pub mod Reading

@@ -1,8 +1,0 @@
-use Rattle.run_office.proofs.Crew.{has_filed}
-use Rattle.run_office.proofs.desks.file_all.Goals as goal
-
-pub returns-in-Ok-clause-ran : goal.returns-in-Ok-clause-ran
-returns-in-Ok-clause-ran g c =
-    let e = c.in-Ok.ensures in
-    has_filed c.in-Ok.turns.id c.in-Ok.rest.opening _ _ c.args.desks.now c.open_desks.new.desks c.work_all.new.desks c.close_desks.new.desks
-    e.opening c.open_desks.ensures.desks c.work_all.ensures.desks c.open_desks.ensures.same e.ready c.work_all.ensures.works c.close_desks.ensures.ran c.close_desks.ensures.same

@@ -1,0 +1,148 @@
+// How an upgrade ends: its status and its last line.
+ghost use Rattle.std.specs.Prelude.{◌≡◌, ◌≤◌, length};
+ghost use Rattle.arrayvec.specs.ArrayString.{array_string_len};
+ghost use Rattle.kept_runs.specs.Ends.{EndsWith};
+ghost use Rattle.run_upgrade.specs.Ends.{source_line as source_line_of, source_status as source_status_of, target_line as target_line_of, target_status as target_status_of};
+
+use aid_edges::Sink;
+use arrayvec::ArrayString;
+use kept_list::FoundFault;
+use kept_runs::{WRITE_FAILED, number_line, put};
+
+/// Why the source gives no list.
+#[derive(Clone, Copy, Debug, PartialEq, Eq)]
+pub enum SourceFault {
+    /// There is no office in it.
+    NoOffice,
+    /// It isn't a journal.
+    NotJournal,
+    /// It is a journal of version 2.
+    NewVersion,
+    /// The record whose gate stands at this place isn't one of a legal list.
+    Damaged(u64),
+    /// Its disk refused a call.
+    DiskFault,
+    /// There is no memory for its list.
+    NoMemory,
+}
+
+/// Why the copying stopped.
+#[derive(Clone, Copy, Debug, PartialEq, Eq)]
+pub enum CopyFault {
+    /// The target's disk refused a call.
+    DiskFault,
+    /// There is no memory for a filing more.
+    NoMemory,
+}
+
+/// How an upgrade ended, before its last line was written.
+#[derive(Clone, Copy, Debug, PartialEq, Eq)]
+pub enum UpgradeEnd {
+    /// The source gave no list. The target had no call.
+    Source(SourceFault),
+    /// No list was founded in the target.
+    Target(FoundFault),
+    /// The copying stopped.
+    Copying(CopyFault),
+    /// All filings were copied, so many.
+    Copied(u64),
+}
+
+impl UpgradeEnd {
+    ghost use Rattle.run_upgrade.specs.Ends.{status_of, line_of};
+
+    /// The status of the program.
+    pub fn status(self) -> u8
+        ensures { result ≡ status_of self }
+    {
+        match self {
+            UpgradeEnd::Source(fault) => source_status(fault),
+            UpgradeEnd::Target(fault) => target_status(fault),
+            UpgradeEnd::Copying(CopyFault::DiskFault) => 5,
+            UpgradeEnd::Copying(CopyFault::NoMemory) => 9,
+            UpgradeEnd::Copied(_) => 0,
+        }
+    }
+
+    /// The last line of the program's text.
+    pub fn line(self) -> ArrayString<40>
+        ensures { result.bytes ≡ line_of self }
+    {
+        match self {
+            UpgradeEnd::Source(fault) => source_line(fault),
+            UpgradeEnd::Target(fault) => target_line(fault),
+            UpgradeEnd::Copying(CopyFault::DiskFault) => text_line("fault disk target\n"),
+            UpgradeEnd::Copying(CopyFault::NoMemory) => text_line("fault memory\n"),
+            UpgradeEnd::Copied(count) => number_line("copied ", count),
+        }
+    }
+
+    /// Writes the last line, and gives the status: that of a failed write where the line can't be written whole.
+    pub fn tell<K: Sink>(self, out: &mut K) -> u8
+        ensures { EndsWith K.Sink (line_of self) (status_of self) out.old out.new result }
+    {
+        match put(out, self.line().as_bytes()) {
+            Ok(()) => self.status(),
+            Err(_) => WRITE_FAILED,
+        }
+    }
+}
+
+// The status where the source gives no list.
+fn source_status(fault: SourceFault) -> u8
+    ensures { result ≡ source_status_of fault }
+{
+    match fault {
+        SourceFault::NoOffice | SourceFault::NotJournal | SourceFault::NewVersion => 6,
+        SourceFault::Damaged(_) => 7,
+        SourceFault::DiskFault => 5,
+        SourceFault::NoMemory => 9,
+    }
+}
+
+// The status where no list was founded in the target.
+fn target_status(fault: FoundFault) -> u8
+    ensures { result ≡ target_status_of fault }
+{
+    match fault {
+        FoundFault::Exists | FoundFault::NotJournal => 6,
+        FoundFault::DiskFault => 5,
+        FoundFault::NoMemory => 9,
+    }
+}
+
+// The last line where the source gives no list.
+fn source_line(fault: SourceFault) -> ArrayString<40>
+    ensures { result.bytes ≡ source_line_of fault }
+{
+    match fault {
+        SourceFault::NoOffice => text_line("fault no office\n"),
+        SourceFault::NotJournal => text_line("fault not a journal\n"),
+        SourceFault::NewVersion => text_line("fault new version\n"),
+        SourceFault::Damaged(place) => number_line("fault damaged ", place),
+        SourceFault::DiskFault => text_line("fault disk source\n"),
+        SourceFault::NoMemory => text_line("fault memory\n"),
+    }
+}
+
+// The last line where no list was founded in the target.
+fn target_line(fault: FoundFault) -> ArrayString<40>
+    ensures { result.bytes ≡ target_line_of fault }
+{
+    match fault {
+        FoundFault::Exists => text_line("fault office exists\n"),
+        FoundFault::NotJournal => text_line("fault target\n"),
+        FoundFault::DiskFault => text_line("fault disk target\n"),
+        FoundFault::NoMemory => text_line("fault memory\n"),
+    }
+}
+
+// A line without a number.
+fn text_line(text: &str) -> ArrayString<40>
+    requires { length text.now ≤ 20 }
+    ensures { result.bytes ≡ text.now }
+{
+    let mut line = ArrayString::<40>::new();
+    line.push_str(text);
+    line
+}
