@@ -1,0 +1,13 @@
+pub mod NoRecord
+pub mod Holding
+pub mod NetSteps
+pub mod Rising
+pub mod Claims
+pub mod Quiet
+pub mod Lending
+pub mod Recording
+pub mod Earlier
+pub mod Covered
+pub mod Small
+pub mod AllowedWithin
+pub mod NetAfter

@@ -1,0 +1,12 @@
+//! What is on file of Direct Loans, the rules by which a filing is judged on it, and the limits within which each student stays.
+#![tactic(auto)]
+
+mod bounds;
+mod facts;
+mod laws;
+mod nets;
+mod rules;
+
+pub use facts::{LoanFacts, LoanNets, LoanOutcome};
+pub use laws::{allowed_amounts, allowed_length, allowed_within, room_left};
+pub use rules::{MOST_LOAN_FILINGS, broken, outcome};

@@ -1,0 +1,5 @@
+pub mod Bounds
+pub mod Grown
+pub mod OnFile
+pub mod Steps
+pub mod Tables

@@ -1,0 +1,3 @@
+pub mod LoanDesks
+pub mod Loans
+pub mod Words
