@@ -3,6 +3,7 @@
 // usage: plain_year generate SEED STUDENTS BOOK JOURNAL    files a generated year as `generate` does, the same bytes with one sync a
 //                                                          filing, and prints what it comes to; BOOK has the book's payload
 //        plain_year awards YEAR JOURNAL                    opens a journal, judging what it has, and prints `report awards YEAR`
+//        plain_year open JOURNAL                           opens a journal, judging what it has, and prints how many filings it has
 
 mod plain;
 
@@ -111,6 +112,12 @@ fn opened(bytes: &[u8]) -> Option<Office> {
     Some(office)
 }
 
+fn open(journal: &str) -> io::Result<()> {
+    let office = opened(&fs::read(journal)?).ok_or_else(not_a_journal)?;
+    println!("filings {}", office.len());
+    Ok(())
+}
+
 fn awards(year: u16, journal: &str) -> io::Result<()> {
     let office = opened(&fs::read(journal)?).ok_or_else(not_a_journal)?;
     let mut out = BufWriter::new(io::stdout());
@@ -135,6 +142,7 @@ fn main() -> io::Result<()> {
     match words.iter().map(String::as_str).collect::<Vec<_>>()[..] {
         ["generate", seed, students, book, journal] => generate(number(seed)?, number(students)?, book, journal),
         ["awards", year, journal] => awards(number(year)?, journal),
-        _ => Err(io::Error::other("usage: plain_year generate SEED STUDENTS BOOK JOURNAL, or awards YEAR JOURNAL")),
+        ["open", journal] => open(journal),
+        _ => Err(io::Error::other("usage: plain_year generate SEED STUDENTS BOOK JOURNAL, awards YEAR JOURNAL, or open JOURNAL")),
     }
 }

@@ -147,6 +147,10 @@ impl Facts<'_> {
 }
 
 impl Office {
+    pub fn len(&self) -> usize {
+        self.filings.len()
+    }
+
     pub fn reserve(&mut self, filings: usize) {
         self.filings.reserve(filings);
         self.outcomes.reserve(filings);
