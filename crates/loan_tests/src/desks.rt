@@ -1,7 +1,9 @@
 // Two desks that lend to one student at once, in either order.
 use crate::runs::office;
 use aid_edges::{HoldGate, MemorySink, SteadySource};
-use run_loans::{LoanInput, run_loan_desks};
+use direct_loans::Loans;
+use disk_model::MemoryDisk;
+use ruled_runs::{RuledInput, run_ruled_desks};
 use std::alloc::{AllocError, Global};
 use std::process::Abort;
 use std::sync::Wait;
@@ -14,11 +16,11 @@ const LOANS: [&[u8]; 2] = [
     b"lend,120,2,5001,2025,unsub,3000.00\n",
 ];
 
-fn two_desks(alloc: Global) -> Result<Vec<LoanInput<SteadySource>>, AllocError> {
+fn two_desks(alloc: Global) -> Result<Vec<RuledInput<SteadySource>>, AllocError> {
     let [one, other] = LOANS;
     let one = SteadySource::new(one.to_vec(alloc)?);
     let other = SteadySource::new(other.to_vec(alloc)?);
-    Ok(vec![in alloc; LoanInput { input: one }, LoanInput { input: other }]?)
+    Ok(vec![in alloc; RuledInput { input: one }, RuledInput { input: other }]?)
 }
 
 // The desks file behind a gate, and this is the text.
@@ -30,7 +32,14 @@ fn assert_lent<H: Threads + Wait + Abort + Sync>(
 ) -> Result<(), Fail> {
     let mut desks = two_desks(alloc)?;
     let mut sink = MemorySink::new(alloc, Vec::new(alloc));
-    let (status, _) = run_loan_desks(rt, alloc, &mut desks, office(rt, alloc)?, gate, &mut sink);
+    let (status, _) = run_ruled_desks::<MemoryDisk, SteadySource, HoldGate, MemorySink, H, Loans>(
+        rt,
+        alloc,
+        &mut desks,
+        office(rt, alloc)?,
+        gate,
+        &mut sink,
+    );
     assert_eq!(rt; status, 0);
     assert_eq!(rt; sink.text(), text);
     Ok(())

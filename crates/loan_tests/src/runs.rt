@@ -1,7 +1,8 @@
 // Runs of the loan desk over a file in memory.
 use aid_edges::{MemorySink, SteadySource};
+use direct_loans::Loans;
 use disk_model::MemoryDisk;
-use run_loans::run_loans;
+use ruled_runs::run_ruled;
 use std::alloc::Global;
 use std::process::Abort;
 use std::test::Fail;
@@ -23,7 +24,13 @@ pub(crate) fn ran(
     words.push(String::from_str(alloc, word)?)?;
     let mut source = SteadySource::new(rows.to_vec(alloc)?);
     let mut sink = MemorySink::new(alloc, Vec::new(alloc));
-    let (status, after) = run_loans(alloc, &words, disk, &mut source, &mut sink);
+    let (status, after) = run_ruled::<MemoryDisk, SteadySource, MemorySink, Loans>(
+        alloc,
+        &words,
+        disk,
+        &mut source,
+        &mut sink,
+    );
     assert_eq!(rt; status, ends.0);
     assert_eq!(rt; sink.text(), ends.1);
     Ok(after)

@@ -1,4 +1,4 @@
--- The words of a run of the loan desk.
+-- The words of a run over a list under rules.
 use Rattle.std.specs.Prelude.{ℕ, Bool, false, List, [], ◌∷◌, bytes_eq, codes, Option, Some, None, if◌then◌else◌}
 use Rattle.kept_runs.specs.declared.list.ListCommand.{ListCommand}
 use Rattle.kept_runs.specs.declared.list.ListCommand.TheVariants.{Found, File}

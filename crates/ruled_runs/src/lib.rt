@@ -1,0 +1,8 @@
+//! A run over a list under any rules: `found` or `file`, and many desks at once.
+#![tactic(auto)]
+
+mod desks;
+mod run;
+
+pub use desks::{RuledInput, run_ruled_desks};
+pub use run::run_ruled;

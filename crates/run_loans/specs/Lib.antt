@@ -1,3 +1,0 @@
-pub mod LoanDesks
-pub mod Loans
-pub mod Words
