@@ -1,0 +1,5 @@
+pub mod Also
+pub mod Excused
+pub mod Filed
+pub mod Moments
+pub mod Ran
