@@ -1,0 +1,87 @@
+-- What a run of the work-study desk does.
+use Rattle.std.specs.Prelude.{ℕ, ℤ, Bool, true, false, List, [], Option, Some, None, Result}
+use Rattle.aid_edges.specs.declared.sink.Sink.{Ghosts as SinkGhosts}
+use Rattle.disk_model.specs.Telling.{Telling}
+use Rattle.disk_model.specs.declared.disk.Disk.{Ghosts}
+use Rattle.field_rows.specs.Meanings.{meanings}
+use Rattle.field_rows.specs.TableForms.{row_meaning}
+use Rattle.field_rows.specs.declared.error.RowError.{RowError}
+use Rattle.filing_kinds.specs.Kinds.{key_slots}
+use Rattle.headed_rounds.specs.Fronts.{HeadedStands, RecoversHeaded}
+use Rattle.headed_rounds.specs.Rounds.{RanRound}
+use Rattle.kept_list.specs.Recovers as kept
+use Rattle.kept_list.specs.Scheme.{Judging, Scheme}
+use Rattle.kept_list.specs.Texts.{Texts}
+use Rattle.kept_runs.specs.Counts.{Counts}
+use Rattle.kept_runs.specs.Ends.{IsShort}
+use Rattle.kept_runs.specs.Lists as lists
+use Rattle.kept_session.specs.Edges.{Input}
+use Rattle.ruled_forms.specs.Lines.{table_texts}
+use Rattle.ruled_list.specs.Ruled.{judging_of, scheme_of}
+use Rattle.ruled_list.specs.declared.verdict.RuledVerdict.{RuledVerdict}
+use Rattle.run_work.specs.Plans.{round_plans, round_texts}
+use Rattle.run_work.specs.Words.{WorkCommand, OfList, OfRound}
+use Rattle.work_filings.specs.declared.filing.WorkFiling.{WorkFiling}
+use Rattle.work_history.specs.declared.facts.WorkOutcome.{WorkOutcome}
+use Rattle.work_study.specs.Kinds.{work_kinds}
+use Rattle.work_study.specs.Numbers.{code_of_work, numbers_of_work}
+use Rattle.work_study.specs.Outcomes.{work_text}
+use Rattle.work_study.specs.Ruling.{work_ruling}
+
+-- ---- a work-study office as a list on a disk: how its filings are kept and judged, and what the rows of a text say
+abbrev pub work_scheme : Scheme WorkFiling
+work_scheme = scheme_of work_ruling
+
+abbrev pub work_judging : Judging WorkFiling WorkFiling (RuledVerdict WorkOutcome)
+work_judging = judging_of work_ruling
+
+-- what a row of `file` says, and the lines that answer it
+abbrev pub work_texts : Texts WorkFiling (RuledVerdict WorkOutcome) RowError
+work_texts = table_texts code_of_work numbers_of_work work_text
+
+-- what the rows of `file` say
+abbrev pub work_rows : List ℕ → List (Result (ℕ × List ℤ) RowError)
+work_rows text = meanings (row_meaning [] key_slots work_kinds) text
+
+-- a file recovers a list of work-study filings, the newest first
+abbrev pub RecoversWork : List ℕ → List WorkFiling → Type 0
+RecoversWork file history = kept.Recovers work_scheme file history
+
+-- what a call of the policy of a school may give on a need, an index and an intensity
+abbrev pub SchoolGives : Type 1
+SchoolGives = ℕ → ℕ → ℤ → ℕ → ℕ → Type 0
+
+-- ---- by the command that the words say, if any
+-- all that a run does, by how it ended
+abbrev pub RanWork : {D K : Type 0} → SchoolGives → Ghosts D → SinkGhosts K → Counts → D → D → Input → K → K → Option WorkCommand → ℕ → Type 0
+RanWork gives disk sink counts old new input out out' None status = lists.RanList disk sink work_scheme work_judging work_texts work_rows counts old new input out out' None status
+RanWork gives disk sink counts old new input out out' (Some (OfList it)) status = lists.RanList disk sink work_scheme work_judging work_texts work_rows counts old new input out out' (Some it) status
+RanWork gives disk sink counts old new input out out' (Some (OfRound r)) status = RanRound disk sink work_scheme work_judging round_texts (round_plans (gives r.school) r) counts old new input out out' status
+
+-- whether it reads the input: `file` and a round do
+abbrev pub reads_input : Option WorkCommand → Bool
+reads_input None = false
+reads_input (Some (OfList it)) = lists.reads_input (Some it)
+reads_input (Some (OfRound r)) = true
+
+-- A file at a moment of it recovers the list before it, with what some rows in front of the input's add, or some awards in front of
+-- a round's.
+abbrev pub MayRecoverWork : SchoolGives → Option WorkCommand → Input → List WorkFiling → List ℕ → Type 0
+MayRecoverWork gives None input past = lists.MayRecoverList work_scheme work_judging work_texts work_rows None input past
+MayRecoverWork gives (Some (OfList it)) input past = lists.MayRecoverList work_scheme work_judging work_texts work_rows (Some it) input past
+MayRecoverWork gives (Some (OfRound r)) input past = RecoversHeaded work_scheme work_judging (round_plans (gives r.school) r) input past
+
+-- the list before a command that works on one: the disk reads as it
+abbrev pub StoodBefore : WorkCommand → List ℕ → List WorkFiling → Type 0
+StoodBefore (OfList it) file past = lists.StoodBefore work_scheme it file past
+StoodBefore (OfRound r) file past = RecoversWork file past
+
+-- what each image recovers after a command that was done
+abbrev pub StandsWork : SchoolGives → WorkCommand → Input → List WorkFiling → Telling → Type 0
+StandsWork gives (OfList it) input past told = lists.StandsList work_scheme work_judging work_texts work_rows it input past told
+StandsWork gives (OfRound r) input past told = HeadedStands work_scheme work_judging (round_plans (gives r.school) r) input past told
+
+-- a command can be done: its input can be read, and the file is one for it
+abbrev pub CanBeDone : WorkCommand → Bool → ℕ → Telling → Type 0
+CanBeDone (OfList it) honest size disk = lists.CanBeDone work_scheme it honest size disk
+CanBeDone (OfRound r) honest size disk = IsShort honest size × lists.IsListAt work_scheme disk

@@ -1,0 +1,10 @@
+pub mod Holding
+pub mod Standing
+pub mod Covered
+pub mod Within
+pub mod Sums
+pub mod Holders
+pub mod There
+pub mod AllowedAddsUp
+pub mod Small
+pub mod After

@@ -1,0 +1,10 @@
+//! What is on file of Federal Work-Study, the rules by which a filing is judged on it, and how each fund adds up.
+#![tactic(auto)]
+
+mod facts;
+mod laws;
+mod rules;
+
+pub use facts::{WorkFacts, WorkOutcome};
+pub use laws::{allowed_adds_up, allowed_length, allowed_small, room_left};
+pub use rules::{MOST_WORK_FILINGS, broken, earning, outcome};

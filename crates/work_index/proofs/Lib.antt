@@ -1,0 +1,2 @@
+mod Funds
+mod Grown

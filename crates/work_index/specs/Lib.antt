@@ -1,0 +1,3 @@
+pub mod Changes
+pub mod Register
+pub mod Rows

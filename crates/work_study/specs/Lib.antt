@@ -1,0 +1,5 @@
+pub mod Kinds
+pub mod Numbers
+pub mod Outcomes
+pub mod Ruling
+pub mod Same

@@ -1,0 +1,10 @@
+-- How an outcome is written. Own format.
+use Rattle.std.specs.Prelude.{ℕ, List, ◌++◌, codes}
+use Rattle.aid_num.specs.Cents.{cents_text}
+use Rattle.work_history.specs.declared.facts.WorkOutcome.{WorkOutcome}
+use Rattle.work_history.specs.declared.facts.WorkOutcome.TheVariants.{Noted, Earned}
+
+-- `noted`, or `earned EARNED LEFT`
+abbrev pub work_text : WorkOutcome → List ℕ
+work_text Noted = codes "noted"
+work_text (Earned earned left) = codes "earned " ++ cents_text earned ++ codes " " ++ cents_text left

@@ -1,0 +1,37 @@
+-- The rules of the work-study desk as those of a list of filings: the key, the first rule that a filing breaks, and its outcome.
+use Rattle.std.specs.Prelude.{◌≡◌, ◌<◌, List, [], ◌∷◌, length, None}
+use Rattle.filing_kinds.specs.Kinds.{key_slots}
+use Rattle.ruled_list.specs.Rows.{SpellsRows, ruling_by}
+use Rattle.ruled_list.specs.Ruled.{IsLegal}
+use Rattle.ruled_list.specs.Ruling.{Ruling}
+use Rattle.ruled_list.specs.RowLaws.{rows_by}
+use Rattle.work_filings.specs.declared.filing.WorkFiling.{WorkFiling}
+use Rattle.work_history.specs.AddsUp.{AddsUp}
+use Rattle.work_history.specs.Rules.{AreAllowed, breaks, outcome_of}
+use Rattle.work_history.specs.declared.facts.WorkOutcome.{WorkOutcome}
+use Rattle.work_history.proofs.AllowedAddsUp.{allowed_adds_up}
+use Rattle.work_history.proofs.Holding.{has_room}
+use Rattle.work_study.specs.Kinds.{work_kinds}
+use Rattle.work_study.specs.Numbers.{code_of_work, numbers_of_work}
+use Rattle.work_study.specs.Same.{same_work}
+
+abbrev pub work_ruling : Ruling WorkFiling WorkOutcome
+work_ruling = ruling_by key_slots work_kinds code_of_work numbers_of_work (λ filing. filing.key) breaks outcome_of
+
+-- ---- what holds of it
+-- a filing is spelled as the row of its code and its numbers
+pub spells_work : SpellsRows work_ruling key_slots work_kinds code_of_work numbers_of_work
+spells_work = rows_by key_slots work_kinds code_of_work numbers_of_work (λ (filing : WorkFiling). filing.key) breaks outcome_of same_work
+
+-- rule 210: a full list takes no more
+pub work_has_room : (past : List WorkFiling) (filing : WorkFiling) → breaks past filing ≡ None → length past < 200000
+work_has_room past filing h = has_room past filing h
+
+-- each filing of a legal list breaks no rule on those before it
+pub legal_work_allowed : (past : List WorkFiling) → IsLegal work_ruling past → AreAllowed past
+legal_work_allowed [] legal = tt
+legal_work_allowed (f ∷ past) legal = (legal_work_allowed past legal.0, legal.2)
+
+-- so each fund adds up
+pub legal_work_adds_up : (past : List WorkFiling) → IsLegal work_ruling past → AddsUp past
+legal_work_adds_up past legal = allowed_adds_up past (legal_work_allowed past legal)

@@ -1,0 +1,47 @@
+//! What a round asks of a desk.
+ghost use Rattle.std.specs.Prelude.{◌≡◌, List, nat_lt};
+ghost use Rattle.work_filings.specs.declared.filing.WorkFiling.{WorkFiling};
+ghost use Rattle.work_history.specs.Funds.{award_at, rest as rest_of};
+
+use crate::table::WorkStudy;
+use aid_types::{School, Student, Year};
+use disk_model::Disk;
+use ruled_list::{RuledList, RuledOffice};
+
+/// A desk whose funds are awarded of.
+pub trait FundDesk {
+    /// Its filings, the newest first.
+    ghost history: { Self → List WorkFiling };
+
+    /// What is left to award of a fund, in dollars; 0 where there is no fund. It takes no memory.
+    fn rest(&self, school: School, year: Year) -> u32
+        ensures { result ≡ rest_of (history self.now) school year };
+
+    /// Whether an award of a student there is on file. It takes no memory.
+    fn has_award(&self, school: School, student: Student, year: Year) -> bool
+        ensures { result ≡ nat_lt 0 (award_at (history self.now) school year student) };
+}
+
+impl FundDesk for RuledList<WorkStudy> {
+    ghost history = { λ list. list.list };
+
+    fn rest(&self, school: School, year: Year) -> u32 {
+        self.index().rest(school, year)
+    }
+
+    fn has_award(&self, school: School, student: Student, year: Year) -> bool {
+        self.index().has_award(school, student, year)
+    }
+}
+
+impl<D: Disk> FundDesk for RuledOffice<D, WorkStudy> {
+    ghost history = { λ office. office.list.history };
+
+    fn rest(&self, school: School, year: Year) -> u32 {
+        self.list().rest(school, year)
+    }
+
+    fn has_award(&self, school: School, student: Student, year: Year) -> bool {
+        self.list().has_award(school, student, year)
+    }
+}
