@@ -3,6 +3,7 @@ judged on the whole list of those before it."""
 from dataclasses import dataclass
 
 from desk import Faulty, cents, whole
+from ruled_model import RuledOffice
 
 MOST_FILINGS = 200_000
 PROGRAMS = ["unsub", "sub"]
@@ -61,11 +62,8 @@ def filing_of(columns):
     return Filing(columns[0], numbers[0], numbers[1], tuple(numbers[2:]))
 
 
-class LoanOffice:
-    """The filings that stand, the oldest first, each with the outcome of its admission."""
-
-    def __init__(self):
-        self.filings, self.outcomes = [], []
+class LoanOffice(RuledOffice):
+    """An office of loans."""
 
     def of_kind(self, kind):
         return [(place, filing) for place, filing in enumerate(self.filings, 1) if filing.kind == kind]
@@ -176,20 +174,6 @@ class LoanOffice:
             return "noted"
         _, year, _, whole_net = self.nets_with(filing)
         return f"lent {money(year)} {money(100 * self.before(filing.facts[0])[1][2] + whole_net)}"
-
-    def file(self, filing):
-        """The answer to a filing, which stands from then on where it is accepted."""
-        place = next((place for place, other in enumerate(self.filings, 1) if (other.school, other.number) == (filing.school, filing.number)), 0)
-        if place and self.filings[place - 1] == filing:
-            return f"again {place} {self.outcomes[place - 1]}"
-        if place:
-            return f"refused 15 {place} {filing.number}"
-        broken = self.broken(filing)
-        if broken:
-            return "refused %d %d %d" % broken
-        self.outcomes.append(self.outcome(filing))
-        self.filings.append(filing)
-        return f"accepted {len(self.filings)} {self.outcomes[-1]}"
 
     def lines(self, rows):
         """The lines of an input's rows, given by their columns."""

@@ -3,6 +3,7 @@ Each filing is judged on the whole list of those before it."""
 from dataclasses import dataclass
 
 from desk import KEY, STUDENT, YEAR, Faulty, RowError, money, rows_of, whole
+from ruled_model import RuledOffice
 
 MOST_FILINGS = 200_000
 LONGEST_INPUT = 16_777_216
@@ -91,11 +92,8 @@ def filing_of(columns):
     return numbers if isinstance(numbers, RowError) else Filing(kind, numbers[0], numbers[1], tuple(numbers[2:]))
 
 
-class WorkOffice:
-    """The filings that stand, the oldest first, each with the outcome of its admission."""
-
-    def __init__(self):
-        self.filings, self.outcomes = [], []
+class WorkOffice(RuledOffice):
+    """A work-study office."""
 
     def there(self, kind, school, year, student=None):
         """The filings of a kind for a school's year, of one student or of all, by their positions."""
@@ -151,20 +149,6 @@ class WorkOffice:
         place = (filing.school, filing.year, filing.student)
         earned = self.total("earn", *place) + filing.amount
         return f"earned {money(earned)} {money(100 * self.in_force(*place) - earned)}"
-
-    def file(self, filing):
-        """The answer to a filing, which stands from then on where it is accepted."""
-        for position, other in enumerate(self.filings, 1):
-            if other == filing:
-                return f"again {position} {self.outcomes[position - 1]}"
-            if (other.school, other.number) == (filing.school, filing.number):
-                return f"refused 15 {position} {filing.number}"
-        broken = self.broken(filing)
-        if broken:
-            return "refused %d %d %d" % broken
-        self.outcomes.append(self.outcome(filing))
-        self.filings.append(filing)
-        return f"accepted {len(self.filings)} {self.outcomes[-1]}"
 
     def line(self, row, filing):
         if isinstance(filing, RowError):
