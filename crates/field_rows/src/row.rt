@@ -15,7 +15,7 @@ use crate::error::{Cause, RowError};
 use crate::field::number_in;
 use aid_num::Malformed;
 use csv::ByteRecord;
-use field_table::{Draft, Entries, Form, Part, Table, TableRow};
+use field_table::{Draft, Entries, Form, MOST_NUMBERS, Part, Table, TableRow};
 
 /// The entry of a row, or why it is none. It takes no memory.
 pub fn entry_of_row<T: Entries>(row: u32, texts: &ByteRecord) -> Result<T::Entry, RowError>
@@ -63,13 +63,13 @@ pub fn numbers_of(
     parts: &'static [Part],
     row: u32,
     texts: &ByteRecord,
-) -> Result<Draft, RowError>
+) -> Result<Draft<MOST_NUMBERS>, RowError>
     requires words { length words.now ≤ 256 }
     requires table { IsTable (slots_of key.now ++ slots_of parts.now) }
     requires plain { are_plain (slots_of key.now) ≡ true }
     ensures { numbers_drafted result ≡ numbers_of_slots (row_source (map (λ word. word.now) words.now) row) (slots_of key.now ++ slots_of parts.now) (drop 1 (texts_of texts.now)) }
 {
-    let mut draft = Draft::new(key, parts);
+    let mut draft = Draft::<MOST_NUMBERS>::new(key, parts);
     while let Some(field) = draft.next() {
         let before = draft.numbers().len();
         let number = number_at(words, row, texts, before, field.form)?;

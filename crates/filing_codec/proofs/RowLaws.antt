@@ -1,14 +1,16 @@
 -- The bytes of a kind's numbers: what was read was spelled so, what was spelled is read again, and no spelling begins
 -- another.
-use Rattle.std.proofs.Common.{◌≡◌, ℕ, suc, ◌≤◌, ◌==◌, Bool, true, false, cond, find, ℤ, List, [], ◌∷◌, ◌++◌, length, Option, Some, None, Result, Ok, Err, refl, sym, ap, subst, ◌∙◌, arith}
+use Rattle.std.proofs.Common.{◌≡◌, ℕ, suc, ◌≤◌, ◌==◌, Bool, true, false, cond, find, ℤ, List, [], ◌∷◌, ◌++◌, length, Option, Some, None, Result, Ok, Err, refl, sym, ap, subst, ◌∙◌, arith, lit≤}
 use Rattle.std.proofs.lemmas.Bool.{eqb-true}
 use Rattle.field_bytes.specs.Spelling.{numbers_bytes}
 use Rattle.field_bytes.specs.Taking.{byte_source, placed}
 use Rattle.field_bytes.proofs.RowLaws.{AreKept-table, numbers_again, numbers_alone, numbers_few, numbers_take}
 use Rattle.field_bytes.proofs.Widths.{AreBytes}
 use Rattle.filing_kinds.specs.Drafts.{numbers_of_kind}
-use Rattle.field_table.specs.Forms.{most_numbers}
-use Rattle.filing_kinds.specs.Kinds.{code_of, kind_at, kinds, slots_of_kind, table_row_of}
+use Rattle.field_table.specs.Forms.{most_numbers, most_of}
+use Rattle.field_table.specs.Parts.{Slot}
+use Rattle.field_table.specs.Walk.{numbers_of_slots}
+use Rattle.filing_kinds.specs.Kinds.{code_of, key_slots, kind_at, kinds, slots_of_kind, table_row_of}
 use Rattle.field_table.specs.Layout.{AreNumbers}
 use Rattle.filing_kinds.specs.declared.kind.Kind.{Kind}
 use Rattle.filing_kinds.specs.declared.kind.Kind.TheVariants.{Book, School, Calendar, Prior, Apply, Enrol, Originate, Pay, Withdraw, Repay, Adjust}
@@ -111,3 +113,32 @@ rows_alone k l xs ys rest p q e =
 -- ---- how long they are
 pub length-row_bytes : (kind : Kind) (zs : List ℤ) → AreNumbers (slots_of_kind kind) [] zs → length (row_bytes kind zs) ≤ 8155
 length-row_bytes kind zs are = omega (arith, numbers_few (slots_of_kind kind) zs, few_numbers kind zs are)
+
+-- all but a book have few numbers
+pub most_of-few : (kind : Kind) → (kind ≡ Book → ⊥) → most_of (slots_of_kind kind) ≤ 64
+unfolding table_row_of
+most_of-few Book other = absurd (other refl)
+most_of-few School other = lit≤ tt
+most_of-few Calendar other = lit≤ tt
+most_of-few Prior other = lit≤ tt
+most_of-few Apply other = lit≤ tt
+most_of-few Enrol other = lit≤ tt
+most_of-few Originate other = lit≤ tt
+most_of-few Pay other = lit≤ tt
+most_of-few Withdraw other = lit≤ tt
+most_of-few Repay other = lit≤ tt
+most_of-few Adjust other = lit≤ tt
+
+-- ---- where the parts are told
+-- what was read of them is what the kind's numbers are read to be
+pub read_told : (kind : Kind) (key parts : List Slot) (read : Result (List ℤ) ℕ) (bytes : List ℕ) → key ≡ key_slots → parts ≡ (table_row_of kind).slots
+    → read ≡ numbers_of_slots byte_source (key ++ parts) (placed 1 bytes) → read ≡ numbers_of_kind byte_source kind (placed 1 bytes)
+read_told kind key parts read bytes k p e = e ∙ rw (k, p) refl
+
+pub are_read : (kind : Kind) (key parts : List Slot) (zs : List ℤ) (bytes : List ℕ) → AreBytes bytes → key ≡ key_slots → parts ≡ (table_row_of kind).slots
+    → Ok zs ≡ numbers_of_slots byte_source (key ++ parts) (placed 1 bytes) → AreNumbers (slots_of_kind kind) [] zs
+are_read kind key parts zs bytes are k p e = (numbers_take most_numbers (slots_of_kind kind) [] (placed 1 bytes) zs are (sym (read_told kind key parts (Ok zs) bytes k p e))).are
+
+pub kind_read : (kind : Kind) (key parts : List Slot) (read : Result (List ℤ) ℕ) (bytes : List ℕ) → key ≡ key_slots → parts ≡ (table_row_of kind).slots
+    → read ≡ numbers_of_slots byte_source (key ++ parts) (placed 1 bytes) → with_kind kind read ≡ of_kind (Some kind) bytes
+kind_read kind key parts read bytes k p e = ap (with_kind kind) (read_told kind key parts read bytes k p e)

@@ -1,19 +1,21 @@
 //! A filing from bytes.
 ghost use Rattle.std.specs.Prelude.{◌≡◌, ◌≢◌, [], slice_get, Some, Ok, Err, IfOk};
 ghost use Rattle.aid_filings.specs.declared.filing.Filing.{Filing};
-ghost use Rattle.filing_codec.specs.Reading.{ReadsKind};
 ghost use Rattle.filing_codec.specs.Spelling.{spelling};
-ghost use Rattle.filing_codec.specs.Taking.{Gives, taken};
+ghost use Rattle.filing_codec.specs.Taking.{Gives, of_kind, taken};
 ghost use Rattle.filing_kinds.specs.Kinds.{code_of, slots_of_kind};
 ghost use Rattle.field_table.specs.Layout.{AreNumbers};
 ghost use Rattle.filing_numbers.specs.Numbers.{IsFiling};
 
 use aid_filings::Filing;
 use field_bytes::numbers_at;
-use field_table::Draft;
+use field_table::MOST_NUMBERS;
 use filing_kinds::{Kind, key_parts, kind_at, table_row};
 use filing_numbers::filing_of;
 use std::alloc::Global;
+
+// The most numbers that a filing has which is no book.
+const FEW_NUMBERS: usize = 64;
 
 /// Why bytes are no filing.
 #[derive(Clone, Copy, PartialEq, Eq, Debug)]
@@ -41,8 +43,34 @@ pub fn take(alloc: Global, bytes: &[u8]) -> Result<Filing, TakeError>
 fn filing_in(alloc: Global, bytes: &[u8]) -> Result<Filing, TakeError>
     ensures exact { Gives result (taken bytes.now) }
 {
-    match draft_in(bytes) {
-        Ok((kind, draft)) => filed(alloc, kind, draft.numbers()),
+    let [code, rest @ ..] = bytes else {
+        return Err(TakeError::NotFiling(0));
+    };
+    match kind_at(*code) {
+        Some(Kind::Book) => book_in(alloc, rest),
+        Some(kind) => short_filing_in(alloc, kind, rest),
+        None => Err(TakeError::NotFiling(0)),
+    }
+}
+
+// The book whose numbers the bytes spell.
+fn book_in(alloc: Global, bytes: &[u8]) -> Result<Filing, TakeError>
+    ensures { Gives result (of_kind (Some Kind.Book) bytes.now) }
+{
+    let parts = table_row(Kind::Book).parts;
+    match numbers_at::<MOST_NUMBERS>(key_parts(), parts, bytes) {
+        Ok(draft) => filed(alloc, Kind::Book, draft.numbers()),
+        Err(place) => Err(TakeError::NotFiling(place)),
+    }
+}
+
+// The filing of another kind whose numbers the bytes spell.
+fn short_filing_in(alloc: Global, kind: Kind, bytes: &[u8]) -> Result<Filing, TakeError>
+    requires { kind ≢ Kind.Book }
+    ensures { Gives result (of_kind (Some kind) bytes.now) }
+{
+    match numbers_at::<FEW_NUMBERS>(key_parts(), table_row(kind).parts, bytes) {
+        Ok(draft) => filed(alloc, kind, draft.numbers()),
         Err(place) => Err(TakeError::NotFiling(place)),
     }
 }
@@ -55,21 +83,5 @@ fn filed(alloc: Global, kind: Kind, numbers: &[i64]) -> Result<Filing, TakeError
     match filing_of(alloc, kind, numbers) {
         Ok(filing) => Ok(filing),
         Err(_) => Err(TakeError::NoMemory),
-    }
-}
-
-// The kind and the numbers that the bytes spell, or the place of the first fault.
-fn draft_in(bytes: &[u8]) -> Result<(Kind, Draft), u64>
-    ensures { ReadsKind result (taken bytes.now) }
-{
-    let [code, rest @ ..] = bytes else {
-        return Err(0);
-    };
-    let Some(kind) = kind_at(*code) else {
-        return Err(0);
-    };
-    match numbers_at(key_parts(), table_row(kind).parts, rest) {
-        Ok(draft) => Ok((kind, draft)),
-        Err(place) => Err(place),
     }
 }

@@ -4,14 +4,14 @@ ghost use Rattle.filing_kinds.specs.Kinds.{slots_of_kind};
 
 use crate::kind::{Kind, table_row};
 use crate::parts::key_parts;
-use field_table::{Draft, Layout};
+use field_table::{Draft, Layout, MOST_NUMBERS};
 
 /// A filing of a kind, of which no number stands yet.
-pub fn new_draft(kind: Kind) -> Draft
+pub fn new_draft(kind: Kind) -> Draft<MOST_NUMBERS>
     ensures to_come { result.slots ≡ slots_of_kind kind }
     ensures none { result.earlier ≡ [] }
 {
-    Draft::new(key_parts(), table_row(kind).parts)
+    Draft::<MOST_NUMBERS>::new(key_parts(), table_row(kind).parts)
 }
 
 /// All numbers of a filing of a kind are to come, those of its key first.

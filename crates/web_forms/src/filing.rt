@@ -10,7 +10,7 @@ use crate::members::{put_members, put_number};
 use crate::value::{has_members, kind_of_value, value_of};
 use aid_filings::Filing;
 use aid_types::School;
-use field_table::Draft;
+use field_table::{Draft, MOST_NUMBERS};
 use filing_kinds::{Kind, key_parts, new_draft, table_row};
 use serde_json::Value;
 use std::alloc::Global;
@@ -62,7 +62,7 @@ fn filing_of_kind(alloc: Global, school: School, value: &Value, kind: Kind) -> O
 }
 
 // The numbers of a filing of a kind that a value says.
-fn draft_of(school: School, value: &Value, kind: Kind) -> Option<Draft>
+fn draft_of(school: School, value: &Value, kind: Kind) -> Option<Draft<MOST_NUMBERS>>
     ensures { option_map (λ draft. (kind, reverse draft.earlier)) result ≡ filing_by_fields school (view value.now) kind }
 {
     let mut draft = new_draft(kind);
@@ -75,7 +75,7 @@ fn draft_of(school: School, value: &Value, kind: Kind) -> Option<Draft>
 }
 
 // Puts the school's number, which isn't in a value, and those that the value says.
-fn put_filing(school: School, value: &Value, kind: Kind, draft: &mut Draft) -> Option<()>
+fn put_filing(school: School, value: &Value, kind: Kind, draft: &mut Draft<MOST_NUMBERS>) -> Option<()>
     ensures { option_map (λ done. draft.new) result
         ≡ option_and_then (put_said (numbers_said (fields_of kind) (view value.now))) (put_all (pos school ∷ []) draft.old) }
 {

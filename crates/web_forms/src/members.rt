@@ -6,12 +6,12 @@ ghost use Rattle.web_forms.specs.Drafts.{put_all, put_said};
 ghost use Rattle.web_forms.specs.Values.{member_said, numbers_said, row_said, rows_said, table_said};
 
 use crate::number::number_in;
-use field_table::{Draft, Field, Part};
+use field_table::{Draft, Field, MOST_NUMBERS, Part};
 use serde_json::Value;
 
 /// Puts the numbers of these fields behind the others, each field by the member of its name, where there are such numbers
 /// and they are within their limits.
-pub fn put_members(parts: &[Part], value: &Value, draft: &mut Draft) -> Option<()>
+pub fn put_members(parts: &[Part], value: &Value, draft: &mut Draft<MOST_NUMBERS>) -> Option<()>
     ensures { option_map (λ done. draft.new) result ≡ put_said (numbers_said (slots_of parts.now) (view value.now)) draft.old }
 {
     for part in parts {
@@ -21,7 +21,7 @@ pub fn put_members(parts: &[Part], value: &Value, draft: &mut Draft) -> Option<(
 }
 
 // The numbers of one field's value.
-fn put_member(part: &Part, value: &Value, draft: &mut Draft) -> Option<()>
+fn put_member(part: &Part, value: &Value, draft: &mut Draft<MOST_NUMBERS>) -> Option<()>
     ensures { option_map (λ done. draft.new) result
         ≡ put_said (member_said (slot_of part.now).first (slot_of part.now).line.form (view value.now)) draft.old }
 {
@@ -33,7 +33,7 @@ fn put_member(part: &Part, value: &Value, draft: &mut Draft) -> Option<()>
 }
 
 // The count of rows, and the numbers of each.
-fn put_table(columns: &[Field], rows: &[Value], draft: &mut Draft) -> Option<()>
+fn put_table(columns: &[Field], rows: &[Value], draft: &mut Draft<MOST_NUMBERS>) -> Option<()>
     ensures { option_map (λ done. draft.new) result
         ≡ put_said (table_said (lines_of columns.now) (map view rows.now)) draft.old }
 {
@@ -46,7 +46,7 @@ fn put_table(columns: &[Field], rows: &[Value], draft: &mut Draft) -> Option<()>
 }
 
 // The numbers of one row.
-fn put_row(columns: &[Field], values: &[Value], draft: &mut Draft) -> Option<()>
+fn put_row(columns: &[Field], values: &[Value], draft: &mut Draft<MOST_NUMBERS>) -> Option<()>
     ensures { option_map (λ done. draft.new) result
         ≡ put_said (row_said (lines_of columns.now) (map view values.now)) draft.old }
 {
@@ -60,7 +60,7 @@ fn put_row(columns: &[Field], values: &[Value], draft: &mut Draft) -> Option<()>
 }
 
 /// Puts a number behind the others, where it is within its limit.
-pub fn put_number(number: i64, draft: &mut Draft) -> Option<()>
+pub fn put_number(number: i64, draft: &mut Draft<MOST_NUMBERS>) -> Option<()>
     ensures { option_map (λ done. draft.new) result ≡ put_all (number ∷ []) draft.old }
 {
     if draft.push(number) { Some(()) } else { None }
