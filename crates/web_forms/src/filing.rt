@@ -75,7 +75,12 @@ fn draft_of(school: School, value: &Value, kind: Kind) -> Option<Draft<MOST_NUMB
 }
 
 // Puts the school's number, which isn't in a value, and those that the value says.
-fn put_filing(school: School, value: &Value, kind: Kind, draft: &mut Draft<MOST_NUMBERS>) -> Option<()>
+fn put_filing(
+    school: School,
+    value: &Value,
+    kind: Kind,
+    draft: &mut Draft<MOST_NUMBERS>,
+) -> Option<()>
     ensures { option_map (λ done. draft.new) result
         ≡ option_and_then (put_said (numbers_said (fields_of kind) (view value.now))) (put_all (pos school ∷ []) draft.old) }
 {
