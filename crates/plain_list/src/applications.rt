@@ -1,8 +1,8 @@
 //! The application in force, the award that it gives, and with what the newest filing was admitted.
-ghost use Rattle.std.specs.Prelude.{◌≡◌, ◌∷◌, sum};
+ghost use Rattle.std.specs.Prelude.{◌≡◌, ◌∷◌, option_copied, sum};
 ghost use Rattle.aid_filings.specs.declared.reply.Outcome.TheVariants.{Returned};
 ghost use Rattle.office_history.specs.Answer.{indexed, outcome_of};
-ghost use Rattle.office_history.specs.Award.{ceiling as ceiling_told, scheduled as scheduled_award};
+ghost use Rattle.office_history.specs.Award.{award_under, ceiling_under as ceiling_told, scheduled as scheduled_award};
 ghost use Rattle.office_history.specs.Net.{sheet as sheet_after};
 ghost use Rattle.office_history.specs.Past.{application as application_of, application_in as application_told, is_higher as is_higher_of, the_book};
 ghost use Rattle.office_history.specs.Positions.{application_at};
@@ -10,6 +10,7 @@ ghost use Rattle.office_history.specs.Sheets.{CanBeWorkedOut};
 
 use crate::moved::{Cells, place};
 use crate::plain::Plain;
+use aid_books::Book;
 use aid_filings::{Filing, Outcome, What, WithdrawFacts};
 use aid_types::{Application, Key, Student, Year};
 use office_answers::{indexed_by_book, returned_outcome};
@@ -41,20 +42,7 @@ impl Plain<'_> {
     pub(crate) fn scheduled(&self, student: Student, year: Year) -> u32
         ensures { result ≡ scheduled_award self.now student year }
     {
-        match (self.book_of(year), self.application(student, year).1) {
-            (Some(book), Some(application)) => award(book, &application),
-            _ => 0,
-        }
-    }
-
-    /// The ceiling of the year that decides on the application in force; none where the book or the application is missing.
-    pub(crate) fn ceiling(&self, student: Student, year: Year) -> Ceiling
-        ensures { result ≡ ceiling_told self.now student year }
-    {
-        match (self.book_of(year), self.application(student, year).1) {
-            (Some(book), Some(application)) => ceiling(book, &application),
-            _ => Ceiling::NONE,
-        }
+        scheduled_under(self.book_of(year), &self.application(student, year).1)
     }
 
     // What the application in force brings under the year's book.
@@ -95,6 +83,26 @@ impl Plain<'_> {
         let _filings = self.front();
         let place = place(key.school, facts.student, facts.year, facts.term);
         returned_outcome(&self.sheet(key, facts, &self.account_of(&place)))
+    }
+}
+
+/// The Scheduled Award in dollars that an application gives under a book, 0 where one of them is missing.
+pub(crate) fn scheduled_under(book: Option<&Book>, application: &Option<Application>) -> u32
+    ensures { result ≡ award_under (option_copied book.entry) application.now }
+{
+    match (book, application) {
+        (Some(book), Some(application)) => award(book, application),
+        _ => 0,
+    }
+}
+
+/// The ceiling that decides on an application under a book; none where one of them is missing.
+pub(crate) fn ceiling_under(book: Option<&Book>, application: &Option<Application>) -> Ceiling
+    ensures { result ≡ ceiling_told (option_copied book.entry) application.now }
+{
+    match (book, application) {
+        (Some(book), Some(application)) => ceiling(book, application),
+        _ => Ceiling::NONE,
     }
 }
 

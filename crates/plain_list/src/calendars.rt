@@ -1,5 +1,6 @@
 //! Terms on file that a rule compares with others.
-ghost use Rattle.std.specs.Prelude.{◌≡◌, ◌≤◌, Bool, Some, true, option_copied, option_map, filter};
+ghost use Rattle.std.specs.Prelude.{◌≡◌, ◌≤◌, ◌+◌, ◌*◌, ◌%◌, Bool, Some, false, filter, get_or, option_copied, option_map, true};
+ghost use Rattle.office_history.specs.Net.{cell_at, is_cell, paid as paid_at};
 ghost use Rattle.office_history.specs.Past.{OnFile as TermOnFile, terms_on_file};
 ghost use Rattle.office_history.specs.Positions.{is_over as is_over_of, is_paid_beside, least_code, least_term, lesser_code, main_term_count, overlap_at, payment_at as payment_of_term, term_over as term_over_of};
 ghost use Rattle.plain_list.specs.Asked.{Tests};
@@ -71,10 +72,12 @@ impl Plain<'_> {
         let Some(this) = this else {
             return 0;
         };
+        let pell_terms = self.pell_terms(student);
         let (code, _) = self.least(|other, calendar| {
+            let beside = place(other, student, calendar.year, calendar.term);
             other != school
                 && shares_day(this, &calendar.to_term())
-                && 0 < self.net_pell(&place(other, student, calendar.year, calendar.term))
+                && 0 < self.net_pell(&pell_terms, &beside)
         });
         code
     }
@@ -85,14 +88,15 @@ impl Plain<'_> {
         requires { award ≤ 100000 }
         ensures { result ≡ term_over_of self.now award student year }
     {
+        let pell_terms = self.pell_terms(student);
         let (_, first) = self.least(|school, calendar| {
-            self.is_over(award, student, year, school, calendar)
+            self.is_over(award, &pell_terms, student, year, school, calendar)
         });
         let (school, term) = first?;
         let place = place(school, student, year, term);
         Some(Refusal {
             rule: 93,
-            kept: self.net_pell(&place),
+            kept: self.net_pell(&pell_terms, &place),
             bound: self.payment_at(award, &place),
         })
     }
@@ -101,16 +105,23 @@ impl Plain<'_> {
     fn is_over(
         &self,
         award: u32,
+        pell_terms: &[bool; 1024],
         student: Student,
         year: Year,
         school: School,
         calendar: &CalendarFacts,
     ) -> bool
-        requires { award ≤ 100000 }
+        requires award { award ≤ 100000 }
+        requires marks { get_or pell_terms.now ((9 * school + calendar.now.term) % 1024) true ≡ false
+            → paid_at self.now (is_cell (cell_at school student year calendar.now.term 3)) ≡ 0 }
         ensures { result ≡ is_over_of self.now award student year (on_file_at school 0 calendar.now) }
     {
+        if calendar.year != year {
+            return false;
+        }
         let place = place(school, student, year, calendar.term);
-        calendar.year == year && self.payment_at(award, &place) < self.net_pell(&place)
+        let kept = self.net_pell(pell_terms, &place);
+        0 < kept && self.payment_at(award, &place) < kept
     }
 
     // The payment of a term in cents, at the credits in force and an award in dollars.

@@ -4,6 +4,7 @@
 mod applications;
 mod calendars;
 mod moved;
+mod pell;
 mod plain;
 mod search;
 

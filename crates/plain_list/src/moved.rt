@@ -1,17 +1,19 @@
 //! What the filings move: in a student's term at a school, and at the cells of a net.
-ghost use Rattle.std.specs.Prelude.{◌≡◌, ◌∷◌, Some};
+ghost use Rattle.std.specs.Prelude.{◌≡◌, ◌∷◌, ℕ, IfSome, None, Some, get_or, is_some};
+ghost use Rattle.aid_types.specs.Programs.{six};
 ghost use Rattle.office_history.specs.Accounts.{AreSums, IsAccount};
 ghost use Rattle.office_history.specs.Answer.{IsLegal};
-ghost use Rattle.office_history.specs.Net.{moved, net, net_at, payments_in, pell_term, sheet as sheet_after, takings_in, used as used_in_all};
+ghost use Rattle.office_history.specs.Net.{cell_at, in_year, is_cell, moved, net, net_at, payments_in, sheet as sheet_after, takings_in};
 ghost use Rattle.office_history.specs.Own.{IsOwnEntry, own_place};
-ghost use Rattle.office_history.specs.Past.{is_extra as is_extra_term, the_term};
+ghost use Rattle.office_history.specs.Past.{is_extra as is_extra_term, the_term, the_withdrawal};
 ghost use Rattle.office_history.specs.Sheets.{CanBeWorkedOut};
 ghost use Rattle.plain_list.specs.CellTests.{are_at, cents_of, test_of};
 
+use crate::pell::mark;
 use crate::plain::Plain;
+use crate::search::withdrawal_in;
 use aid_filings::{Filing, What, WithdrawFacts};
 use aid_types::{ByProgram, Key, Program, School, Student, Year};
-use lifetime_ledger::use_of;
 use office_answers::{adjusted, paid, repaid, returned, sheet};
 use office_history::{Account, OnFile, Place};
 use withdrawal_returns::Lines;
@@ -44,34 +46,47 @@ impl Plain<'_> {
     {
         let filings = self.filings;
         let mut so_far = Account::EMPTY;
+        let mut withdrawn = false;
         for index in 0..filings.len() {
-            so_far = Plain::new(&filings[..index]).account_with(&filings[index], place, &so_far);
+            let filing = &filings[index];
+            so_far = Plain::new(&filings[..index]).account_with(filing, place, withdrawn, &so_far);
+            withdrawn = withdrawn || withdrawal_in(filing, place).is_some();
         }
         so_far
     }
 
-    // The account with a filing more.
-    fn account_with(&self, filing: &Filing, place: &Place, so_far: &Account) -> Account
+    // The account with a filing more, where it is told whether the student had withdrawn before it.
+    fn account_with(
+        &self,
+        filing: &Filing,
+        place: &Place,
+        withdrawn: bool,
+        so_far: &Account,
+    ) -> Account
         requires legal { IsLegal (filing.now ∷ self.now) }
+        requires withdrawn { withdrawn ≡ is_some (the_withdrawal self.now place.now.school place.now.student place.now.year place.now.term) }
         requires account { IsAccount self.now place.now.school place.now.student place.now.year place.now.term so_far.now }
         ensures { IsAccount (filing.now ∷ self.now) place.now.school place.now.student place.now.year place.now.term result }
     {
         match Place::of(filing) {
-            Some(own) if own.is(place) => so_far.joined(&self.entry(filing, &own, so_far)),
+            Some(own) if own.is(place) => {
+                so_far.joined(&self.entry(filing, &own, withdrawn, so_far))
+            }
             _ => *so_far,
         }
     }
 
     // What a filing after these moves in the term that it is about, on the account of that term.
-    fn entry(&self, filing: &Filing, own: &Place, so_far: &Account) -> Account
+    fn entry(&self, filing: &Filing, own: &Place, withdrawn: bool, so_far: &Account) -> Account
         requires legal { IsLegal (filing.now ∷ self.now) }
         requires own { own_place filing.now.key filing.now.what ≡ Some own.now }
+        requires withdrawn { withdrawn ≡ is_some (the_withdrawal self.now own.now.school own.now.student own.now.year own.now.term) }
         requires account { IsAccount self.now own.now.school own.now.student own.now.year own.now.term so_far.now }
         ensures { IsOwnEntry self.now filing.now.key filing.now.what result }
     {
         match &filing.what {
             // A payment comes after the withdrawal from its term where there was one.
-            What::Pay(amount) => paid(amount, self.withdrawal_of(own).1.is_some()),
+            What::Pay(amount) => paid(amount, withdrawn),
             What::Repay(amount) => repaid(amount),
             What::Adjust(amount) => adjusted(amount),
             What::Withdraw(facts) => returned(&self.sheet(&filing.key, facts, so_far)),
@@ -93,13 +108,61 @@ impl Plain<'_> {
         }
     }
 
-    /// The net Pell of a student's term at a school, in cents.
-    pub(crate) fn net_pell(&self, place: &Place) -> u64
-        ensures { result ≡ pell_term self.now place.now.school place.now.student place.now.year place.now.term }
+    // What a filing after these pays and takes back in the term that it is about, by program. A withdrawal alone needs the
+    // account of that term.
+    fn paid_and_taken(&self, filing: &Filing, own: &Place) -> (ByProgram, ByProgram)
+        requires legal { IsLegal (filing.now ∷ self.now) }
+        requires own { own_place filing.now.key filing.now.what ≡ Some own.now }
+        ensures paid { result.0 ≡ six (λ p. moved (is_cell (cell_at own.now.school own.now.student own.now.year own.now.term p)) (payments_in filing.now.key filing.now.what)) }
+        ensures taken { result.1 ≡ six (λ p. moved (is_cell (cell_at own.now.school own.now.student own.now.year own.now.term p)) (takings_in self.now (net_at self.now) filing.now.key filing.now.what)) }
     {
-        let moved = self.account_of(place);
-        let paid = moved.paid.at(Program::Pell);
-        paid.saturating_sub(moved.taken.at(Program::Pell))
+        match &filing.what {
+            What::Pay(amount) => (
+                ByProgram::of(amount.program, amount.cents),
+                ByProgram::EMPTY,
+            ),
+            What::Repay(amount) | What::Adjust(amount) => {
+                (
+                    ByProgram::EMPTY,
+                    ByProgram::of(amount.program, amount.cents),
+                )
+            }
+            What::Withdraw(facts) => {
+                let lines = self.sheet(&filing.key, facts, &self.account_of(own));
+                (ByProgram::EMPTY, lines.returned)
+            }
+            _ => (ByProgram::EMPTY, ByProgram::EMPTY),
+        }
+    }
+
+    /// The nets of a year by program.
+    pub(crate) fn nets(&self, student: Student, year: Year) -> ByProgram
+        ensures { result ≡ six (λ p. net self.now (in_year student year p)) }
+    {
+        let filings = self.filings;
+        let mut paid = ByProgram::EMPTY;
+        let mut taken = ByProgram::EMPTY;
+        for index in 0..filings.len() {
+            let past = Plain::new(&filings[..index]);
+            let (more_paid, more_taken) = past.moved_in(&filings[index], student, year);
+            paid = paid.plus(&more_paid);
+            taken = taken.plus(&more_taken);
+        }
+        paid.minus(&taken)
+    }
+
+    // What a filing after these pays and takes back in a student's year, by program.
+    fn moved_in(&self, filing: &Filing, student: Student, year: Year) -> (ByProgram, ByProgram)
+        requires { IsLegal (filing.now ∷ self.now) }
+        ensures paid { result.0 ≡ six (λ p. moved (in_year student year p) (payments_in filing.now.key filing.now.what)) }
+        ensures taken { result.1 ≡ six (λ p. moved (in_year student year p) (takings_in self.now (net_at self.now) filing.now.key filing.now.what)) }
+    {
+        match Place::of(filing) {
+            Some(own) if own.student == student && own.year == year => {
+                self.paid_and_taken(filing, &own)
+            }
+            _ => (ByProgram::EMPTY, ByProgram::EMPTY),
+        }
     }
 
     /// Payments less school returns, repayments and adjustments at the cells, in cents.
@@ -107,11 +170,12 @@ impl Plain<'_> {
         ensures { result ≡ net self.now (test_of self.now cells.now) }
     {
         let filings = self.filings;
+        let mut asked = [None; 64];
         let mut paid = 0;
         let mut taken = 0;
         for index in 0..filings.len() {
             let past = Plain::new(&filings[..index]);
-            let (more_paid, more_taken) = past.moved_at(&filings[index], self, cells);
+            let (more_paid, more_taken) = past.moved_at(&filings[index], self, cells, &mut asked);
             paid += more_paid;
             taken += more_taken;
         }
@@ -119,31 +183,59 @@ impl Plain<'_> {
     }
 
     // What a filing after these pays and takes back at the cells, of which a whole list tells the main ones.
-    fn moved_at(&self, filing: &Filing, whole: &Plain<'_>, cells: &Cells) -> (u64, u64)
-        requires { IsLegal (filing.now ∷ self.now) }
+    fn moved_at(
+        &self,
+        filing: &Filing,
+        whole: &Plain<'_>,
+        cells: &Cells,
+        asked: &mut [Option<(Place, bool)>; 64],
+    ) -> (u64, u64)
+        requires legal { IsLegal (filing.now ∷ self.now) }
+        requires asked { (i : ℕ) → IfSome (get_or asked.old i None) (λ a. a.1 ≡ is_extra_term (the_term whole.now a.0.school a.0.year a.0.term)) }
         ensures paid { result.0 ≡ moved (test_of whole.now cells.now) (payments_in filing.now.key filing.now.what) }
         ensures taken { result.1 ≡ moved (test_of whole.now cells.now) (takings_in self.now (net_at self.now) filing.now.key filing.now.what) }
+        ensures asked { (i : ℕ) → IfSome (get_or asked.new i None) (λ a. a.1 ≡ is_extra_term (the_term whole.now a.0.school a.0.year a.0.term)) }
     {
         match Place::of(filing) {
-            Some(own) if whole.has(cells, &own) => {
-                let moved = self.entry(filing, &own, &self.account_of(&own));
-                (cells.cents_of(&moved.paid), cells.cents_of(&moved.taken))
+            Some(own) if whole.has(cells, &own, asked) => {
+                let (paid, taken) = self.paid_and_taken(filing, &own);
+                (cells.cents_of(&paid), cells.cents_of(&taken))
             }
             _ => (0, 0),
         }
     }
 
     // Whether some of the cells are of a student's term at a school.
-    fn has(&self, cells: &Cells, place: &Place) -> bool
-        ensures { result ≡ are_at self.now cells.now place.now }
+    fn has(&self, cells: &Cells, place: &Place, asked: &mut [Option<(Place, bool)>; 64]) -> bool
+        requires { (i : ℕ) → IfSome (get_or asked.old i None) (λ a. a.1 ≡ is_extra_term (the_term self.now a.0.school a.0.year a.0.term)) }
+        ensures value { result ≡ are_at self.now cells.now place.now }
+        ensures asked { (i : ℕ) → IfSome (get_or asked.new i None) (λ a. a.1 ≡ is_extra_term (the_term self.now a.0.school a.0.year a.0.term)) }
     {
         match *cells {
             Cells::InYear(student, year, _) => place.student == student && place.year == year,
             Cells::InMainTerms(student, year) => {
-                place.student == student && place.year == year && !self.is_extra(place)
+                place.student == student && place.year == year && !self.asks_extra(place, asked)
             }
             Cells::AtSchool(school, student, year) => {
                 place.school == school && place.student == student && place.year == year
+            }
+        }
+    }
+
+    // Whether the term on file is beyond the main terms. Of some terms that were asked it is known, and they aren't looked for.
+    fn asks_extra(&self, place: &Place, asked: &mut [Option<(Place, bool)>; 64]) -> bool
+        requires { (i : ℕ) → IfSome (get_or asked.old i None) (λ a. a.1 ≡ is_extra_term (the_term self.now a.0.school a.0.year a.0.term)) }
+        ensures value { result ≡ is_extra_term (the_term self.now place.now.school place.now.year place.now.term) }
+        ensures asked { (i : ℕ) → IfSome (get_or asked.new i None) (λ a. a.1 ≡ is_extra_term (the_term self.now a.0.school a.0.year a.0.term)) }
+    {
+        let slot = mark(place.school, place.term) % 64;
+        let last = asked[slot];
+        match &last {
+            Some((known, extra)) if known.is(place) => *extra,
+            _ => {
+                let extra = self.is_extra(place);
+                asked[slot] = Some((*place, extra));
+                extra
             }
         }
     }
@@ -156,26 +248,6 @@ impl Plain<'_> {
             Some(term) => term.extra,
             None => false,
         }
-    }
-
-    /// The lifetime units that a student has used, thousandths of a percent: before this office, and in each year of it (HEA
-    /// 401(d)(5)).
-    pub(crate) fn used(&self, student: Student) -> u32
-        ensures { result ≡ used_in_all self.now student }
-    {
-        // The front tells that the list is legal.
-        let _filings = self.front();
-        let (_, mut units) = self.prior_of(student);
-        if self.pell_payment(student) == 0 {
-            return units;
-        }
-        for year in 2000..2100 {
-            let paid = self.net_of(&Cells::InYear(student, Year(year), Program::Pell));
-            if 0 < paid {
-                units += use_of(paid, self.scheduled(student, Year(year)));
-            }
-        }
-        units
     }
 }
 

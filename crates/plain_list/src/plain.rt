@@ -1,13 +1,12 @@
 //! A plain list of filings, read from end to end at each question.
 ghost use Rattle.std.specs.Prelude.{◌≡◌, ◌↔◌, IsTrue, reverse};
-ghost use Rattle.aid_types.specs.Programs.{six};
 ghost use Rattle.office_history.specs.Answer.{IsLegal};
-ghost use Rattle.office_history.specs.Net.{in_year, net};
 
+use crate::applications::{ceiling_under, scheduled_under};
 use crate::moved::Cells;
 use aid_books::Book;
 use aid_filings::{CalendarFacts, Filing, Outcome};
-use aid_types::{ByProgram, Key, Program, Refusal, School, Student, Term, Year};
+use aid_types::{ByProgram, Key, Refusal, School, Student, Term, Year};
 use office_answers::rule_on;
 use office_history::{
     CalendarRow, OnFile, Place, PlaceRow, SchoolRow, SchoolYearRow, StudentRow, TermRow, YearRow,
@@ -41,21 +40,6 @@ impl<'a> Plain<'a> {
         ensures { result ≡ reverse filings.entry.now }
     {
         Plain { filings }
-    }
-
-    // The nets of a year by program.
-    fn nets(&self, student: Student, year: Year) -> ByProgram
-        ensures { result ≡ six (λ p. net self.now (in_year student year p)) }
-    {
-        let net = |program| self.net_of(&Cells::InYear(student, year, program));
-        ByProgram::new([
-            net(Program::Unsub),
-            net(Program::Sub),
-            net(Program::Plus),
-            net(Program::Pell),
-            net(Program::Fseog),
-            net(Program::Teach),
-        ])
     }
 }
 
@@ -169,11 +153,12 @@ impl OnFile for Plain<'_> {
 
     fn year<L: Ledger>(&self, student: Student, year: Year, _steps: &mut Steps<L>) -> YearRow {
         let (application_at, application) = self.application(student, year);
+        let book = self.book_of(year);
         YearRow {
             transaction: application.map_or(0, |filed| u32::from(filed.transaction)),
             application_at,
-            scheduled: self.scheduled(student, year),
-            ceiling: self.ceiling(student, year),
+            scheduled: scheduled_under(book, &application),
+            ceiling: ceiling_under(book, &application),
             nets: self.nets(student, year),
             main: self.net_of(&Cells::InMainTerms(student, year)),
         }

@@ -1,7 +1,7 @@
 //! What the earliest filing tells that answers a question, and what is in force.
 ghost use Rattle.std.specs.Prelude.{◌≡◌, Option, is_some, option_copied};
 ghost use Rattle.aid_filings.specs.declared.filing.Filing.{Filing as Filed};
-ghost use Rattle.office_history.specs.Past.{book_in as book_told, cost, credits as credits_in_force, earliest, first_at, prior_units, the_book, the_school, the_term, the_withdrawal};
+ghost use Rattle.office_history.specs.Past.{at_school, book_in as book_told, cost, credits as credits_in_force, earliest, first_at, prior_units, the_book, the_school, the_term, the_withdrawal, withdrawal_in as withdrawal_told};
 ghost use Rattle.office_history.specs.Positions.{book_at, cost_at, pell_at, prior_at, school_at, term_at, withdrawn_at};
 ghost use Rattle.plain_list.specs.Asked.{Answers};
 
@@ -59,14 +59,7 @@ impl Plain<'_> {
         ensures position { result.0 ≡ withdrawn_at self.now place.now.school place.now.student place.now.year place.now.term }
         ensures withdrawal { result.1 ≡ the_withdrawal self.now place.now.school place.now.student place.now.year place.now.term }
     {
-        self.first(|filing| match &filing.what {
-            What::Withdraw(facts)
-                if filing.key.school == place.school
-                    && facts.student == place.student
-                    && facts.year == place.year
-                    && facts.term == place.term => { Some(*facts) }
-            _ => None,
-        })
+        self.first(|filing| withdrawal_in(filing, place))
     }
 
     /// The position of the student's use of the lifetime limit before this office, and the use in thousandths of a percent,
@@ -160,6 +153,20 @@ fn book_in(what: &What, year: Year) -> Option<&Book>
 {
     match what {
         What::Book(boxed) if boxed.as_book().year == year => Some(boxed.as_book()),
+        _ => None,
+    }
+}
+
+/// The student's withdrawal from the school's term, where that is filed.
+pub(crate) fn withdrawal_in(filing: &Filing, place: &Place) -> Option<WithdrawFacts>
+    ensures { result ≡ at_school place.now.school (withdrawal_told place.now.student place.now.year place.now.term) filing.now }
+{
+    match &filing.what {
+        What::Withdraw(facts)
+            if filing.key.school == place.school
+                && facts.student == place.student
+                && facts.year == place.year
+                && facts.term == place.term => { Some(*facts) }
         _ => None,
     }
 }

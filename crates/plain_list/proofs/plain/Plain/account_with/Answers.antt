@@ -1,10 +1,18 @@
-use Rattle.std.proofs.Common.{◌∷◌, sym, subst, ◌∙◌}
+use Rattle.std.proofs.Common.{◌≡◌, ◌∷◌, is_some, sym, subst, ◌∙◌}
 use Rattle.office_history.specs.Accounts.{IsAccount}
+use Rattle.office_history.specs.Past.{the_withdrawal}
 use Rattle.office_history.specs.declared.account.Account.{Account}
+use Rattle.office_history.specs.declared.place.Place.{Place}
 use Rattle.office_history.proofs.AccountSteps.{account-joined, account-kept, account-sums, entry-sums}
-use Rattle.office_history.proofs.Own.{entry-elsewhere, entry-there, moves-in, still}
+use Rattle.office_history.proofs.Own.{entry-elsewhere, entry-there, moves-in, same-place, still}
 use Rattle.plain_list.proofs.plain.Plain.account_with.Goals as goal
 use Rattle.plain_list.proofs.plain.Plain.account_with.Goals.{in_default-via-in-Some+else-is, in_default-via-in_default}
+
+pub entry-requires-clause-withdrawn : goal.entry-requires-clause-withdrawn
+entry-requires-clause-withdrawn c =
+    let past = c.args.self.now in
+    subst (λ (p : Place). c.args.withdrawn ≡ is_some (the_withdrawal past p.school p.student p.year p.term))
+    (sym (same-place c.in-Some.own c.args.place.now (sym c.is.ensures ∙ c.if-is.true))) c.requires.withdrawn
 
 pub joined-requires-clause-ours : goal.joined-requires-clause-ours
 joined-requires-clause-ours c =

@@ -17,7 +17,7 @@ returns-in-Pay c =
     let own : Some c.args.own.now ≡ Some (record { school = key.school; student = a.student; year = a.year; term = a.term }) = sym c.requires.own ∙ ap (own_place key) c.in-Pay.is in
     let same : c.args.own.now ≡ record { school = key.school; student = a.student; year = a.year; term = a.term } = cc in
     subst (λ (what : What). IsOwnEntry past key what c.paid.result) (sym c.in-Pay.is)
-    (c.paid.ensures past key (c.is_some.ensures ∙ ap is_some (c.withdrawal_of.ensures.withdrawal ∙ ap (λ (p : Place). the_withdrawal past p.school p.student p.year p.term) same)))
+    (c.paid.ensures past key (c.requires.withdrawn ∙ ap (λ (p : Place). is_some (the_withdrawal past p.school p.student p.year p.term)) same))
 
 pub returns-in-Repay : goal.returns-in-Repay
 returns-in-Repay c =

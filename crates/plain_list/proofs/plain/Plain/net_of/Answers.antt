@@ -1,10 +1,13 @@
-use Rattle.std.proofs.Common.{◌≡◌, ◌+◌, ◌∷◌, List, reverse, take, sym, ap, subst, ◌∙◌, arith}
+use Rattle.std.proofs.Common.{◌≡◌, ◌+◌, ◌∷◌, refl, Bool, List, reverse, take, sym, ap, subst, ◌∙◌, arith}
 use Rattle.aid_filings.specs.declared.filing.Filing.{Filing}
 use Rattle.office_history.specs.Answer.{IsLegal}
 use Rattle.office_history.specs.Net.{moved, paid, taken, net_at, payments_in, takings_in}
 use Rattle.office_history.proofs.Cells.{onto_is}
 use Rattle.office_history.proofs.AnyNets.{any_net_stands}
+use Rattle.office_history.specs.Past.{is_extra, the_term}
+use Rattle.office_history.specs.declared.place.Place.{Place}
 use Rattle.plain_list.specs.CellTests.{test_of}
+use Rattle.plain_list.proofs.Asked.{none_in}
 use Rattle.office_history.proofs.Slices.{legal_at, legal_take, one_more}
 use Rattle.office_history.proofs.Bounds.{paid-most, taken-most}
 use Rattle.plain_list.proofs.plain.Plain.net_of.Goals as goal
@@ -12,8 +15,15 @@ use Rattle.plain_list.proofs.plain.Plain.net_of.Goals as goal
 pub new-past-requires : goal.new-past-requires
 new-past-requires c = legal_take c.self.inside.filings.now c.loop-index.index c.self.invariant
 
-pub moved_at-more_paid-requires : goal.moved_at-more_paid-requires
-moved_at-more_paid-requires c =
+pub loop-index-init : goal.loop-index-init
+loop-index-init c = record {
+  asked = none_in (λ (a : Place × Bool). a.1 ≡ is_extra (the_term c.args.self.now a.0.school a.0.year a.0.term)) 64;
+  paid = refl;
+  taken = refl;
+}
+
+pub moved_at-more_paid-requires-clause-legal : goal.moved_at-more_paid-requires-clause-legal
+moved_at-more_paid-requires-clause-legal c =
     let f = c.index-filings-index.result in
     subst (λ (past : List Filing). IsLegal (f ∷ past)) (sym c.new-past.ensures)
     (legal_at c.self.inside.filings.now c.loop-index.index f c.loop-index-test.true c.index-filings-index.is c.self.invariant)
@@ -50,6 +60,7 @@ loop-index-preserved c =
     let taken_more = onto_is sel (takings_in past (net_at past) f.key f.what) (taken past sel) in
     let here = c.moved_at-more_paid.ensures.taken ∙ ap (λ (p : List Filing). moved sel (takings_in p (net_at p) f.key f.what)) c.new-past.ensures in
     record {
+      asked = c.moved_at-more_paid.ensures.asked;
       paid = subst (λ (p : List Filing). c.loop-index.paid + c.moved_at-more_paid.result.0 ≡ paid p sel) next (omega (arith, paid_more, c.loop-index.invariant.paid, c.moved_at-more_paid.ensures.paid));
       taken = subst (λ (p : List Filing). c.loop-index.taken + c.moved_at-more_paid.result.1 ≡ taken p sel) next (omega (arith, taken_more, c.loop-index.invariant.taken, here));
     }

@@ -1,21 +1,28 @@
-use Rattle.std.proofs.Common.{◌≡◌, ℕ, ◌∙◌, sym, ap, arith}
+use Rattle.std.proofs.Common.{◌≡◌, ℕ, ◌-◌, ◌∙◌, true, false, get_or, sym, ap, arith, rules}
+use Rattle.std.proofs.lemmas.List.{get_or_default}
 use Rattle.office_history.specs.Award.{scheduled}
 use Rattle.office_history.specs.Net.{pell_year, use_in}
 use Rattle.lifetime_ledger.specs.Used.{use_of}
 use Rattle.office_history.proofs.Awards.{year_holds}
 use Rattle.office_history.proofs.Numbers.{use_none}
-use Rattle.plain_list.proofs.NoPell.{none_used}
+use Rattle.plain_list.proofs.NoPell.{nothing_used}
 use Rattle.plain_list.proofs.YearSums.{years_first, years_next, years_last, years_most}
 use Rattle.plain_list.proofs.plain.Plain.used.Goals as goal
 use Rattle.plain_list.proofs.plain.Plain.used.Goals.{then-paid-gt0, else-paid-gt0}
 
-pub returns-then-pell_payment-eq0 : goal.returns-then-pell_payment-eq0
-returns-then-pell_payment-eq0 c =
-    let none = none_used c.args.self.now c.args.student (sym c.pell_payment.ensures ∙ c.if-pell_payment-eq0.true) in
-    omega (arith, none, c.prior_of-units.ensures.units)
-
 pub loop-year-init : goal.loop-year-init
 loop-year-init c = omega (arith, years_first (use_in c.args.self.now c.args.student), c.prior_of-units.ensures.units)
+
+pub loop-year-preserved-then-not-are_paid-from : goal.loop-year-preserved-then-not-are_paid-from
+loop-year-preserved-then-not-are_paid-from c =
+    let past = c.args.self.now in
+    let year = c.loop-year.year in
+    let years = c.pell_years-are_paid.result in
+    let there : get_or years (year - 2000) false ≡ false = search rules in
+    let unmarked : get_or years (year - 2000) true ≡ false = sym (get_or_default years (year - 2000) false true (omega (arith, c.loop-year-test.true))) ∙ there in
+    let none = nothing_used past c.args.student year (c.pell_years-are_paid.ensures year unmarked) in
+    let next = years_next (use_in past c.args.student) year c.loop-year-test.true in
+    omega (arith, none, next, c.loop-year.invariant)
 
 pub use_of-units-requires : goal.use_of-units-requires
 use_of-units-requires c =
