@@ -53,7 +53,8 @@ pub fn clock_sheet(
     requires charges { charges ≤ 99999999 }
     requires net { EachIsCents net }
     requires could { EachIsCents could }
-    ensures { result ≡ worksheet_of scheduled_hours period_hours charges net could }
+    ensures lines { result ≡ worksheet_of scheduled_hours period_hours charges net could }
+    ensures owed { EachIsCents result.owed }
 {
     worksheet(&Inputs {
         completed: scheduled_hours,
