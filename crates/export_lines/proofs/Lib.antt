@@ -1,0 +1,14 @@
+pub mod Digits
+pub mod Exactly
+pub mod FilingBytes
+pub mod Found
+pub mod InOrder
+pub mod InRange
+pub mod Laws
+pub mod Lines
+pub mod Places
+pub mod Readings
+pub mod Spaced
+pub mod Told
+pub mod Visible
+pub mod Written

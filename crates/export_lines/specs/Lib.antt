@@ -1,0 +1,7 @@
+pub mod Applicants
+pub mod Exports
+pub mod Forms
+pub mod InOrder
+pub mod Lines
+pub mod Said
+pub mod Told
