@@ -37,6 +37,7 @@ usage: aid_office JOURNAL found
        aid_office JOURNAL report returns YEAR
        aid_office JOURNAL report lifetime
        aid_office JOURNAL report stamps
+       aid_office JOURNAL report export YEAR
        aid_office JOURNAL fund SCHOOL YEAR TERM AMOUNT POLICY NUMBER
        aid_office JOURNAL generate SEED STUDENTS < BOOK.toml
        aid_office JOURNAL check rows < ROWS.csv

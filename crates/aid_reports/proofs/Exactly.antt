@@ -1,45 +1,15 @@
--- The students and the places of reports rise, and are exactly those that the filings tell; a withdrawal's line comes at its place.
-use Rattle.std.proofs.Common.{◌≡◌, ℕ, ◌<◌, refl, sym, ap, subst, ◌∙◌, true, List, [], ◌∷◌, ◌++◌, Option, Some, None, ◌⊎◌, inl, inr, arith, append-nil}
-use Rattle.std.specs.Prelude.{◌↔◌}
-use Rattle.std.specs.Cmp.{IsTotalOrder}
-use Rattle.std.specs.List.{All, AllByRecursion, AllPairs, Contains, cons_option}
-use Rattle.std.specs.List.Sorted.{IsStrictlySortedBy}
-use Rattle.std.specs.Ordering.{eq_by_cmp, is_eq, nat_cmp, ordering_then}
+-- Paid places come in their order, and a withdrawal's line at its place.
+use Rattle.std.proofs.Common.{◌≡◌, ℕ, refl, sym, ap, ◌∙◌, List, [], ◌∷◌, ◌++◌, inl, inr, append-nil}
+use Rattle.std.specs.Ordering.{nat_cmp, ordering_then}
 use Rattle.std.specs.declared.cmp.Ordering.{Ordering}
 use Rattle.std.specs.declared.cmp.Ordering.TheVariants.{Less, Equal, Greater}
-use Rattle.std.proofs.lemmas.Cmp.{eq_by_cmp_equiv, ranked}
 use Rattle.std.proofs.lemmas.List.{append_assoc}
-use Rattle.std.proofs.lemmas.List.Elements.{All-cons, All-nil}
-use Rattle.std.proofs.lemmas.List.Kept.{AllPairs-cons}
-use Rattle.std.proofs.lemmas.Map.Lookups.{CmpEqualImpliesEq}
-use Rattle.std.proofs.lemmas.Map.Views.{Contains-from_any, list_any-from_Contains}
-use Rattle.std.proofs.lemmas.Option.{same_Some}
 use Rattle.aid_filings.specs.declared.filing.Filing.{Filing}
-use Rattle.office_history.proofs.Among.{among_cases, among_head, among_rest}
-use Rattle.aid_reports.specs.InOrder.{in_order}
-use Rattle.aid_reports.specs.Rows.{place_order, return_rows, returns_in, told_by}
-use Rattle.aid_reports.specs.Told.{IsBefore, IsTold}
+use Rattle.export_lines.proofs.Exactly.{number_less, number_same}
+use Rattle.aid_reports.specs.Before.{IsBefore}
+use Rattle.aid_reports.specs.Rows.{place_order, return_rows, returns_in}
 use Rattle.aid_reports.specs.declared.rows.PaidPlace.{PaidPlace}
 use Rattle.aid_reports.specs.declared.rows.ReturnOf.{ReturnOf}
-use Rattle.aid_reports.proofs.InOrder.{holds}
-
--- ---- what rises by an order rises as that order means
-module _ {K : Type 0} (R : K → K → Ordering) (B : K → K → Type 0) (means : (x y : K) → R x y ≡ Less → B x y) where
-  before_all : (x : K) (xs : List K) → AllByRecursion (λ y. R x y ≡ Less) xs → All (B x) xs
-  before_all x [] all = All-nil (B x)
-  before_all x (y ∷ ys) all = All-cons (B x) y ys (means x y all.0) (before_all x ys all.1)
-
-  pub rising : (xs : List K) → IsStrictlySortedBy R xs → AllPairs B xs
-  unfolding IsStrictlySortedBy
-  rising [] up = λ i j d lt le. absurd (omega arith)
-  rising (x ∷ xs) up = AllPairs-cons B x xs (before_all x xs up.0) (rising xs up.1)
-
--- numbers, and places
-pub number_less : (x y : ℕ) → nat_cmp x y ≡ Less → x < y
-number_less x y e = ranked x y Less (sym e)
-
-number_same : (x y : ℕ) → nat_cmp x y ≡ Equal → x ≡ y
-number_same x y e = ranked x y Equal (sym e)
 
 pub place_before : (p q : PaidPlace) → place_order p q ≡ Less → IsBefore p q
 place_before p q e = go (nat_cmp p.school q.school) (nat_cmp p.student q.student) refl refl e
@@ -50,56 +20,6 @@ place_before p q e = go (nat_cmp p.school q.school) (nat_cmp p.student q.student
     go Equal Equal s t e = inr (number_same p.school q.school s, inr (number_same p.student q.student t, number_less p.term q.term e))
     go Equal Greater s t e = absurd cc
     go Greater b s t e = absurd cc
-
--- ---- what is told by filings is told by one of them
-kept_new : {A : Type 0} (o : Option A) (xs : List A) (x : A) → o ≡ Some x → Contains (cons_option o xs) x
-kept_new None xs x e = absurd cc
-kept_new (Some a) xs x e = subst (λ b. Contains (a ∷ xs) b) (same_Some a x e) (among_head a xs)
-
-kept_old : {A : Type 0} (o : Option A) (xs : List A) (x : A) → Contains xs x → Contains (cons_option o xs) x
-kept_old None xs x h = h
-kept_old (Some a) xs x h = among_rest a xs x h
-
-kept_cases : {A : Type 0} (o : Option A) (xs : List A) (x : A) → Contains (cons_option o xs) x → (o ≡ Some x) ⊎ Contains xs x
-kept_cases None xs x h = inr h
-kept_cases (Some a) xs x h = go (among_cases a xs x h)
-  where
-    go : (a ≡ x) ⊎ Contains xs x → (Some a ≡ Some x) ⊎ Contains xs x
-    go (inl e) = inl (ap Some e)
-    go (inr k) = inr k
-
-module _ {A : Type 0} (ask : Filing → Option A) where
-  one_told : (past : List Filing) (f : Filing) (x : A) → Contains past f → ask f ≡ Some x → Contains (told_by ask past) x
-  one_told [] f x among e = absurd (omega (arith, among.1))
-  one_told (g ∷ past) f x among e = go (λ k. one_told past f x k e) (among_cases g past f among)
-    where
-      go : (Contains past f → Contains (told_by ask past) x) → (g ≡ f) ⊎ Contains past f → Contains (cons_option (ask g) (told_by ask past)) x
-      go ih (inl same) = kept_new (ask g) (told_by ask past) x (ap ask same ∙ e)
-      go ih (inr k) = kept_old (ask g) (told_by ask past) x (ih k)
-
-  told_one : (past : List Filing) (x : A) → Contains (told_by ask past) x → IsTold ask past x
-  told_one [] x h = absurd (omega (arith, h.1))
-  told_one (g ∷ past) x h = go (told_one past x) (kept_cases (ask g) (told_by ask past) x h)
-    where
-      go : (Contains (told_by ask past) x → IsTold ask past x) → (ask g ≡ Some x) ⊎ Contains (told_by ask past) x → IsTold ask (g ∷ past) x
-      go ih (inl e) = (g, among_head g past, e)
-      go ih (inr k) = let t = ih k in (t.0, among_rest g past t.0 t.1, t.2)
-
--- ---- the list in order has exactly what is told
-module _ {K : Type 0} {R : K → K → Ordering} (o : IsTotalOrder R) (exact : CmpEqualImpliesEq R) where
-  same_key : (x y : K) → eq_by_cmp R x y ≡ true → x ≡ y
-  same_key x y e = go (R x y) refl e
-    where
-      go : (r : Ordering) → R x y ≡ r → is_eq r ≡ true → x ≡ y
-      go Equal h t = exact x y h
-      go Less h t = absurd cc
-      go Greater h t = absurd cc
-
-  pub exactly : (ask : Filing → Option K) (past : List Filing) (x : K) → Contains (in_order R (told_by ask past)) x ↔ IsTold ask past x
-  exactly ask past x = (
-    λ h. told_one ask past x (Contains-from_any same_key x (told_by ask past) (sym (holds o x (told_by ask past)) ∙ list_any-from_Contains (eq_by_cmp_equiv o) x (in_order R (told_by ask past)) h)),
-    λ h. Contains-from_any same_key x (in_order R (told_by ask past)) (holds o x (told_by ask past) ∙ list_any-from_Contains (eq_by_cmp_equiv o) x (told_by ask past) (one_told ask past h.0 x h.1 h.2)),
-  )
 
 -- ---- the lines of returns
 pub returns_come : (year : ℕ) (newer past : List Filing) (f : Filing) → (rest : List ReturnOf) × (return_rows (newer ++ f ∷ past) year ≡ return_rows past year ++ (returns_in past year f f.what ++ rest))

@@ -1,9 +1,8 @@
 pub mod DayTexts
 pub mod Exactly
-pub mod InOrder
 pub mod Orders
 pub mod Passes
 pub mod Pieces
 pub mod StampLines
 pub mod Standing
-pub mod Told
+pub mod WholeExport

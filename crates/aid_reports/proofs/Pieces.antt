@@ -6,7 +6,7 @@ use Rattle.std.proofs.lemmas.Fmt.{decimal_digit}
 use Rattle.aid_num.specs.Cents.{cents_text}
 use Rattle.aid_num.proofs.WholeLemmas.{decimal-natural_text}
 use Rattle.aid_num.specs.Percents.{percent_text}
-use Rattle.aid_reports.specs.Columns.{line, right}
+use Rattle.aid_reports.specs.Columns.{right}
 
 -- what stands at the end of a column narrows it for what stands before
 right-behind : (width k : ℕ) (xs ys : List ℕ) → length ys ≡ k → right (width + k) (xs ++ ys) ≡ right width xs ++ ys
@@ -44,16 +44,3 @@ percent old tenths =
 pub appended : {T E : Type 0} (r : Result T E) (new more old : List ℕ) → new ≡ cond (is_ok r) more old → OnOk r (new ≡ more)
 appended (Ok x) new more old e = e
 appended (Err x) new more old e = tt
-
--- columns appended one by one, each with the byte behind it
-abbrev pub IsWritten : List ℕ → List (List ℕ) → List ℕ → Type 0
-IsWritten old [] new = new ≡ old
-IsWritten old (column ∷ []) new = new ≡ old ++ column ++ 10 ∷ []
-IsWritten old (column ∷ next ∷ more) new = (text : List ℕ) × (text ≡ old ++ column ++ 32 ∷ []) × IsWritten text (next ∷ more) new
-
-pub written : (old column : List ℕ) (more : List (List ℕ)) (new : List ℕ) → IsWritten old (column ∷ more) new → new ≡ old ++ line (column ∷ more)
-written old column [] new e = e ∙ append_assoc old column (10 ∷ [])
-written old column (next ∷ more) new (text, e, rest) =
-    written text next more new rest ∙ ap (λ front. front ++ line (next ∷ more)) e
-    ∙ append_assoc (old ++ column) (32 ∷ []) (line (next ∷ more)) ∙ append_assoc old column (32 ∷ line (next ∷ more))
-    ∙ ap (λ behind. old ++ behind) (sym (append_assoc column (32 ∷ []) (line (next ∷ more))))

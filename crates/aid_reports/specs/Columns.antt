@@ -9,12 +9,6 @@ right width text = replicate (width - length text) 32 ++ text
 abbrev pub left : ℕ → List ℕ → List ℕ
 left width text = text ++ replicate (width - length text) 32
 
--- columns joined by one space, and a line feed
-abbrev pub line : List (List ℕ) → List ℕ
-line [] = codes "\n"
-line (column ∷ []) = column ++ codes "\n"
-line (column ∷ next ∷ more) = column ++ codes " " ++ line (next ∷ more)
-
 -- lines, and how many there are
 abbrev pub table : List (List ℕ) → List ℕ
 table lines = concat lines ++ codes "rows " ++ decimal (length lines) ++ codes "\n"

@@ -1,6 +1,6 @@
 -- Which lines a report has, on a history with its newest filing first.
 use Rattle.std.specs.Prelude.{ℕ, ◌+◌, ◌==◌, nat_le, nat_lt, List, [], ◌∷◌, ◌++◌, map, sum, Option, Some, None, if◌then◌else◌}
-use Rattle.std.specs.List.{cons_option, flat_map}
+use Rattle.std.specs.List.{flat_map}
 use Rattle.std.specs.Ordering.{nat_cmp, ordering_then}
 use Rattle.std.specs.declared.cmp.Ordering.{Ordering}
 use Rattle.aid_types.specs.Programs.{rank}
@@ -9,33 +9,22 @@ use Rattle.aid_types.specs.declared.number.Program.{Program}
 use Rattle.aid_types.specs.declared.number.Program.TheVariants.{Unsub, Sub, Plus, Pell, Fseog, Teach}
 use Rattle.aid_filings.specs.declared.filing.Filing.{Filing}
 use Rattle.aid_filings.specs.declared.filing.What.{What}
-use Rattle.aid_filings.specs.declared.filing.What.TheVariants.{Prior, Apply, Pay, Withdraw}
+use Rattle.aid_filings.specs.declared.filing.What.TheVariants.{Prior, Pay, Withdraw}
 use Rattle.aid_filings.specs.declared.filing.WithdrawFacts.{WithdrawFacts}
 use Rattle.enrolment.specs.CivilDays.{LAST_DAY}
 use Rattle.office_history.specs.Answer.{standing_of}
 use Rattle.office_history.specs.Net.{cell_at, net_at, sheet, used}
 use Rattle.office_history.specs.Past.{given, prior_units}
 use Rattle.withdrawal_returns.specs.declared.Lines.{Lines}
-use Rattle.aid_reports.specs.InOrder.{in_order}
+use Rattle.export_lines.specs.Applicants.{applicants, told_by}
+use Rattle.export_lines.specs.InOrder.{in_order}
 use Rattle.aid_reports.specs.declared.rows.LifetimeOf.{LifetimeOf}
 use Rattle.aid_reports.specs.declared.rows.NetOf.{NetOf}
 use Rattle.aid_reports.specs.declared.rows.PaidPlace.{PaidPlace}
 use Rattle.aid_reports.specs.declared.rows.ReturnOf.{ReturnOf}
 use Rattle.aid_reports.specs.declared.rows.StandingOf.{StandingOf}
 
--- what the filings tell, filing by filing
-abbrev pub told_by : {A : Type 0} → (Filing → Option A) → List Filing → List A
-told_by ask [] = []
-told_by ask (f ∷ past) = cons_option (ask f) (told_by ask past)
-
 -- ---- standing: the students with an application in the year, by number
-abbrev pub applicant : ℕ → What → Option ℕ
-applicant year (Apply a) = given (a.year == year) a.student
-applicant year _ = None
-
-abbrev pub applicants : List Filing → ℕ → List ℕ
-applicants past year = in_order nat_cmp (told_by (λ f. applicant year f.what) past)
-
 abbrev pub standing_rows : List Filing → ℕ → List StandingOf
 standing_rows past year = map (λ student. record { student = student; row = standing_of past student year }) (applicants past year)
 

@@ -2,8 +2,9 @@
 ghost use Rattle.std.specs.Prelude.{◌≡◌, ◌++◌, IfOk, OnOk, reverse};
 ghost use Rattle.std.specs.Option.{option_to_list};
 ghost use Rattle.std.specs.Ordering.{nat_cmp};
-ghost use Rattle.aid_reports.specs.InOrder.{in_order};
-ghost use Rattle.aid_reports.specs.Rows.{applicants as applicants_on, lifetime_users as lifetime_users_on, paid_places as paid_places_on, place_order};
+ghost use Rattle.export_lines.specs.InOrder.{in_order};
+ghost use Rattle.export_lines.specs.Applicants.{applicants as applicants_on};
+ghost use Rattle.aid_reports.specs.Rows.{lifetime_users as lifetime_users_on, paid_places as paid_places_on, place_order};
 
 use crate::keys::{applicant, lifetime_user, paid_place};
 use crate::rows::PaidPlace;

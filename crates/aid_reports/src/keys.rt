@@ -1,6 +1,7 @@
 //! Whom and what the lines of reports are about.
 ghost use Rattle.std.specs.Prelude.{◌≡◌};
-ghost use Rattle.aid_reports.specs.Rows.{applicant as applicant_in, lifetime_user as lifetime_user_in, paid_place as paid_place_in};
+ghost use Rattle.export_lines.specs.Applicants.{applicant as applicant_in};
+ghost use Rattle.aid_reports.specs.Rows.{lifetime_user as lifetime_user_in, paid_place as paid_place_in};
 
 use crate::rows::PaidPlace;
 use aid_filings::{Filing, What};

@@ -1,8 +1,10 @@
 //! Laws of reports, each as the contract of a function that computes nothing. A slice of filings has the oldest first.
 ghost use Rattle.std.specs.Prelude.{◌≡◌, ◌↔◌, ◌<◌, ◌++◌, ◌∷◌, ℕ, List, reverse};
 ghost use Rattle.std.specs.List.{AllPairs, Contains};
-ghost use Rattle.aid_reports.specs.Rows.{applicant, applicants, lifetime_user, lifetime_users, paid_place, paid_places, return_rows, returns_in};
-ghost use Rattle.aid_reports.specs.Told.{IsBefore, IsTold};
+ghost use Rattle.export_lines.specs.Applicants.{applicant, applicants};
+ghost use Rattle.aid_reports.specs.Rows.{lifetime_user, lifetime_users, paid_place, paid_places, return_rows, returns_in};
+ghost use Rattle.export_lines.specs.Told.{IsTold};
+ghost use Rattle.aid_reports.specs.Before.{IsBefore};
 ghost use Rattle.aid_reports.specs.declared.rows.PaidPlace.{PaidPlace};
 ghost use Rattle.aid_reports.specs.declared.rows.ReturnOf.{ReturnOf};
 

@@ -3,6 +3,7 @@
 #![tactic(auto)]
 
 mod columns;
+mod exported;
 mod gathered;
 mod keys;
 mod laws;
@@ -13,5 +14,6 @@ mod reports;
 mod rows;
 mod table;
 
+pub use exported::export;
 pub use laws::{places_of_awards, returns_in_order, students_of_reports};
 pub use reports::{awards, lifetimes, returns, stamp_lines, standings};

@@ -1,6 +1,7 @@
 //! The lines of reports.
 ghost use Rattle.std.specs.Prelude.{◌≡◌, ◌∷◌, ◌++◌, [], OnOk, codes};
-ghost use Rattle.aid_reports.specs.Columns.{left, line as columns, right};
+ghost use Rattle.export_lines.specs.Lines.{line_of as columns};
+ghost use Rattle.aid_reports.specs.Columns.{left, right};
 ghost use Rattle.aid_reports.specs.Days.{day_text};
 ghost use Rattle.aid_reports.specs.Lines.{award_line, due_text, lifetime_line, return_line, stamp_line, standing_line};
 

@@ -72,12 +72,20 @@ const BY_BROWN: [Run; 8] = [
     ),
 ];
 
-const PLAIN: [Run; 1] = [(
-    "report stamps",
-    "",
-    0,
-    "1 1970-01-01 \n2 1970-01-01 \nrows 2\n",
-)];
+const PLAIN: [Run; 2] = [
+    (
+        "report stamps",
+        "",
+        0,
+        "1 1970-01-01 \n2 1970-01-01 \nrows 2\n",
+    ),
+    (
+        "report export 2025",
+        "",
+        0,
+        "filing 020000000001000000000000006e000000020c\nfiling 04000000000200000000000000891300000000000070640800\nend 2 0\n",
+    ),
+];
 
 // Only the first of these changes the file.
 const FIRST_DAY: [Run; 18] = [

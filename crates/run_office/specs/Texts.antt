@@ -1,6 +1,7 @@
 -- What a report writes, and the tally before a generated year. Own.
 use Rattle.std.specs.Prelude.{ℕ, List, reverse}
 use Rattle.aid_filings.specs.declared.filing.Filing.{Filing}
+use Rattle.export_lines.specs.Exports.{export_text}
 use Rattle.aid_reports.specs.Reports.{award_report, lifetime_report, return_report, stamp_report, standing_report}
 use Rattle.generated_year.specs.declared.tally.YearTally.{YearTally}
 use Rattle.run_words.specs.declared.command.ReportRequest.{ReportRequest}
@@ -15,6 +16,7 @@ report_text (reports.Awards of) past = award_report (entries past) of.year
 report_text (reports.Returns of) past = return_report (entries past) of.year
 report_text reports.Lifetime past = lifetime_report (entries past)
 report_text reports.Stamps past = stamp_report (reverse (stamps_of past))
+report_text (reports.Export of) past = export_text (entries past) of.year
 
 -- the tally of no verdicts
 abbrev pub no_verdicts : YearTally

@@ -1,5 +1,5 @@
 // A report that is asked for.
-use aid_reports::{awards, lifetimes, returns, stamp_lines, standings};
+use aid_reports::{awards, export, lifetimes, returns, stamp_lines, standings};
 use kept_office::StampedOffice;
 use kept_session::Report;
 use run_words::ReportRequest;
@@ -24,6 +24,7 @@ impl Report<StampedOffice> for OfficeReport {
             ReportRequest::Returns(of) => returns(alloc, office, of.year),
             ReportRequest::Lifetime => lifetimes(alloc, office),
             ReportRequest::Stamps => stamp_lines(alloc, docket.stamps()),
+            ReportRequest::Export(of) => export(alloc, office, of.year),
         }
     }
 }

@@ -43,6 +43,8 @@ pub enum ReportRequest {
     Lifetime,
     /// `stamps`: the stamp of each filing.
     Stamps,
+    /// `export YEAR`: all filings, and where each student with an application in the year stands.
+    Export(ReportYear),
 }
 
 /// The generated year that is asked for: so many students, 1 to 20,000, drawn from a seed.
@@ -78,7 +80,8 @@ pub enum Command {
     Book(BookNumber),
     /// `quote SCHOOL STUDENT YEAR TERM`: to say the greatest Pell payment that the office would take.
     Quote(QuoteRequest),
-    /// `report standing YEAR`, `report awards YEAR`, `report returns YEAR`, `report lifetime`, `report stamps`: to write a report on the office.
+    /// `report standing YEAR`, `report awards YEAR`, `report returns YEAR`, `report lifetime`, `report stamps`, `report export YEAR`: to write a
+    /// report on the office.
     Report(ReportRequest),
     /// `fund SCHOOL YEAR TERM AMOUNT POLICY NUMBER`: to file the awards of a round.
     Fund(FundRequest),

@@ -277,6 +277,8 @@ fn report_request(report: &str, year: &str) -> Option<ReportRequest>
         Some(ReportRequest::Awards(of))
     } else if is_same_word(report, "returns") {
         Some(ReportRequest::Returns(of))
+    } else if is_same_word(report, "export") {
+        Some(ReportRequest::Export(of))
     } else {
         None
     }

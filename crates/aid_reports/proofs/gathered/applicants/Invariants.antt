@@ -1,5 +1,5 @@
 use Rattle.std.proofs.Common.{◌≡◌, reverse, take}
-use Rattle.aid_reports.specs.Rows.{applicant, told_by}
+use Rattle.export_lines.specs.Applicants.{applicant, told_by}
 use Rattle.aid_reports.proofs.gathered.applicants.Given as goal
 
 abbrev pub invariant-loop-filing : goal.invariant-loop-filing

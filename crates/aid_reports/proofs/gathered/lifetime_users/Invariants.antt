@@ -1,5 +1,6 @@
 use Rattle.std.proofs.Common.{◌≡◌, reverse, take}
-use Rattle.aid_reports.specs.Rows.{lifetime_user, told_by}
+use Rattle.export_lines.specs.Applicants.{told_by}
+use Rattle.aid_reports.specs.Rows.{lifetime_user}
 use Rattle.aid_reports.proofs.gathered.lifetime_users.Given as goal
 
 abbrev pub invariant-loop-filing : goal.invariant-loop-filing

@@ -1,7 +1,7 @@
 use Rattle.std.proofs.Common.{rules, reverse}
 use Rattle.std.proofs.lemmas.List.Filters.{dedup_is}
 use Rattle.std.proofs.lemmas.List.Sorted.{IsPermutation-reverse, IsPermutation-sym, IsPermutation-trans, answers_always}
-use Rattle.aid_reports.proofs.InOrder.{sorted}
+use Rattle.export_lines.proofs.InOrder.{sorted}
 use Rattle.aid_reports.proofs.Orders.{place_exact, place_order_total, place_ties}
 use Rattle.aid_reports.proofs.gathered.sort_places.Goals as goal
 

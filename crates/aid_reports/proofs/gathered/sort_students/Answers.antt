@@ -4,7 +4,7 @@ use Rattle.std.proofs.lemmas.Cmp.{nat_cmp_total}
 use Rattle.std.proofs.lemmas.List.Filters.{dedup_is}
 use Rattle.std.proofs.lemmas.List.Sorted.{IsPermutation-reverse, IsPermutation-sym, IsPermutation-trans, answers_always}
 use Rattle.std.proofs.lemmas.Map.Lookups.{exact_unsigned}
-use Rattle.aid_reports.proofs.InOrder.{sorted}
+use Rattle.export_lines.proofs.InOrder.{sorted}
 use Rattle.aid_reports.proofs.gathered.sort_students.Goals as goal
 
 pub returns : goal.returns

@@ -1,8 +1,10 @@
 use Rattle.std.proofs.Common.{reverse}
-use Rattle.aid_reports.specs.Rows.{paid_place, paid_places, place_order, told_by}
-use Rattle.aid_reports.specs.Told.{IsBefore}
-use Rattle.aid_reports.proofs.InOrder.{rises}
-use Rattle.aid_reports.proofs.Exactly.{exactly, place_before, rising}
+use Rattle.export_lines.specs.Applicants.{told_by}
+use Rattle.aid_reports.specs.Rows.{paid_place, paid_places, place_order}
+use Rattle.aid_reports.specs.Before.{IsBefore}
+use Rattle.export_lines.proofs.InOrder.{rises}
+use Rattle.export_lines.proofs.Exactly.{exactly, rising}
+use Rattle.aid_reports.proofs.Exactly.{place_before}
 use Rattle.aid_reports.proofs.Orders.{place_exact, place_order_total}
 use Rattle.aid_reports.proofs.laws.places_of_awards.Goals as goal
 

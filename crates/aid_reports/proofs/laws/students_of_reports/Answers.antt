@@ -2,9 +2,10 @@ use Rattle.std.proofs.Common.{◌<◌, reverse}
 use Rattle.std.specs.Ordering.{nat_cmp}
 use Rattle.std.proofs.lemmas.Cmp.{nat_cmp_total}
 use Rattle.std.proofs.lemmas.Map.Lookups.{exact_unsigned}
-use Rattle.aid_reports.specs.Rows.{applicant, applicants, lifetime_user, lifetime_users, told_by}
-use Rattle.aid_reports.proofs.InOrder.{rises}
-use Rattle.aid_reports.proofs.Exactly.{exactly, number_less, rising}
+use Rattle.export_lines.specs.Applicants.{applicant, applicants, told_by}
+use Rattle.aid_reports.specs.Rows.{lifetime_user, lifetime_users}
+use Rattle.export_lines.proofs.InOrder.{rises}
+use Rattle.export_lines.proofs.Exactly.{exactly, number_less, rising}
 use Rattle.aid_reports.proofs.laws.students_of_reports.Goals as goal
 
 pub returns-clause-applicants_rise : goal.returns-clause-applicants_rise

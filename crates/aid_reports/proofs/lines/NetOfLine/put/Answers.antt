@@ -3,7 +3,7 @@ use Rattle.std.proofs.lemmas.Result.{on_ok_weaker}
 use Rattle.aid_num.specs.Cents.{cents_text}
 use Rattle.aid_reports.specs.Columns.{left, right}
 use Rattle.aid_types.specs.Words.{program_text}
-use Rattle.aid_reports.proofs.Pieces.{written}
+use Rattle.export_lines.proofs.Written.{written}
 use Rattle.aid_reports.proofs.lines.NetOfLine.put.Goals as goal
 
 pub returns : goal.returns

@@ -4,7 +4,7 @@ use Rattle.aid_num.specs.Cents.{cents_text}
 use Rattle.aid_num.specs.Percents.{percent_text}
 use Rattle.aid_reports.specs.Columns.{right}
 use Rattle.aid_reports.specs.Lines.{due_text}
-use Rattle.aid_reports.proofs.Pieces.{written}
+use Rattle.export_lines.proofs.Written.{written}
 use Rattle.aid_reports.proofs.lines.ReturnOfLine.put.Goals as goal
 
 pub returns : goal.returns

@@ -4,7 +4,7 @@ use Rattle.aid_num.specs.Cents.{cents_text}
 use Rattle.aid_num.specs.Whole.{whole_text}
 use Rattle.aid_types.specs.Words.{formula_text, way_text}
 use Rattle.aid_reports.specs.Columns.{left, right}
-use Rattle.aid_reports.proofs.Pieces.{written}
+use Rattle.export_lines.proofs.Written.{written}
 use Rattle.aid_reports.proofs.lines.StandingOfLine.put.Goals as goal
 
 pub returns : goal.returns
