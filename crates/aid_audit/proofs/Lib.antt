@@ -1,0 +1,7 @@
+pub mod Causes
+pub mod Exports
+pub mod Judged
+pub mod Ranges
+pub mod Runs
+pub mod Stood
+pub mod Walk

@@ -1,0 +1,5 @@
+//! Tests of audits: what texts are found to be.
+#![tactic(auto)]
+
+#[cfg(test)]
+mod found;
