@@ -1,5 +1,7 @@
-//! An office over ordered maps in plain Rust, its desk, and the filings of crate office_bench in their orders.
+//! An office over ordered maps in plain Rust, its desk, and the filings of crate office_bench in their orders; and an office's
+//! rules over a plain list.
 
+pub mod afresh;
 pub mod arithmetic;
 pub mod desk;
 pub mod filings;

@@ -7,8 +7,8 @@ use super::returns::{Worksheet, half_up, worksheet};
 use std::collections::BTreeMap;
 
 const ROOM: usize = 1_000_000;
-const LIFETIME_LIMIT: u64 = 600_000;
-const FSEOG_LIMIT: u64 = 400_000;
+pub const LIFETIME_LIMIT: u64 = 600_000;
+pub const FSEOG_LIMIT: u64 = 400_000;
 const MOST_DOLLARS: u64 = 999_999;
 
 struct SchoolRow {
@@ -85,7 +85,7 @@ pub struct Office {
     places: BTreeMap<Place, PlaceRow>,
 }
 
-type Rule = Result<(), Refusal>;
+pub type Rule = Result<(), Refusal>;
 
 fn require(holds: bool, rule: u16, kept: u64, bound: u64) -> Rule {
     if holds { Ok(()) } else { Err(Refusal { rule, kept, bound }) }
@@ -104,18 +104,18 @@ fn day_count(day: i32) -> u64 {
     (day + 25_567) as u64
 }
 
-fn intensity(credits: u8, full: u8) -> u64 {
+pub fn intensity(credits: u8, full: u8) -> u64 {
     half_up(100 * u64::from(credits), u64::from(full)).min(100)
 }
 
 // The Pell payment of a term in cents.
-fn payment(scheduled: u32, credits: u8, school: &School) -> u64 {
+pub fn payment(scheduled: u32, credits: u8, school: &School) -> u64 {
     let percent = intensity(credits, school.full);
     100 * half_up(u64::from(scheduled) * percent, 100 * u64::from(school.terms))
 }
 
 // The lifetime units that a year's net cents use.
-fn use_of(paid: u64, scheduled: u32) -> u64 {
+pub fn use_of(paid: u64, scheduled: u32) -> u64 {
     if paid == 0 { 0 } else { half_up(1000 * paid, u64::from(scheduled)) }
 }
 
@@ -125,12 +125,26 @@ fn most_cents(scheduled: u32, units: u64) -> u64 {
     (scheduled * (2 * units + 1) - 1) / 2000
 }
 
-fn shares_day(one: &Calendar, other: &Calendar) -> bool {
+pub fn shares_day(one: &Calendar, other: &Calendar) -> bool {
     one.first <= other.last && other.first <= one.last
 }
 
-fn place_of(key: &Key, amount: &Amount) -> Place {
+pub fn place_of(key: &Key, amount: &Amount) -> Place {
     Place { student: amount.student, school: key.school, year: amount.year, term: amount.term }
+}
+
+// A birth year and a size of family that can be.
+pub fn fits(book: &Book, apply: &Apply) -> Rule {
+    let application = &apply.application;
+    at_most(92, application.birth_year.into(), book.year.into())?;
+    let couple = if application.married { 2 } else { 1 };
+    let family = application.family;
+    let (size, fits) = match formula_of(book, application) {
+        Formula::A => (2, family >= 2),
+        Formula::B => (couple, family == couple),
+        Formula::C => (couple + 1, family > couple),
+    };
+    require(fits, 92, family.into(), size.into())
 }
 
 impl Facts<'_> {
@@ -259,7 +273,7 @@ impl Office {
         }
         let position = *needed(self.books.get(&apply.year), 10, apply.year.into(), 0)?;
         let What::Book(book) = &self.filings[position as usize - 1].what else { unreachable!() };
-        self.fits(book, apply)?;
+        fits(book, apply)?;
         let lines = index(book, &apply.application);
         let decision = decide(book, &apply.application, lines.index);
         if let Some(row) = self.years.get(&(apply.student, apply.year)) {
@@ -272,19 +286,6 @@ impl Office {
             way: decision.way,
             scheduled: decision.scheduled,
         })
-    }
-
-    fn fits(&self, book: &Book, apply: &Apply) -> Rule {
-        let application = &apply.application;
-        at_most(92, application.birth_year.into(), book.year.into())?;
-        let couple = if application.married { 2 } else { 1 };
-        let family = application.family;
-        let (size, fits) = match formula_of(book, application) {
-            Formula::A => (2, family >= 2),
-            Formula::B => (couple, family == couple),
-            Formula::C => (couple + 1, family > couple),
-        };
-        require(fits, 92, family.into(), size.into())
     }
 
     // No limit is exceeded under another Scheduled Award.

@@ -1,6 +1,7 @@
-// Filings in the bytes of a journal's payload, both ways. Of a book the bytes are the caller's, and what is read is the specimen.
+// Filings in the bytes of a journal's payload, both ways. A book's bytes are the caller's where it is put, and its figures
+// aren't judged where it is taken.
 
-use super::arithmetic::{Application, Side, specimen_book};
+use super::arithmetic::{AgeRow, Allowance, Application, Book, Bracket, Side};
 use super::filings::*;
 
 // Appends the spelling of a filing.
@@ -133,6 +134,48 @@ impl Bytes<'_> {
         }
     }
 
+    fn figures<const N: usize>(&mut self) -> Option<[i64; N]> {
+        let mut figures = [0; N];
+        for figure in &mut figures {
+            *figure = i64::from_le_bytes(self.take()?);
+        }
+        Some(figures)
+    }
+
+    fn allowance(&mut self) -> Option<Allowance> {
+        let (sizes, [extra]) = (self.figures()?, self.figures()?);
+        Some(Allowance { sizes, extra })
+    }
+
+    fn rows<R>(&mut self, row: impl Fn([i64; 3]) -> R) -> Option<Vec<R>> {
+        (0..self.one()?).map(|_| Some(row(self.figures()?))).collect()
+    }
+
+    // A book of form 1, of whose three poverty guidelines the first is kept.
+    fn book(&mut self) -> Option<Book> {
+        let [form, year, maximum, minimum] = self.figures()?;
+        let (percent, poverty, [poverty_extra]) = (self.figures()?, self.figures()?, self.figures()?);
+        self.figures::<18>()?;
+        let [oasdi_cap, oasdi_rate, medicare_rate, medicare_high, threshold_single, threshold_married] = self.figures()?;
+        let parents = self.allowance()?;
+        let [dependent_student, single_student, married_student] = self.figures()?;
+        let (single_parent, married_parent) = (self.allowance()?, self.allowance()?);
+        let [employment_cap, employment_rate] = self.figures()?;
+        let [parents_rate, dependent_rate, no_dependents_rate, with_dependents_rate] = self.figures()?;
+        let bracket = |[over, base, rate]: [i64; 3]| Bracket { over, base, rate };
+        let business = self.rows(bracket)?;
+        let age = self.rows(|[start, single, married]| AgeRow { start, single, married })?;
+        let [low_at, low, first_rate, student_rate, lowest_student] = self.figures()?;
+        let bracket = self.rows(bracket)?;
+        let year = u16::try_from(year).ok().filter(|_| form == 1)?;
+        Some(Book {
+            year, maximum, minimum, percent, poverty, poverty_extra, oasdi_cap, oasdi_rate, medicare_rate, medicare_high,
+            threshold_single, threshold_married, parents, dependent_student, single_student, married_student, single_parent,
+            married_parent, employment_cap, employment_rate, parents_rate, dependent_rate, no_dependents_rate,
+            with_dependents_rate, business, age, low_at, low, first_rate, student_rate, lowest_student, bracket,
+        })
+    }
+
     fn amount(&mut self) -> Option<Amount> {
         Some(Amount {
             student: self.long()?,
@@ -144,25 +187,26 @@ impl Bytes<'_> {
     }
 
     fn side(&mut self) -> Option<Side> {
-        let mut side = Side::default();
-        let amounts = [
-            &mut side.agi, &mut side.ira, &mut side.interest, &mut side.ira_untaxed, &mut side.pension, &mut side.foreign,
-            &mut side.grants, &mut side.credits, &mut side.work_study, &mut side.tax, &mut side.earned_first,
-            &mut side.earned_second, &mut side.support, &mut side.cash, &mut side.investments, &mut side.business,
-        ];
-        for amount in amounts {
-            *amount = i64::from_le_bytes(self.take()?);
-        }
-        Some(side)
+        let [
+            agi, ira, interest, ira_untaxed, pension, foreign, grants, credits, work_study, tax, earned_first, earned_second,
+            support, cash, investments, business,
+        ] = self.figures()?;
+        Some(Side {
+            agi, ira, interest, ira_untaxed, pension, foreign, grants, credits, work_study, tax, earned_first, earned_second,
+            support, cash, investments, business,
+        })
     }
 
     fn apply(&mut self) -> Option<Apply> {
         let (student, year, transaction) = (self.long()?, self.short()?, self.one()?);
         let birth_year = self.short()?;
-        let (_region, family) = (self.one()?, self.one()?);
+        let (region, family) = (self.one()?, self.one()?);
         let mut marks = [false; 10];
         for mark in &mut marks {
             *mark = self.flag()?;
+        }
+        if region != 0 || marks[5..].contains(&true) {
+            return None;
         }
         let application = Application {
             birth_year,
@@ -199,7 +243,7 @@ pub fn take(payload: &[u8]) -> Option<Filing> {
     let code = bytes.one()?;
     let key = Key { school: bytes.word()?, number: bytes.long()? };
     let what = match code {
-        1 => return Some(Filing { key, what: What::Book(Box::new(specimen_book())) }),
+        1 => What::Book(Box::new(bytes.book()?)),
         2 => What::School(School { code: bytes.word()?, terms: bytes.one()?, full: bytes.one()? }),
         3 => {
             let (year, term, extra) = (bytes.short()?, bytes.one()?, bytes.flag()?);
