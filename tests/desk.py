@@ -100,7 +100,7 @@ KINDS = {
 COMMANDS = [
     (["found"], []), (["file"], []), (["book"], KEY[1:]), (["quote"], [KEY[0], STUDENT, YEAR, TERM]),
     (["report", "standing"], [YEAR]), (["report", "awards"], [YEAR]), (["report", "returns"], [YEAR]), (["report", "lifetime"], []),
-    (["report", "stamps"], []),
+    (["report", "stamps"], []), (["report", "export"], [YEAR]),
     (["fund"], [KEY[0], YEAR, TERM, whole(1, 99_999_999), policy, whole(1, 999_999_000_000)]),
     (["generate"], [whole(0, 10**12 - 1), whole(1, 20_000)]), (["check", "rows"], []), (["check", "book"], []),
 ]
