@@ -22,6 +22,8 @@ BEGIN {
 
 /^1 book [1-6]( |$)/ { explain_book($3, $4, $5) }
 
+/^no [0-9]+ [1-8]$/ { explain_no($2, $3) }
+
 /^fault / { explain_fault($0) }
 
 function read_answers(path,    line, part) {
@@ -176,6 +178,11 @@ function explain_book(error, detail, row,    key) {
     if (error == 6) say("The key " substr($0, 10) ".")
     say(meaning[key])
     say("To do: " to_do[key])
+}
+
+function explain_no(line, cause) {
+    say("Line " line ": " meaning["no " cause])
+    say("To do: " to_do["no " cause])
 }
 
 function explain_fault(line) {

@@ -16,7 +16,7 @@ FNR == NR {
         sub(/ .*/, "", status)
         last = substr(rest, length(status) + 2)
         line = "| " status " | " (last == "" ? "" : "`" last "`") " | " $2 " | " $7 " |"
-    } else if (group == "error" || group == "book")
+    } else if (group == "error" || group == "book" || group == "no")
         line = "| " rest " | " $2 " | " $7 " |"
     else
         line = "| " $1 " | " $2 " | " $7 " |"
@@ -38,7 +38,7 @@ FNR == NR {
         print "| rule | broken where | what KEPT is | what BOUND is | what to do |\n|---|---|---|---|---|"
     else if (group == "status")
         print "| status | last line | means | what to do |\n|---|---|---|---|"
-    else if (group == "error")
+    else if (group == "error" || group == "no")
         print "| cause | means | what to do |\n|---|---|---|"
     else if (group == "book")
         print "| error | means | what to do |\n|---|---|---|"
