@@ -329,7 +329,11 @@ class Desk:
         return four_lines(totals)
 
     def report(self, which, year=None):
-        """What `report standing YEAR`, `report awards YEAR`, `report returns YEAR`, `report lifetime` and `report stamps` print."""
+        """What `report standing YEAR`, `report awards YEAR`, `report returns YEAR`, `report export YEAR`, `report lifetime` and `report
+        stamps` print."""
+        if which == "export":
+            import audit_model  # which stands on this module
+            return audit_model.export(self.history, year)
         read = [self.stamps] if which == "stamps" else [] if year is None else [year]
         lines = REPORTS[which](self.history, *read)
         return "".join(f"{line}\n" for line in lines) + f"rows {len(lines)}\n"
