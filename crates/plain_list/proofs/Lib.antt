@@ -3,6 +3,7 @@ pub mod Earliest
 pub mod Indexed
 pub mod Moves
 pub mod NoPell
+pub mod OneProgram
 pub mod Terms
 pub mod Withdrawn
 pub mod YearSums

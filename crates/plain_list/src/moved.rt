@@ -1,6 +1,6 @@
 //! What the filings move: in a student's term at a school, and at the cells of a net.
-ghost use Rattle.std.specs.Prelude.{◌≡◌, ◌∷◌, ℕ, IfSome, None, Some, get_or, is_some};
-ghost use Rattle.aid_types.specs.Programs.{six};
+ghost use Rattle.std.specs.Prelude.{◌≡◌, ◌==◌, ◌∷◌, ℕ, IfSome, None, Some, get_or, if◌then◌else◌, is_some};
+ghost use Rattle.aid_types.specs.Programs.{rank, six};
 ghost use Rattle.office_history.specs.Accounts.{AreSums, IsAccount};
 ghost use Rattle.office_history.specs.Answer.{IsLegal};
 ghost use Rattle.office_history.specs.Net.{cell_at, in_year, is_cell, moved, net, net_at, payments_in, sheet as sheet_after, takings_in};
@@ -49,30 +49,24 @@ impl Plain<'_> {
         let mut withdrawn = false;
         for index in 0..filings.len() {
             let filing = &filings[index];
-            so_far = Plain::new(&filings[..index]).account_with(filing, place, withdrawn, &so_far);
+            Plain::new(&filings[..index]).add_entry(filing, place, withdrawn, &mut so_far);
             withdrawn = withdrawn || withdrawal_in(filing, place).is_some();
         }
         so_far
     }
 
-    // The account with a filing more, where it is told whether the student had withdrawn before it.
-    fn account_with(
-        &self,
-        filing: &Filing,
-        place: &Place,
-        withdrawn: bool,
-        so_far: &Account,
-    ) -> Account
+    // Adds to the account what a filing more moves there, where it is told whether the student had withdrawn before it.
+    fn add_entry(&self, filing: &Filing, place: &Place, withdrawn: bool, so_far: &mut Account)
         requires legal { IsLegal (filing.now ∷ self.now) }
         requires withdrawn { withdrawn ≡ is_some (the_withdrawal self.now place.now.school place.now.student place.now.year place.now.term) }
-        requires account { IsAccount self.now place.now.school place.now.student place.now.year place.now.term so_far.now }
-        ensures { IsAccount (filing.now ∷ self.now) place.now.school place.now.student place.now.year place.now.term result }
+        requires account { IsAccount self.now place.now.school place.now.student place.now.year place.now.term so_far.old }
+        ensures { IsAccount (filing.now ∷ self.now) place.now.school place.now.student place.now.year place.now.term so_far.new }
     {
         match Place::of(filing) {
             Some(own) if own.is(place) => {
-                so_far.joined(&self.entry(filing, &own, withdrawn, so_far))
+                *so_far = so_far.joined(&self.entry(filing, &own, withdrawn, so_far));
             }
-            _ => *so_far,
+            _ => {}
         }
     }
 
@@ -132,6 +126,26 @@ impl Plain<'_> {
                 (ByProgram::EMPTY, lines.returned)
             }
             _ => (ByProgram::EMPTY, ByProgram::EMPTY),
+        }
+    }
+
+    // What a filing after these pays and takes back of such cells in the term that it is about, all of whose amounts by program
+    // a withdrawal alone needs.
+    fn cents_moved(&self, filing: &Filing, own: &Place, cells: &Cells) -> (u64, u64)
+        requires legal { IsLegal (filing.now ∷ self.now) }
+        requires own { own_place filing.now.key filing.now.what ≡ Some own.now }
+        ensures paid { result.0 ≡ cents_of cells.now (six (λ p. moved (is_cell (cell_at own.now.school own.now.student own.now.year own.now.term p)) (payments_in filing.now.key filing.now.what))) }
+        ensures taken { result.1 ≡ cents_of cells.now (six (λ p. moved (is_cell (cell_at own.now.school own.now.student own.now.year own.now.term p)) (takings_in self.now (net_at self.now) filing.now.key filing.now.what))) }
+    {
+        match &filing.what {
+            What::Pay(amount) => (cells.cents_in(amount.program, amount.cents), 0),
+            What::Repay(amount) => (0, cells.cents_in(amount.program, amount.cents)),
+            What::Adjust(amount) => (0, cells.cents_in(amount.program, amount.cents)),
+            What::Withdraw(_) => {
+                let (_, taken) = self.paid_and_taken(filing, own);
+                (0, cells.cents_of(&taken))
+            }
+            _ => (0, 0),
         }
     }
 
@@ -197,10 +211,7 @@ impl Plain<'_> {
         ensures asked { (i : ℕ) → IfSome (get_or asked.new i None) (λ a. a.1 ≡ is_extra_term (the_term whole.now a.0.school a.0.year a.0.term)) }
     {
         match Place::of(filing) {
-            Some(own) if whole.has(cells, &own, asked) => {
-                let (paid, taken) = self.paid_and_taken(filing, &own);
-                (cells.cents_of(&paid), cells.cents_of(&taken))
-            }
+            Some(own) if whole.has(cells, &own, asked) => { self.cents_moved(filing, &own, cells) }
             _ => (0, 0),
         }
     }
@@ -252,6 +263,18 @@ impl Plain<'_> {
 }
 
 impl Cells {
+    // What of an amount of one program stands at them.
+    fn cents_in(&self, program: Program, cents: u64) -> u64
+        ensures { result ≡ cents_of self.now (six (λ p. if rank program == p then cents else 0)) }
+    {
+        let counts = match *self {
+            Cells::InYear(_, _, wanted) => program.rank() == wanted.rank(),
+            Cells::InMainTerms(..) => program.rank() == Program::Pell.rank(),
+            Cells::AtSchool(..) => true,
+        };
+        if counts { cents } else { 0 }
+    }
+
     // What of a term's amounts stands at them.
     fn cents_of(&self, amounts: &ByProgram) -> u64
         requires { AreSums amounts.now }

@@ -11,8 +11,8 @@ use Rattle.plain_list.proofs.plain.Plain.account_of.Goals.{then-withdrawn, else-
 pub new-requires : goal.new-requires
 new-requires c = legal_take c.self.inside.filings.now c.loop-index.index c.self.invariant
 
-pub account_with-so_far-requires-clause-legal : goal.account_with-so_far-requires-clause-legal
-account_with-so_far-requires-clause-legal c =
+pub add_entry-requires-clause-legal : goal.add_entry-requires-clause-legal
+add_entry-requires-clause-legal c =
     let f = c.index-filings-index.result in
     subst (λ (past : List Filing). IsLegal (f ∷ past)) (sym c.new.ensures)
     (legal_at c.self.inside.filings.now c.loop-index.index f c.loop-index-test.true c.index-filings-index.is c.self.invariant)
@@ -28,8 +28,8 @@ loop-index-preserved c =
     let here = at_school p.school (withdrawal_in p.student p.year p.term) f in
     let before = the_withdrawal past p.school p.student p.year p.term in
     record {
-      account = subst (λ (past : List Filing). IsAccount past p.school p.student p.year p.term c.account_with-so_far.result) next
-          (subst (λ (past : List Filing). IsAccount (f ∷ past) p.school p.student p.year p.term c.account_with-so_far.result) c.new.ensures c.account_with-so_far.ensures);
+      account = subst (λ (past : List Filing). IsAccount past p.school p.student p.year p.term c.add_entry.new.so_far) next
+          (subst (λ (past : List Filing). IsAccount (f ∷ past) p.school p.student p.year p.term c.add_entry.new.so_far) c.new.ensures c.add_entry.ensures);
       withdrawn = elim c.if-withdrawn.branch [
         | then-withdrawn w ↦
             w.withdrawn-is ∙ w.if-withdrawn.true ∙ told_before here before (sym c.loop-index.invariant.withdrawn ∙ w.if-withdrawn.true)

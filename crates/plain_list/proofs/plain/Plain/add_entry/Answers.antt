@@ -4,9 +4,8 @@ use Rattle.office_history.specs.Past.{the_withdrawal}
 use Rattle.office_history.specs.declared.account.Account.{Account}
 use Rattle.office_history.specs.declared.place.Place.{Place}
 use Rattle.office_history.proofs.AccountSteps.{account-joined, account-kept, account-sums, entry-sums}
-use Rattle.office_history.proofs.Own.{entry-elsewhere, entry-there, moves-in, same-place, still}
-use Rattle.plain_list.proofs.plain.Plain.account_with.Goals as goal
-use Rattle.plain_list.proofs.plain.Plain.account_with.Goals.{in_default-via-in-Some+else-is, in_default-via-in_default}
+use Rattle.office_history.proofs.Own.{entry-elsewhere, entry-there, moves-in, same-place}
+use Rattle.plain_list.proofs.plain.Plain.add_entry.Goals as goal
 
 pub entry-requires-clause-withdrawn : goal.entry-requires-clause-withdrawn
 entry-requires-clause-withdrawn c =
@@ -36,13 +35,10 @@ returns-in-Some c =
     (account-joined past f p.school p.student p.year p.term c.args.so_far.now c.entry.result c.requires.account
     (entry-there past f.key f.what c.in-Some.own p c.entry.result (sym c.of.ensures ∙ c.in-Some.is) (sym c.is.ensures ∙ c.if-is.true) c.entry.ensures))
 
-pub returns-in_default : goal.returns-in_default
-returns-in_default c =
+pub returns-else-is : goal.returns-else-is
+returns-else-is c =
     let p = c.args.place.now in
     let f = c.args.filing.now in
     let past = c.args.self.now in
     account-kept past f p.school p.student p.year p.term c.args.so_far.now c.requires.account
-    (elim c.in_default.branch [
-      | in_default-via-in-Some+else-is w ↦ entry-elsewhere past f.key f.what p w.in-Some.own (moves-in past f.key f.what w.in-Some.own (sym c.of.ensures ∙ w.in-Some.is)) (sym w.is.ensures ∙ w.if-is.false)
-      | in_default-via-in_default w ↦ (still past f.key f.what (sym c.of.ensures ∙ w.in_default.is)).entry p
-    ])
+    (entry-elsewhere past f.key f.what p c.in-Some.own (moves-in past f.key f.what c.in-Some.own (sym c.of.ensures ∙ c.in-Some.is)) (sym c.is.ensures ∙ c.if-is.false))
