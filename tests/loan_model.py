@@ -1,9 +1,7 @@
 """A loan office in plain Python, written apart from the proved code: its rows, its rules, its lines and its journal. Each filing is
 judged on the whole list of those before it."""
-from dataclasses import dataclass
-
+import ruled_model
 from desk import Faulty, cents, whole
-from ruled_model import RuledOffice
 
 MOST_FILINGS = 200_000
 PROGRAMS = ["unsub", "sub"]
@@ -32,13 +30,7 @@ KINDS = {
 SUB, DEPENDENT, INDEPENDENT, GRADUATE, AGGREGATE_SUB, AGGREGATE = 1, 5, 8, 11, 12, 14
 
 
-@dataclass(frozen=True)
-class Filing:
-    kind: str
-    school: int
-    number: int
-    facts: tuple
-
+class Filing(ruled_model.Filing):
     def payload(self):
         """The bytes of the filing."""
         code, fields = KINDS[self.kind]
@@ -62,7 +54,7 @@ def filing_of(columns):
     return Filing(columns[0], numbers[0], numbers[1], tuple(numbers[2:]))
 
 
-class LoanOffice(RuledOffice):
+class LoanOffice(ruled_model.RuledOffice):
     """An office of loans."""
 
     def of_kind(self, kind):

@@ -1,4 +1,14 @@
 """A list of filings under rules in plain Python, as the loan desk and the work-study desk keep it."""
+from dataclasses import dataclass
+
+
+@dataclass(frozen=True)
+class Filing:
+    """A filing of a kind, under its key, with its numbers behind the key."""
+    kind: str
+    school: int
+    number: int
+    facts: tuple
 
 
 class RuledOffice:

@@ -1,9 +1,7 @@
 """A work-study office in plain Python, written apart from the proved code: its rows, its rules, its rounds, its lines and its journal.
 Each filing is judged on the whole list of those before it."""
-from dataclasses import dataclass
-
+import ruled_model
 from desk import KEY, STUDENT, YEAR, Faulty, RowError, money, rows_of, whole
-from ruled_model import RuledOffice
 
 MOST_FILINGS = 200_000
 LONGEST_INPUT = 16_777_216
@@ -42,13 +40,7 @@ def earning(minutes, wage):
     return (minutes * wage + 30) // 60
 
 
-@dataclass(frozen=True)
-class Filing:
-    kind: str
-    school: int
-    number: int
-    facts: tuple
-
+class Filing(ruled_model.Filing):
     @property
     def student(self):
         """Whom it is about; nobody where it is a fund."""
@@ -92,7 +84,7 @@ def filing_of(columns):
     return numbers if isinstance(numbers, RowError) else Filing(kind, numbers[0], numbers[1], tuple(numbers[2:]))
 
 
-class WorkOffice(RuledOffice):
+class WorkOffice(ruled_model.RuledOffice):
     """A work-study office."""
 
     def there(self, kind, school, year, student=None):
