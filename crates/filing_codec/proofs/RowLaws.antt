@@ -114,20 +114,35 @@ rows_alone k l xs ys rest p q e =
 pub length-row_bytes : (kind : Kind) (zs : List ℤ) → AreNumbers (slots_of_kind kind) [] zs → length (row_bytes kind zs) ≤ 8155
 length-row_bytes kind zs are = omega (arith, numbers_few (slots_of_kind kind) zs, few_numbers kind zs are)
 
--- all but a book have few numbers
-pub most_of-few : (kind : Kind) → (kind ≡ Book → ⊥) → most_of (slots_of_kind kind) ≤ 64
+-- all but a book have some numbers
+pub most_of-some : (kind : Kind) → (kind ≡ Book → ⊥) → most_of (slots_of_kind kind) ≤ 64
 unfolding table_row_of
-most_of-few Book other = absurd (other refl)
-most_of-few School other = lit≤ tt
-most_of-few Calendar other = lit≤ tt
-most_of-few Prior other = lit≤ tt
-most_of-few Apply other = lit≤ tt
-most_of-few Enrol other = lit≤ tt
-most_of-few Originate other = lit≤ tt
-most_of-few Pay other = lit≤ tt
-most_of-few Withdraw other = lit≤ tt
-most_of-few Repay other = lit≤ tt
-most_of-few Adjust other = lit≤ tt
+most_of-some Book other = absurd (other refl)
+most_of-some School other = lit≤ tt
+most_of-some Calendar other = lit≤ tt
+most_of-some Prior other = lit≤ tt
+most_of-some Apply other = lit≤ tt
+most_of-some Enrol other = lit≤ tt
+most_of-some Originate other = lit≤ tt
+most_of-some Pay other = lit≤ tt
+most_of-some Withdraw other = lit≤ tt
+most_of-some Repay other = lit≤ tt
+most_of-some Adjust other = lit≤ tt
+
+-- and all but a term and an application few
+pub most_of-few : (kind : Kind) → (kind ≡ Book → ⊥) → (kind ≡ Calendar → ⊥) → (kind ≡ Apply → ⊥) → most_of (slots_of_kind kind) ≤ 16
+unfolding table_row_of
+most_of-few Book other term application = absurd (other refl)
+most_of-few Calendar other term application = absurd (term refl)
+most_of-few Apply other term application = absurd (application refl)
+most_of-few School other term application = lit≤ tt
+most_of-few Prior other term application = lit≤ tt
+most_of-few Enrol other term application = lit≤ tt
+most_of-few Originate other term application = lit≤ tt
+most_of-few Pay other term application = lit≤ tt
+most_of-few Withdraw other term application = lit≤ tt
+most_of-few Repay other term application = lit≤ tt
+most_of-few Adjust other term application = lit≤ tt
 
 -- ---- where the parts are told
 -- what was read of them is what the kind's numbers are read to be

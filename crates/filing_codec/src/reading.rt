@@ -14,8 +14,9 @@ use filing_kinds::{Kind, key_parts, kind_at, table_row};
 use filing_numbers::filing_of;
 use std::alloc::Global;
 
-// The most numbers that a filing has which is no book.
-const FEW_NUMBERS: usize = 64;
+// The most numbers that a filing has which is no book, and one that is no term and no application either.
+const SOME_NUMBERS: usize = 64;
+const FEW_NUMBERS: usize = 16;
 
 /// Why bytes are no filing.
 #[derive(Clone, Copy, PartialEq, Eq, Debug)]
@@ -48,6 +49,8 @@ fn filing_in(alloc: Global, bytes: &[u8]) -> Result<Filing, TakeError>
     };
     match kind_at(*code) {
         Some(Kind::Book) => book_in(alloc, rest),
+        Some(Kind::Calendar) => long_filing_in(alloc, Kind::Calendar, rest),
+        Some(Kind::Apply) => long_filing_in(alloc, Kind::Apply, rest),
         Some(kind) => short_filing_in(alloc, kind, rest),
         None => Err(TakeError::NotFiling(0)),
     }
@@ -64,9 +67,22 @@ fn book_in(alloc: Global, bytes: &[u8]) -> Result<Filing, TakeError>
     }
 }
 
+// The term or the application whose numbers the bytes spell.
+fn long_filing_in(alloc: Global, kind: Kind, bytes: &[u8]) -> Result<Filing, TakeError>
+    requires { kind ≢ Kind.Book }
+    ensures { Gives result (of_kind (Some kind) bytes.now) }
+{
+    match numbers_at::<SOME_NUMBERS>(key_parts(), table_row(kind).parts, bytes) {
+        Ok(draft) => filed(alloc, kind, draft.numbers()),
+        Err(place) => Err(TakeError::NotFiling(place)),
+    }
+}
+
 // The filing of another kind whose numbers the bytes spell.
 fn short_filing_in(alloc: Global, kind: Kind, bytes: &[u8]) -> Result<Filing, TakeError>
-    requires { kind ≢ Kind.Book }
+    requires no_book { kind ≢ Kind.Book }
+    requires no_term { kind ≢ Kind.Calendar }
+    requires no_application { kind ≢ Kind.Apply }
     ensures { Gives result (of_kind (Some kind) bytes.now) }
 {
     match numbers_at::<FEW_NUMBERS>(key_parts(), table_row(kind).parts, bytes) {

@@ -59,7 +59,7 @@ fn household(income: u32) -> Side
     ensures { side_numbers result ≡ pos income ∷ (zeros 8 ++ (pos (income / 10) ∷ pos income ∷ zeros 5)) }
 {
     Side {
-        agi: i64::from(income),
+        agi: income as i32,
         ira: 0,
         interest: 0,
         ira_untaxed: 0,
@@ -68,8 +68,8 @@ fn household(income: u32) -> Side
         grants: 0,
         credits: 0,
         work_study: 0,
-        tax: i64::from(income / 10),
-        earned_first: i64::from(income),
+        tax: (income / 10) as i32,
+        earned_first: income as i32,
         earned_second: 0,
         support: 0,
         cash: 0,

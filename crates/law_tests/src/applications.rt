@@ -145,7 +145,7 @@ fn student_with_dependents(rt: HostRuntime) {
 }
 
 // Asserts the index and the award of the family of four with this income of the parents.
-fn assert_family_of_four(rt: &impl Abort, agi: i64, sai: i32, scheduled: u32)
+fn assert_family_of_four(rt: &impl Abort, agi: i32, sai: i32, scheduled: u32)
     requires { IsSignedAmount agi }
 {
     let book = specimen_book();
@@ -169,7 +169,7 @@ fn family_of_four_with_more_income(rt: HostRuntime) {
 }
 
 // Asserts the decision on a dependent student of married parents with this income, three in the family.
-fn assert_decision(rt: &impl Abort, agi: i64, index: i32, way: Way, scheduled: u32, sai: i32)
+fn assert_decision(rt: &impl Abort, agi: i32, index: i32, way: Way, scheduled: u32, sai: i32)
     requires agi_in_range { IsSignedAmount agi }
     requires index_in_range { IsIndex index }
 {
@@ -241,8 +241,8 @@ fn who_had_to_file(rt: HostRuntime) {
 fn assert_under_ceiling(
     rt: &impl Abort,
     percent: u16,
-    agi: i64,
-    foreign: i64,
+    agi: i32,
+    foreign: i32,
     index: i32,
     wanted: (Way, u32),
     told: (u32, u32),

@@ -105,8 +105,8 @@ fn sizes_of_family(rt: HostRuntime) {
 // Asserts the two allowances of a household that earned so much.
 fn assert_earnings(
     rt: &impl Abort,
-    first: i64,
-    second: i64,
+    first: i32,
+    second: i32,
     married: bool,
     payroll: i64,
     employment: i64,
@@ -122,13 +122,13 @@ fn assert_earnings(
         rt,
         payroll_allowance(&book.payroll, married, &side),
         payroll,
-        first,
+        i64::from(first),
     );
     assert_amount(
         rt,
         employment_allowance(&book.employment, &side),
         employment,
-        first,
+        i64::from(first),
     );
 }
 

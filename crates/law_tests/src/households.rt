@@ -58,7 +58,7 @@ pub(crate) fn applicant(birth_year: u16, family: u8, own: Side, parents: Side) -
 }
 
 /// A household with an adjusted gross income, all of it earned by one, and the tax on it.
-pub(crate) fn earner(agi: i64, tax: i64) -> Side
+pub(crate) fn earner(agi: i32, tax: i32) -> Side
     requires agi_in_range { IsAmount agi }
     requires tax_in_range { IsSignedAmount tax }
 {
@@ -70,7 +70,7 @@ pub(crate) fn earner(agi: i64, tax: i64) -> Side
 }
 
 /// A family of four: parents who earned 50,000 and 35,000 dollars and a student who earned 6,000.
-pub(crate) fn family_of_four(agi: i64) -> Application
+pub(crate) fn family_of_four(agi: i32) -> Application
     requires { IsSignedAmount agi }
 {
     let mut own = earner(6000, 0);

@@ -26,12 +26,12 @@ impl Sequence {
     }
 
     // The next amount below a bound, in dollars.
-    fn amount(&mut self, bound: u64) -> i64
+    fn amount(&mut self, bound: u64) -> i32
         requires positive { 0 < bound }
         requires in_range { bound ≤ 100000000 }
         ensures { IsAmount result }
     {
-        self.below(bound) as i64
+        self.below(bound) as i32
     }
 
     // One yes in eight.

@@ -62,9 +62,9 @@ pub fn application(student: Student, year: u16, agi: u32) -> What
     requires agi { agi < 120000 }
 {
     let mut parents = Side::EMPTY;
-    parents.agi = i64::from(agi);
-    parents.tax = i64::from(agi / 10);
-    parents.earned_first = i64::from(agi);
+    parents.agi = agi as i32;
+    parents.tax = (agi / 10) as i32;
+    parents.earned_first = agi as i32;
     What::Apply(Application {
         student,
         year: Year(year),

@@ -194,9 +194,9 @@ fn counted_income(ceiling: u16, side: &Side) -> i64
     ensures { result ≡ counted_income_of ceiling side.now }
 {
     if ceiling == 0 {
-        side.agi
+        i64::from(side.agi)
     } else {
-        side.agi + side.foreign
+        i64::from(side.agi + side.foreign)
     }
 }
 

@@ -50,7 +50,7 @@ pub(crate) fn dependent(book: &Book, a: &Application, parent: &ParentLines) -> P
     let shortfall = shortfall(parent);
     let allowances = tax + payroll + protection + shortfall;
     let available = total - allowances;
-    let worth = side.cash + side.investments + side.business;
+    let worth = i64::from(side.cash + side.investments + side.business);
     ParentLines {
         total,
         tax,

@@ -29,7 +29,7 @@ pub fn total_income(side: &Side) -> i64
     ensures value { result ≡ total_income_of side.now }
     ensures in_range { IsSumOf 9 result }
 {
-    side.agi + untaxed_income(side) - income_offsets(side)
+    i64::from(side.agi) + untaxed_income(side) - income_offsets(side)
 }
 
 // Untaxed income and benefits (HEA 480(b)).
@@ -37,7 +37,7 @@ fn untaxed_income(side: &Side) -> i64
     ensures value { result ≡ untaxed_income_of side.now }
     ensures in_range { IsSumOf 5 result }
 {
-    side.ira + side.interest + side.ira_untaxed + side.pension + side.foreign
+    i64::from(side.ira + side.interest + side.ira_untaxed + side.pension + side.foreign)
 }
 
 // What is taken off income (HEA 480(e)).
@@ -45,7 +45,7 @@ fn income_offsets(side: &Side) -> i64
     ensures value { result ≡ income_offsets_of side.now }
     ensures in_range { IsSumOf 3 result }
 {
-    side.grants + side.credits + side.work_study
+    i64::from(side.grants + side.credits + side.work_study)
 }
 
 /// The allowance for federal income tax (HEA 475(c)(1)(A)).
@@ -54,7 +54,7 @@ pub fn tax_allowance(side: &Side) -> i64
     ensures value { result ≡ tax_allowance_of side.now }
     ensures in_range { IsSumOf 1 result }
 {
-    side.tax.max(0)
+    i64::from(side.tax.max(0))
 }
 
 // What both earned.
@@ -63,7 +63,7 @@ fn earned(side: &Side) -> i64
     ensures not_negative { pos 0 ≤ℤ result }
     ensures in_range { IsSumOf 2 result }
 {
-    side.earned_first + side.earned_second
+    i64::from(side.earned_first + side.earned_second)
 }
 
 // The amount from which the higher Medicare rate is due.
@@ -84,7 +84,9 @@ pub fn payroll_allowance(payroll: &Payroll, married: bool, side: &Side) -> i64
     ensures value { result ≡ payroll_allowance_of payroll.now married side.now }
     ensures in_range { IsSumOf 5 result }
 {
-    let insurance = oasdi(payroll, side.earned_first) + oasdi(payroll, side.earned_second);
+    let first = oasdi(payroll, i64::from(side.earned_first));
+    let second = oasdi(payroll, i64::from(side.earned_second));
+    let insurance = first + second;
     insurance + medicare(payroll, married, earned(side))
 }
 

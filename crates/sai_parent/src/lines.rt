@@ -57,8 +57,8 @@ pub fn income_and_assets(
     let payroll = payroll_allowance(&book.payroll, married, side);
     let allowances = tax + payroll + protection + employment;
     let available = total - allowances;
-    let business = business_worth(&book.business, side.business);
-    let worth = side.support + side.cash + side.investments + business;
+    let business = business_worth(&book.business, i64::from(side.business));
+    let worth = i64::from(side.support + side.cash + side.investments) + business;
     let asset_protection = asset_protection(&book.age, married, age);
     let discretionary = worth - asset_protection;
     ParentLines {

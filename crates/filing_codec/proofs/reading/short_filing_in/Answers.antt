@@ -12,7 +12,7 @@ use Rattle.filing_codec.proofs.reading.short_filing_in.Goals as goal
 pub numbers_at-requires : goal.numbers_at-requires
 numbers_at-requires c =
     let table = IsTable-parts c.args.kind (slots_of c.key_parts.result.now) (slots_of c.table_row.result.parts.now) c.key_parts.ensures c.table_row.ensures.parts in
-    (lit< tt, (table, (ap are_plain c.key_parts.ensures, (rw (c.key_parts.ensures, c.table_row.ensures.parts) (most_of-few c.args.kind c.requires), lit≤ tt))))
+    (lit< tt, (table, (ap are_plain c.key_parts.ensures, (rw (c.key_parts.ensures, c.table_row.ensures.parts) (most_of-few c.args.kind c.requires.no_book c.requires.no_term c.requires.no_application), lit≤ tt))))
 
 pub filed-requires : goal.filed-requires
 filed-requires c =
