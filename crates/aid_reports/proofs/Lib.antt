@@ -1,4 +1,3 @@
-pub mod DayTexts
 pub mod Exactly
 pub mod Orders
 pub mod Passes

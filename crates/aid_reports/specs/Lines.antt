@@ -7,7 +7,7 @@ use Rattle.aid_types.specs.Words.{formula_text, program_text, way_text}
 use Rattle.stamps.specs.declared.stamp.Stamp.{Stamp}
 use Rattle.export_lines.specs.Lines.{line_of as line}
 use Rattle.aid_reports.specs.Columns.{left, right}
-use Rattle.aid_reports.specs.Days.{day_text}
+use Rattle.enrolment.specs.Days.{day_text}
 use Rattle.aid_reports.specs.declared.rows.LifetimeOf.{LifetimeOf}
 use Rattle.aid_reports.specs.declared.rows.NetOf.{NetOf}
 use Rattle.aid_reports.specs.declared.rows.ReturnOf.{ReturnOf}

@@ -2,7 +2,7 @@
 ghost use Rattle.std.specs.Prelude.{◌≡◌, ◌∷◌, ◌++◌, [], OnOk, codes};
 ghost use Rattle.export_lines.specs.Lines.{line_of as columns};
 ghost use Rattle.aid_reports.specs.Columns.{left, right};
-ghost use Rattle.aid_reports.specs.Days.{day_text};
+ghost use Rattle.enrolment.specs.Days.{day_text};
 ghost use Rattle.aid_reports.specs.Lines.{award_line, due_text, lifetime_line, return_line, stamp_line, standing_line};
 
 use crate::columns::{
@@ -81,23 +81,16 @@ fn put_due_text(due: Option<Day>, out: &mut Vec<u8>) -> Result<(), AllocError>
     ensures { OnOk result (out.new.items ≡ out.old.items ++ due_text due) }
 {
     match due {
-        Some(day) => put_day_text(day, out),
+        Some(day) => put_day(day, out),
         None => out.extend_from_slice(b"none"),
     }
-}
-
-// Appends the text of a day.
-fn put_day_text(day: Day, out: &mut Vec<u8>) -> Result<(), AllocError>
-    ensures { OnOk result (out.new.items ≡ out.old.items ++ day_text day) }
-{
-    put_day(day, out)
 }
 
 // Appends a day, and a space.
 fn put_day_column(day: Day, out: &mut Vec<u8>) -> Result<(), AllocError>
     ensures { OnOk result (out.new.items ≡ out.old.items ++ day_text day ++ 32 ∷ []) }
 {
-    put_day_text(day, out)?;
+    put_day(day, out)?;
     out.push(b' ')?;
     Ok(())
 }

@@ -1,3 +1,4 @@
 pub mod DayLemmas
 pub mod DayTextLaws
+pub mod DayTexts
 pub mod TermDays

@@ -1,3 +1,4 @@
 pub mod CivilDays
 pub mod DayText
+pub mod Days
 pub mod Terms

@@ -1,6 +1,7 @@
 //! The texts of civil days.
 ghost use Rattle.std.specs.Prelude.{◌≡◌, ◌<◌, ◌≤◌, ◌++◌, ℕ, List, pos, ◌↔◌, OnOk, OnErr};
 ghost use Rattle.enrolment.specs.CivilDays.{IsCivilDate, IsDay, day_number};
+ghost use Rattle.enrolment.specs.Days.{day_text};
 ghost use Rattle.enrolment.specs.DayText.{IsDayText, IsSpelled, date_text, date_in as date_of, day_in, two_of as two_digits};
 
 use crate::calendar::day;
@@ -63,6 +64,7 @@ fn two_of(tens: u8, ones: u8) -> Option<u8>
 /// Appends the one text of a day, as `2025-08-25`, which `read_day` reads as that day. After an error, which is want of
 /// memory, the vector is as before.
 pub fn put_day(d: Day, out: &mut Vec<u8>) -> Result<(), AllocError>
+    ensures text { OnOk result (out.new.items ≡ out.old.items ++ day_text d) }
     ensures ok { OnOk result ((text : List ℕ) × IsDayText text d × (out.new.items ≡ out.old.items ++ text)) }
     // No other text is one of that day.
     ensures only { (text : List ℕ) → IsDayText text d → OnOk result (out.new.items ≡ out.old.items ++ text) }

@@ -1,6 +1,6 @@
 use Rattle.std.proofs.Common.{[], ◌∷◌, decimal}
 use Rattle.std.proofs.lemmas.Result.{on_ok_weaker}
-use Rattle.aid_reports.specs.Days.{day_text}
+use Rattle.enrolment.specs.Days.{day_text}
 use Rattle.export_lines.proofs.Written.{written}
 use Rattle.aid_reports.proofs.lines.put_stamp.Goals as goal
 

@@ -1,6 +1,7 @@
 use Rattle.std.proofs.Common.{◌≡◌, ◌∙◌, ℕ, pos, List, ◌++◌, Result, Ok, Err, cond, is_ok, OnOk, sym, ap}
 use Rattle.enrolment.specs.DayText.{IsDayText}
 use Rattle.enrolment.proofs.DayTextLaws.{one_text}
+use Rattle.enrolment.proofs.DayTexts.{day_text-is}
 use Rattle.enrolment.proofs.DayLemmas.{count_of_number, read_back_day}
 use Rattle.enrolment.proofs.day_text.put_day.Goals as goal
 
@@ -41,3 +42,17 @@ returns-clause-only c = λ text told.
       counted = sym c.d.view_is ∙ count_of_number c.d.inside.0 (pos date.0) date.1 date.2 number;
     } in
     text_is_it c.extend_from_slice.result _ _ c.text_of-text.result text c.extend_from_slice.ensures.items (one_text c.text_of-text.result text c.args.d is told)
+
+pub returns-clause-text : goal.returns-clause-text
+returns-clause-text c =
+    let date = c.date_of-year.result in
+    let number = sym (read_back_day c.d.inside.0 c.d.invariant) ∙ c.date_of-year.ensures.value in
+    let is : IsDayText c.text_of-text.result c.args.d = record {
+      year = date.0;
+      month = date.1;
+      day = date.2;
+      is_date = c.date_of-year.ensures.is_date;
+      spelled = c.text_of-text.ensures.value;
+      counted = sym c.d.view_is ∙ count_of_number c.d.inside.0 (pos date.0) date.1 date.2 number;
+    } in
+    text_is_it c.extend_from_slice.result _ _ c.text_of-text.result _ c.extend_from_slice.ensures.items (day_text-is c.text_of-text.result c.args.d is)

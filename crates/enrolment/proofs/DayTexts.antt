@@ -5,7 +5,7 @@ use Rattle.std.proofs.lemmas.Bool.Decides.{nat_tests}
 use Rattle.std.proofs.lemmas.Int.{ints}
 use Rattle.enrolment.specs.CivilDays.{days_from_1900, days_of_months, days_of_years, is_leap, month_days, year_days}
 use Rattle.enrolment.specs.DayText.{IsDayText, date_text}
-use Rattle.aid_reports.specs.Days.{day_text, month_at, passed, year_at}
+use Rattle.enrolment.specs.Days.{day_text, month_at, passed, year_at}
 
 -- the days of k years or months from a first one on
 abbrev spent : (ℕ → ℕ) → ℕ → ℕ → ℕ
