@@ -16,6 +16,7 @@ use std::alloc::Global;
 
 // The most numbers that a filing has which is no book, and one that is no term and no application either.
 const SOME_NUMBERS: usize = 64;
+
 const FEW_NUMBERS: usize = 16;
 
 /// Why bytes are no filing.
