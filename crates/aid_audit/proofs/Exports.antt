@@ -29,7 +29,7 @@ length-asked_of year [] = refl
 length-asked_of year (student ∷ students) = omega (arith, length-asked_of year students)
 
 -- ---- each is in range
-applicants_ask : (past : List Filing) (year : ℕ) → AllByRecursion IsFiling past → 2000 ≤ year → year ≤ 2099 → AllByRecursion (λ student. IsAsked (student, year)) (applicants past year)
+pub applicants_ask : (past : List Filing) (year : ℕ) → AllByRecursion IsFiling past → 2000 ≤ year → year ≤ 2099 → AllByRecursion (λ student. IsAsked (student, year)) (applicants past year)
 applicants_ask past year are low high = recursion_from_All (λ (student : ℕ). IsAsked (student, year)) (applicants past year) (λ k d lt.
     let student = get_or (applicants past year) k d in
     let between = applicants_between past year student are (k, lt, get_or_default (applicants past year) k student d lt) in

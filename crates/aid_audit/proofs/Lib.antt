@@ -1,6 +1,7 @@
 pub mod Causes
 pub mod Exports
 pub mod Judged
+pub mod Lengths
 pub mod Ranges
 pub mod Runs
 pub mod Stood

@@ -23,9 +23,12 @@ pub fn within()
     ensures { (lines : List (List ℕ)) (past : List Filing) (asked : List Asked) → AreGood lines past asked true → IsWithinEveryLimit past }
 {}
 
-/// The export of an office is found to be one: of at most 20,000 filings, which are legal, for any year of awards.
-#[tactic(auto, using(crate::proofs::Exports::export_is_found))]
+/// The export of an office is found to be one: of at most 20,000 filings, which are legal, for any year of awards. It isn't longer
+/// than an input may be.
+#[tactic(auto, using(crate::proofs::Exports::export_is_found, crate::proofs::Lengths::export_fits))]
 pub fn export_is_yes()
-    ensures { (past : List Filing) (year : ℕ) → IsLegal past → AllByRecursion IsFiling past → length past ≤ 20000 → 2000 ≤ year → year ≤ 2099
+    ensures short { (past : List Filing) (year : ℕ) → IsLegal past → AllByRecursion IsFiling past → length past ≤ 20000 → 2000 ≤ year → year ≤ 2099
+        → length (export_text past year) ≤ 16777216 }
+    ensures found { (past : List Filing) (year : ℕ) → IsLegal past → AllByRecursion IsFiling past → length past ≤ 20000 → 2000 ≤ year → year ≤ 2099
         → Finds (lines_of (export_text past year)) (Yes (length past) (length (applicants past year))) }
 {}

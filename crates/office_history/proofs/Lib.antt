@@ -38,6 +38,7 @@ pub mod Ceilings
 pub mod FiledTerms
 pub mod Greatest
 pub mod InForce
+pub mod IndexFits
 pub mod NoCredits
 pub mod Own
 pub mod Sixes

@@ -7,7 +7,8 @@ use Rattle.office_history.specs.Net.{net_at}
 use Rattle.office_history.specs.Past.{credits}
 use Rattle.office_history.proofs.Ranges.{credits_in_range}
 use Rattle.award_rounds.specs.Candidates.{fund_cell}
-use Rattle.award_rounds.proofs.Fitting.{index_fits, index_in_32, intensity_fits}
+use Rattle.office_history.proofs.IndexFits.{index_fits}
+use Rattle.award_rounds.proofs.Fitting.{index_in_32, intensity_fits}
 use Rattle.award_rounds.proofs.Originations.{full_fits}
 use Rattle.award_rounds.proofs.candidates.candidate.Goals as goal
 use Rattle.award_rounds.proofs.candidates.candidate.Goals.{then-standing-eq0-via-then-standing-eq0, then-standing-eq0-via-else-standing-eq0+then-place-eq0, then-standing-eq0-via-else-standing-eq0+else-place-eq0+then-place-gt0, then-standing-eq0-via-else-standing-eq0+else-place-eq0+else-place-gt0+then-granted-gt0}
