@@ -1,9 +1,9 @@
 -- The numbers of an application, by its parts.
 use Rattle.std.proofs.Common.{◌≡◌, ℕ, ℤ, pos, neg_ℤ, List, [], ◌∷◌, ◌++◌, codes, length, drop, take, refl, sym, ap, ◌∙◌, arith}
 use Rattle.std.specs.Prelude.{Bool, true, false, IsTrue, map, slice_index_or}
-use Rattle.std.proofs.Common.{subst, to_z, of_z, w64}
+use Rattle.std.proofs.Common.{FitsSigned, subst, to_z, of_z, w64}
+use Rattle.std.specs.Int.{w32}
 use Rattle.std.proofs.lemmas.Int.{ints}
-use Rattle.field_table.proofs.LimitLemmas.{narrow}
 use Rattle.std.proofs.lemmas.List.{take-append-drop}
 use Rattle.aid_types.specs.Ranges.{IsAmount, IsSignedAmount, IsWithin}
 use Rattle.aid_types.specs.declared.application.Application.{Application}
@@ -131,19 +131,23 @@ parts_of zs h =
 abbrev pub word : ℤ → ℤ
 word z = to_z w64 (of_z w64 z)
 
-amount_word : (z : ℤ) → IsAmount z → word z ≡ z
-amount_word z h = narrow z (grind (arith, ints))
+-- an amount takes 32 bits
+abbrev pub half : ℤ → ℤ
+half z = to_z w32 (of_z w32 z)
 
-signed_word : (z : ℤ) → IsSignedAmount z → word z ≡ z
-signed_word z h = narrow z (grind (arith, ints))
+signed_half : (z : ℤ) → IsSignedAmount z → half z ≡ z
+signed_half z h = omega (arith, ints)
 
-pub side_words : (x : Side) →
-    (word x.agi ∷ word x.ira ∷ word x.interest ∷ word x.ira_untaxed ∷ word x.pension ∷ word x.foreign ∷ word x.grants ∷ word x.credits ∷ word x.work_study ∷ word x.tax
-    ∷ word x.earned_first ∷ word x.earned_second ∷ word x.support ∷ word x.cash ∷ word x.investments ∷ word x.business ∷ []) ≡ side_numbers x
-side_words x = let r = x.in_range in λ i.
-    signed_word x.agi r.0 i ∷ amount_word x.ira r.1 i ∷ amount_word x.interest r.2 i ∷ amount_word x.ira_untaxed r.3 i ∷ amount_word x.pension r.4 i ∷ amount_word x.foreign r.5 i
-    ∷ amount_word x.grants r.6 i ∷ amount_word x.credits r.7 i ∷ amount_word x.work_study r.8 i ∷ signed_word x.tax r.9 i ∷ amount_word x.earned_first r.10 i
-    ∷ amount_word x.earned_second r.11 i ∷ amount_word x.support r.12 i ∷ amount_word x.cash r.13 i ∷ amount_word x.investments r.14 i ∷ amount_word x.business r.15 i ∷ []
+amount_half : (z : ℤ) → IsAmount z → half z ≡ z
+amount_half z h = omega (arith, ints)
+
+pub side_halves : (x : Side) →
+    (half x.agi ∷ half x.ira ∷ half x.interest ∷ half x.ira_untaxed ∷ half x.pension ∷ half x.foreign ∷ half x.grants ∷ half x.credits ∷ half x.work_study ∷ half x.tax
+    ∷ half x.earned_first ∷ half x.earned_second ∷ half x.support ∷ half x.cash ∷ half x.investments ∷ half x.business ∷ []) ≡ side_numbers x
+side_halves x = let r = x.in_range in λ i.
+    signed_half x.agi r.0 i ∷ amount_half x.ira r.1 i ∷ amount_half x.interest r.2 i ∷ amount_half x.ira_untaxed r.3 i ∷ amount_half x.pension r.4 i ∷ amount_half x.foreign r.5 i
+    ∷ amount_half x.grants r.6 i ∷ amount_half x.credits r.7 i ∷ amount_half x.work_study r.8 i ∷ signed_half x.tax r.9 i ∷ amount_half x.earned_first r.10 i
+    ∷ amount_half x.earned_second r.11 i ∷ amount_half x.support r.12 i ∷ amount_half x.cash r.13 i ∷ amount_half x.investments r.14 i ∷ amount_half x.business r.15 i ∷ []
 
 pub flag_word : (z : ℤ) (b : Bool) → z ≡ flag_number b → word z ≡ flag_number b
 flag_word z true e = ap word e
@@ -162,26 +166,42 @@ pub six_flags : (bs : List Bool) → length bs ≡ 6 → map flag_number bs
 six_flags (a ∷ b ∷ c ∷ d ∷ e ∷ f ∷ []) len = refl
 six_flags bs len = absurd (omega arith)
 
-abbrev pub word_at : List ℤ → ℕ → ℤ
-word_at zs k = word (slice_index_or zs k (pos 0))
+-- a number of a list as the code reads it, and cast to an amount
+abbrev pub read_at : List ℤ → ℕ → ℤ
+read_at zs k = word (slice_index_or zs k (pos 0))
+
+abbrev pub cast_at : List ℤ → ℕ → ℤ
+cast_at zs k = half (read_at zs k)
+
+abbrev CastAt : List ℤ → ℕ → Type 0
+CastAt zs k = FitsSigned w32 (read_at zs k)
 
 pub record IsSide (zs : List ℤ) : Type 0 where
-  pub ranges : IsSignedAmount (word_at zs 0) × IsAmount (word_at zs 1) × IsAmount (word_at zs 2) × IsAmount (word_at zs 3) × IsAmount (word_at zs 4) × IsAmount (word_at zs 5)
-      × IsAmount (word_at zs 6) × IsAmount (word_at zs 7) × IsAmount (word_at zs 8) × IsSignedAmount (word_at zs 9) × IsAmount (word_at zs 10) × IsAmount (word_at zs 11)
-      × IsAmount (word_at zs 12) × IsAmount (word_at zs 13) × IsAmount (word_at zs 14) × IsAmount (word_at zs 15)
+  pub casts : CastAt zs 0 × CastAt zs 1 × CastAt zs 2 × CastAt zs 3 × CastAt zs 4 × CastAt zs 5 × CastAt zs 6 × CastAt zs 7 × CastAt zs 8 × CastAt zs 9 × CastAt zs 10
+      × CastAt zs 11 × CastAt zs 12 × CastAt zs 13 × CastAt zs 14 × CastAt zs 15
+  pub ranges : IsSignedAmount (cast_at zs 0) × IsAmount (cast_at zs 1) × IsAmount (cast_at zs 2) × IsAmount (cast_at zs 3) × IsAmount (cast_at zs 4) × IsAmount (cast_at zs 5)
+      × IsAmount (cast_at zs 6) × IsAmount (cast_at zs 7) × IsAmount (cast_at zs 8) × IsSignedAmount (cast_at zs 9) × IsAmount (cast_at zs 10) × IsAmount (cast_at zs 11)
+      × IsAmount (cast_at zs 12) × IsAmount (cast_at zs 13) × IsAmount (cast_at zs 14) × IsAmount (cast_at zs 15)
   pub whole :
-      (word_at zs 0 ∷ word_at zs 1 ∷ word_at zs 2 ∷ word_at zs 3 ∷ word_at zs 4 ∷ word_at zs 5 ∷ word_at zs 6 ∷ word_at zs 7 ∷ word_at zs 8 ∷ word_at zs 9 ∷ word_at zs 10
-      ∷ word_at zs 11 ∷ word_at zs 12 ∷ word_at zs 13 ∷ word_at zs 14 ∷ word_at zs 15 ∷ []) ≡ zs
+      (cast_at zs 0 ∷ cast_at zs 1 ∷ cast_at zs 2 ∷ cast_at zs 3 ∷ cast_at zs 4 ∷ cast_at zs 5 ∷ cast_at zs 6 ∷ cast_at zs 7 ∷ cast_at zs 8 ∷ cast_at zs 9 ∷ cast_at zs 10
+      ∷ cast_at zs 11 ∷ cast_at zs 12 ∷ cast_at zs 13 ∷ cast_at zs 14 ∷ cast_at zs 15 ∷ []) ≡ zs
 
-record IsWord (low high z : ℤ) : Type 0 where
-  same : word z ≡ z
-  range : IsWithin low high (word z)
+record IsCast (low high z : ℤ) : Type 0 where
+  cast : FitsSigned w32 (word z)
+  same : half (word z) ≡ z
+  range : IsWithin low high (half (word z))
 
-amount_read : (z : ℤ) → IsTrue (is_between (pos 0) (pos 99999999) z) → IsWord (pos 0) (pos 99999999) z
-amount_read z h = let r = within (pos 0) (pos 99999999) z h in record { same = amount_word z r; range = subst IsAmount (sym (amount_word z r)) r }
+amount_cast : (z : ℤ) → IsAmount z → IsCast (pos 0) (pos 99999999) z
+amount_cast z h = let same : half (word z) ≡ z = omega (arith, ints) in record { cast = omega (arith, ints); same = same; range = subst IsAmount (sym same) h }
 
-signed_read : (z : ℤ) → IsTrue (is_between (neg_ℤ (pos 99999999)) (pos 99999999) z) → IsWord (neg_ℤ (pos 99999999)) (pos 99999999) z
-signed_read z h = let r = within (neg_ℤ (pos 99999999)) (pos 99999999) z h in record { same = signed_word z r; range = subst IsSignedAmount (sym (signed_word z r)) r }
+signed_cast : (z : ℤ) → IsSignedAmount z → IsCast (neg_ℤ (pos 99999999)) (pos 99999999) z
+signed_cast z h = let same : half (word z) ≡ z = omega (arith, ints) in record { cast = omega (arith, ints); same = same; range = subst IsSignedAmount (sym same) h }
+
+amount_read : (z : ℤ) → IsTrue (is_between (pos 0) (pos 99999999) z) → IsCast (pos 0) (pos 99999999) z
+amount_read z h = amount_cast z (within (pos 0) (pos 99999999) z h)
+
+signed_read : (z : ℤ) → IsTrue (is_between (neg_ℤ (pos 99999999)) (pos 99999999) z) → IsCast (neg_ℤ (pos 99999999)) (pos 99999999) z
+signed_read z h = signed_cast z (within (neg_ℤ (pos 99999999)) (pos 99999999) z h)
 
 side_by : (zs : List ℤ) → FitSomewhere (household_slots []) zs → length zs ≡ 16 → IsSide zs
 side_by (a ∷ b ∷ c ∷ d ∷ e ∷ f ∷ g ∷ h ∷ k ∷ l ∷ m ∷ n ∷ o ∷ p ∷ q ∷ r ∷ []) fit len =
@@ -203,6 +223,7 @@ side_by (a ∷ b ∷ c ∷ d ∷ e ∷ f ∷ g ∷ h ∷ k ∷ l ∷ m ∷ n ∷
     let rq = amount_read q t.1.1.1.1.1.1.1.1.1.1.1.1.1.1.0 in
     let rr = amount_read r t.1.1.1.1.1.1.1.1.1.1.1.1.1.1.1.0 in
     record {
+      casts = (ra.cast, rb.cast, rc.cast, rd.cast, re.cast, rf.cast, rg.cast, rh.cast, rk.cast, rl.cast, rm.cast, rn.cast, ro.cast, rp.cast, rq.cast, rr.cast);
       ranges = (ra.range, rb.range, rc.range, rd.range, re.range, rf.range, rg.range, rh.range, rk.range, rl.range, rm.range, rn.range, ro.range, rp.range, rq.range, rr.range);
       whole = λ i.
           ra.same i ∷ rb.same i ∷ rc.same i ∷ rd.same i ∷ re.same i ∷ rf.same i ∷ rg.same i ∷ rh.same i ∷ rk.same i ∷ rl.same i ∷ rm.same i ∷ rn.same i ∷ ro.same i ∷ rp.same i

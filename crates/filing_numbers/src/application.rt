@@ -76,24 +76,33 @@ fn put_side(side: &Side, numbers: &mut Numbers)
     ensures added { numbers.new.items ≡ numbers.old.items ++ side_numbers side.now }
 {
     let amounts = [
-        i64::from(side.agi),
-        i64::from(side.ira),
-        i64::from(side.interest),
-        i64::from(side.ira_untaxed),
-        i64::from(side.pension),
-        i64::from(side.foreign),
-        i64::from(side.grants),
-        i64::from(side.credits),
-        i64::from(side.work_study),
-        i64::from(side.tax),
-        i64::from(side.earned_first),
-        i64::from(side.earned_second),
-        i64::from(side.support),
-        i64::from(side.cash),
-        i64::from(side.investments),
-        i64::from(side.business),
+        side.agi,
+        side.ira,
+        side.interest,
+        side.ira_untaxed,
+        side.pension,
+        side.foreign,
+        side.grants,
+        side.credits,
+        side.work_study,
+        side.tax,
+        side.earned_first,
+        side.earned_second,
+        side.support,
+        side.cash,
+        side.investments,
+        side.business,
     ];
-    add_numbers(&amounts, numbers);
+    add_amounts(&amounts, numbers);
+}
+
+fn add_amounts(amounts: &[i32], numbers: &mut Numbers)
+    requires room { length numbers.old.items + length amounts.now ≤ most_numbers }
+    ensures added { numbers.new.items ≡ numbers.old.items ++ amounts.now }
+{
+    for &amount in amounts {
+        numbers.push(i64::from(amount));
+    }
 }
 
 fn put_parents(application: &Application, numbers: &mut Numbers)

@@ -1,9 +1,9 @@
-use Rattle.std.proofs.Common.{◌≡◌, pos, w64, refl, sym, subst, lit≤, ap, ◌∙◌}
-use Rattle.std.proofs.lemmas.Int.{to_z-of_z}
+use Rattle.std.proofs.Common.{◌≡◌, pos, to_z, of_z, w64, refl, sym, subst, arith, lit≤, ap, ◌∙◌}
+use Rattle.std.proofs.lemmas.Int.{ints, to_z-of_z}
 use Rattle.sai_parent.specs.Household.{asset_contribution, asset_protection, business_worth}
 use Rattle.sai_parent.specs.Lines.{AreHouseholdLines, household_lines}
 use Rattle.sai_parent.proofs.LinesLaws.{household_lines-are}
-use Rattle.sai_parent.proofs.Sums.{amount, answer, minus, minus_fits, no_greater, plus}
+use Rattle.sai_parent.proofs.Sums.{amount, answer, minus, minus_fits, no_greater, plus, three}
 use Rattle.sai_parent.proofs.lines.income_and_assets.Goals as goal
 
 pub overflow_sub-available : goal.overflow_sub-available
@@ -26,9 +26,11 @@ returns c =
     let employment = answer 2 c.args.employment _ c.requires.employment_in_range (lit≤ tt) refl in
     let allowances = plus (plus (plus tax payroll (lit≤ tt)) protection (lit≤ tt)) employment (lit≤ tt) in
     let available = minus total allowances (lit≤ tt) in
+    let said : to_z w64 (of_z w64 c.from.result) ≡ side.business = omega (arith, ints) in
     let business = answer 3 c.business_worth-business.result _ c.business_worth-business.ensures.in_range (lit≤ tt)
-    (c.business_worth-business.ensures.value ∙ ap (business_worth book.business) (amount side.business side.in_range.15).is) in
-    let worth = plus (plus (plus (amount side.support side.in_range.12) (amount side.cash side.in_range.13) (lit≤ tt)) (amount side.investments side.in_range.14) (lit≤ tt)) business (lit≤ tt) in
+    (c.business_worth-business.ensures.value ∙ ap (business_worth book.business) said) in
+    let owned = three c.from-2.result side.support side.cash side.investments side.in_range.12 side.in_range.13 side.in_range.14 c.from-2.ensures in
+    let worth = plus owned business (lit≤ tt) in
     let protected_most = (amount c.asset_protection-asset_protection.result c.asset_protection-asset_protection.ensures.in_range).most in
     let protected = answer 1 c.asset_protection-asset_protection.result _ protected_most (lit≤ tt)
     (c.asset_protection-asset_protection.ensures.value ∙ ap (asset_protection book.age c.args.married) (to_z-of_z w64 c.args.age c.ranges.age)) in
