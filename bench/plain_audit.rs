@@ -14,7 +14,7 @@ use std::io::{self, Read};
 
 const MOST_FILINGS: usize = 20_000;
 const MOST_CENTS: u64 = 99_999_999;
-const MOST_DOLLARS: i64 = 99_999_999;
+const MOST_DOLLARS: i32 = 99_999_999;
 const MOST_NUMBER: u64 = 999_999_999_999;
 const MOST_CODE: u32 = 999_999;
 // 1900-01-01 and 9999-12-31.

@@ -21,13 +21,13 @@ impl Sequence {
     }
 
     fn side(&mut self) -> Side {
-        let agi = self.below(120_000) as i64;
-        let untaxed = self.below(2000) as i64;
-        let offsets = self.below(1000) as i64;
-        let tax = self.below(15_000) as i64;
-        let earned = self.below(100_000) as i64;
-        let assets = self.below(60_000) as i64;
-        let business = self.below(900_000) as i64;
+        let agi = self.below(120_000) as i32;
+        let untaxed = self.below(2000) as i32;
+        let offsets = self.below(1000) as i32;
+        let tax = self.below(15_000) as i32;
+        let earned = self.below(100_000) as i32;
+        let assets = self.below(60_000) as i32;
+        let business = self.below(900_000) as i32;
         Side {
             agi,
             ira: untaxed,

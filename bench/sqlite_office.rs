@@ -112,10 +112,11 @@ fn fields_of(apply: &filings::Apply) -> Vec<i64> {
     ];
     fields.extend(answers.map(i64::from));
     for s in [&a.own, &a.parents] {
-        fields.extend([
+        let amounts = [
             s.agi, s.ira, s.interest, s.ira_untaxed, s.pension, s.foreign, s.grants, s.credits, s.work_study, s.tax,
             s.earned_first, s.earned_second, s.support, s.cash, s.investments, s.business,
-        ]);
+        ];
+        fields.extend(amounts.map(i64::from));
     }
     fields
 }

@@ -3,22 +3,22 @@
 
 #[derive(Clone, Copy, PartialEq, Default)]
 pub struct Side {
-    pub agi: i64,
-    pub ira: i64,
-    pub interest: i64,
-    pub ira_untaxed: i64,
-    pub pension: i64,
-    pub foreign: i64,
-    pub grants: i64,
-    pub credits: i64,
-    pub work_study: i64,
-    pub tax: i64,
-    pub earned_first: i64,
-    pub earned_second: i64,
-    pub support: i64,
-    pub cash: i64,
-    pub investments: i64,
-    pub business: i64,
+    pub agi: i32,
+    pub ira: i32,
+    pub interest: i32,
+    pub ira_untaxed: i32,
+    pub pension: i32,
+    pub foreign: i32,
+    pub grants: i32,
+    pub credits: i32,
+    pub work_study: i32,
+    pub tax: i32,
+    pub earned_first: i32,
+    pub earned_second: i32,
+    pub support: i32,
+    pub cash: i32,
+    pub investments: i32,
+    pub business: i32,
 }
 
 #[derive(Clone, Copy, PartialEq)]
@@ -157,21 +157,21 @@ fn to5(a: i64) -> i64 {
 }
 
 fn total_income(s: &Side) -> i64 {
-    s.agi + s.ira + s.interest + s.ira_untaxed + s.pension + s.foreign
-        - (s.grants + s.credits + s.work_study)
+    i64::from(s.agi + s.ira + s.interest + s.ira_untaxed + s.pension + s.foreign)
+        - i64::from(s.grants + s.credits + s.work_study)
 }
 
 fn payroll(b: &Book, married: bool, s: &Side) -> i64 {
-    let earned = s.earned_first + s.earned_second;
+    let earned = i64::from(s.earned_first + s.earned_second);
     let threshold = if married { b.threshold_married } else { b.threshold_single };
-    share(s.earned_first.min(b.oasdi_cap), b.oasdi_rate)
-        + share(s.earned_second.min(b.oasdi_cap), b.oasdi_rate)
+    share(i64::from(s.earned_first).min(b.oasdi_cap), b.oasdi_rate)
+        + share(i64::from(s.earned_second).min(b.oasdi_cap), b.oasdi_rate)
         + share(earned.min(threshold), b.medicare_rate)
         + share((earned - threshold).max(0), b.medicare_high)
 }
 
 fn employment(b: &Book, s: &Side) -> i64 {
-    b.employment_cap.min(share(s.earned_first + s.earned_second, b.employment_rate))
+    b.employment_cap.min(share(i64::from(s.earned_first + s.earned_second), b.employment_rate))
 }
 
 fn by_size(first: u8, last: u8, sizes: &[i64], extra: i64, family: u8) -> i64 {
@@ -209,11 +209,11 @@ fn income_and_assets(
     rate: i64,
 ) -> Lines {
     let total = total_income(s);
-    let tax = s.tax.max(0);
+    let tax = i64::from(s.tax.max(0));
     let payroll = payroll(b, married, s);
     let allowances = tax + payroll + protection + employment;
-    let business = value_at(&b.business, s.business).unwrap_or(0);
-    let worth = s.support + s.cash + s.investments + business;
+    let business = value_at(&b.business, i64::from(s.business)).unwrap_or(0);
+    let worth = i64::from(s.support + s.cash + s.investments) + business;
     let asset_protection = asset_protection(&b.age, married, age);
     let discretionary = worth - asset_protection;
     Lines {
@@ -253,10 +253,10 @@ fn parents(b: &Book, a: &Application) -> Lines {
 fn dependent(b: &Book, a: &Application, parent: &Lines) -> Lines {
     let s = &a.own;
     let total = total_income(s);
-    let tax = s.tax.max(0);
+    let tax = i64::from(s.tax.max(0));
     let payroll = payroll(b, false, s);
     let allowances = tax + payroll + b.dependent_student + (-parent.adjusted).max(0);
-    let worth = s.cash + s.investments + s.business;
+    let worth = i64::from(s.cash + s.investments + s.business);
     Lines {
         total,
         tax,
@@ -333,7 +333,7 @@ pub fn decide(b: &Book, a: &Application, index: i32) -> Decision {
     if !must_file {
         return Decision { way: Way::Maximum, scheduled: b.maximum as u32, sai: -1500 };
     }
-    let agi = if formula == Formula::A { a.parents.agi } else { a.own.agi };
+    let agi = i64::from(if formula == Formula::A { a.parents.agi } else { a.own.agi });
     let guideline = by_size(1, 8, &b.poverty, b.poverty_extra, a.family);
     let is_single = match formula {
         Formula::A => !a.parents_married,

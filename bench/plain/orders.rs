@@ -94,7 +94,7 @@ fn calendar(year: u16, term: u8, first: i32, last: i32) -> What {
 }
 
 fn application(student: u64, year: u16, agi: u32) -> What {
-    let agi = i64::from(agi);
+    let agi = agi as i32;
     let parents = Side { agi, tax: agi / 10, earned_first: agi, ..Side::default() };
     let application = Application {
         birth_year: year - 19,

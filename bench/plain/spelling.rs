@@ -92,7 +92,7 @@ fn put_side(side: &Side, out: &mut Vec<u8>) {
         side.work_study, side.tax, side.earned_first, side.earned_second, side.support, side.cash, side.investments, side.business,
     ];
     for amount in amounts {
-        out.extend_from_slice(&amount.to_le_bytes());
+        out.extend_from_slice(&i64::from(amount).to_le_bytes());
     }
 }
 
@@ -186,11 +186,20 @@ impl Bytes<'_> {
         })
     }
 
+    fn amounts(&mut self) -> Option<[i32; 16]> {
+        let figures: [i64; 16] = self.figures()?;
+        let mut amounts = [0; 16];
+        for (amount, figure) in amounts.iter_mut().zip(figures) {
+            *amount = i32::try_from(figure).ok()?;
+        }
+        Some(amounts)
+    }
+
     fn side(&mut self) -> Option<Side> {
         let [
             agi, ira, interest, ira_untaxed, pension, foreign, grants, credits, work_study, tax, earned_first, earned_second,
             support, cash, investments, business,
-        ] = self.figures()?;
+        ] = self.amounts()?;
         Some(Side {
             agi, ira, interest, ira_untaxed, pension, foreign, grants, credits, work_study, tax, earned_first, earned_second,
             support, cash, investments, business,
