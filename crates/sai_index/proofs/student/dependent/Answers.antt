@@ -2,7 +2,7 @@ use Rattle.std.proofs.Common.{◌≡◌, pos, refl, sym, subst, arith, lit<, lit
 use Rattle.std.proofs.lemmas.Int.{ints}
 use Rattle.aid_num.specs.Nearest.{share}
 use Rattle.aid_num.proofs.Machine.{machine}
-use Rattle.sai_parent.proofs.Sums.{amount, answer, minus, minus_fits, no_greater, plus}
+use Rattle.sai_parent.proofs.Sums.{amount, answer, minus, minus_fits, no_greater, plus, three}
 use Rattle.sai_index.specs.Index.{AreDependentLines, dependent_lines}
 use Rattle.sai_index.proofs.IndexLaws.{dependent_lines-are}
 use Rattle.sai_index.proofs.student.dependent.Goals as goal
@@ -30,7 +30,7 @@ returns c =
     let shortfall = answer 280 c.shortfall-shortfall.result _ c.shortfall-shortfall.ensures.in_range (lit≤ tt) c.shortfall-shortfall.ensures.value in
     let allowances = plus (plus (plus tax payroll (lit≤ tt)) protection (lit≤ tt)) shortfall (lit≤ tt) in
     let available = minus total allowances (lit≤ tt) in
-    let worth = plus (plus (amount side.cash side.in_range.13) (amount side.investments side.in_range.14) (lit≤ tt)) (amount side.business side.in_range.15) (lit≤ tt) in
+    let worth = three c.from-worth.result side.cash side.investments side.business side.in_range.13 side.in_range.14 side.in_range.15 c.from-worth.ensures in
     let rate = machine book.assets.dependent_rate 10000 (omega (arith, ints, book.assets.in_range.1)) (lit< tt) in
     let from_assets = answer 3 c.share.result _ (no_greater c.share.result worth c.share.ensures.no_greater) (lit≤ tt)
     (c.share.ensures.value ∙ (λ i. share (worth.is i) (rate i))) in
