@@ -21,7 +21,7 @@ fn put_blanks(count: usize, out: &mut Vec<u8>) -> Result<(), AllocError>
 }
 
 /// Appends a text as it is, and a space.
-pub(crate) fn put_text(text: &[u8], out: &mut Vec<u8>) -> Result<(), AllocError>
+pub fn put_text(text: &[u8], out: &mut Vec<u8>) -> Result<(), AllocError>
     ensures { OnOk result (out.new.items ≡ out.old.items ++ text.now ++ 32 ∷ []) }
 {
     out.extend_from_slice(text)?;
@@ -38,7 +38,7 @@ pub(crate) fn put_term(term: u8, out: &mut Vec<u8>) -> Result<(), AllocError>
 }
 
 /// Appends a position as it is, and a space.
-pub(crate) fn put_position(position: usize, out: &mut Vec<u8>) -> Result<(), AllocError>
+pub fn put_position(position: usize, out: &mut Vec<u8>) -> Result<(), AllocError>
     ensures { OnOk result (out.new.items ≡ out.old.items ++ decimal position ++ 32 ∷ []) }
 {
     let mut digits = Buffer::new();
@@ -46,7 +46,7 @@ pub(crate) fn put_position(position: usize, out: &mut Vec<u8>) -> Result<(), All
 }
 
 /// Appends a text, with blanks before it up to a width, and a byte behind it.
-fn put_right(width: usize, text: &[u8], end: u8, out: &mut Vec<u8>) -> Result<(), AllocError>
+pub fn put_right(width: usize, text: &[u8], end: u8, out: &mut Vec<u8>) -> Result<(), AllocError>
     requires { width ≤ 12 }
     ensures { OnOk result (out.new.items ≡ out.old.items ++ right width text.now ++ end ∷ []) }
 {
@@ -57,12 +57,7 @@ fn put_right(width: usize, text: &[u8], end: u8, out: &mut Vec<u8>) -> Result<()
 }
 
 /// Appends a text, with blanks behind it up to a width, and a byte behind them.
-pub(crate) fn put_left(
-    width: usize,
-    text: &[u8],
-    end: u8,
-    out: &mut Vec<u8>,
-) -> Result<(), AllocError>
+pub fn put_left(width: usize, text: &[u8], end: u8, out: &mut Vec<u8>) -> Result<(), AllocError>
     requires { width ≤ 12 }
     ensures { OnOk result (out.new.items ≡ out.old.items ++ left width text.now ++ end ∷ []) }
 {
@@ -73,12 +68,7 @@ pub(crate) fn put_left(
 }
 
 /// Appends a number to the right of its column, and a byte behind it.
-pub(crate) fn put_number(
-    width: usize,
-    number: u64,
-    end: u8,
-    out: &mut Vec<u8>,
-) -> Result<(), AllocError>
+pub fn put_number(width: usize, number: u64, end: u8, out: &mut Vec<u8>) -> Result<(), AllocError>
     requires { width ≤ 12 }
     ensures { OnOk result (out.new.items ≡ out.old.items ++ right width (decimal number) ++ end ∷ []) }
 {
@@ -94,7 +84,7 @@ pub(crate) fn put_student(student: Student, out: &mut Vec<u8>) -> Result<(), All
 }
 
 /// Appends a school's code to the right of a column of six, and a space.
-pub(crate) fn put_school(school: School, out: &mut Vec<u8>) -> Result<(), AllocError>
+pub fn put_school(school: School, out: &mut Vec<u8>) -> Result<(), AllocError>
     ensures { OnOk result (out.new.items ≡ out.old.items ++ right 6 (decimal school) ++ 32 ∷ []) }
 {
     put_number(6, u64::from(school.0), b' ', out)
@@ -115,7 +105,7 @@ pub(crate) fn put_whole(
 }
 
 /// Appends cents to the right of a column of twelve, and a byte behind them.
-pub(crate) fn put_amount(cents: u64, end: u8, out: &mut Vec<u8>) -> Result<(), AllocError>
+pub fn put_amount(cents: u64, end: u8, out: &mut Vec<u8>) -> Result<(), AllocError>
     ensures { OnOk result (out.new.items ≡ out.old.items ++ right 12 (cents_text cents) ++ end ∷ []) }
 {
     put_number(9, cents / 100, b'.', out)?;

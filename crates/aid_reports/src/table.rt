@@ -7,7 +7,7 @@ use itoa::Buffer;
 use std::alloc::{AllocError, Global};
 
 /// What a line of a table tells.
-pub(crate) trait Line {
+pub trait Line {
     /// How it is written.
     ghost line: { Self → List ℕ };
 
@@ -17,7 +17,7 @@ pub(crate) trait Line {
 }
 
 /// The lines of rows, and how many there are. An `Err` is want of memory.
-pub(crate) fn table_of<L: Line>(alloc: Global, rows: &[L]) -> Result<Vec<u8>, AllocError>
+pub fn table_of<L: Line>(alloc: Global, rows: &[L]) -> Result<Vec<u8>, AllocError>
     ensures { IfOk result (λ text. text.items ≡ table (map L.line rows.now)) }
 {
     let mut out = Vec::new(alloc);
@@ -29,7 +29,7 @@ pub(crate) fn table_of<L: Line>(alloc: Global, rows: &[L]) -> Result<Vec<u8>, Al
 }
 
 /// Appends the last line of a table.
-pub(crate) fn put_count(count: usize, out: &mut Vec<u8>) -> Result<(), AllocError>
+pub fn put_count(count: usize, out: &mut Vec<u8>) -> Result<(), AllocError>
     ensures { OnOk result (out.new.items ≡ out.old.items ++ codes "rows " ++ decimal count ++ codes "\n") }
 {
     let mut digits = Buffer::new();

@@ -117,8 +117,8 @@ fn decide_under(formula: Formula, book: &Book, a: &Application, index: i32) -> D
     awarded(Way::Nothing, 0, index)
 }
 
-// Whether a student has no award.
-fn is_barred(a: &Application) -> bool
+/// Whether a student has no award: a graduate student, or one who has a bachelor's degree (HEA 401(d)(1)).
+pub fn is_barred(a: &Application) -> bool
     ensures { result ≡ is_barred_of a.now }
 {
     a.graduate || a.bachelor
@@ -133,8 +133,8 @@ fn is_at_ceiling(book: &Book, index: i32) -> bool
     book.ceiling > 0 && i64::from(book.ceiling) * book.pell.maximum <= 100 * i64::from(index)
 }
 
-// The least index there.
-fn ceiling_bound(book: &Book) -> u32
+/// The least index at or above the year's ceiling, of a year that has one.
+pub fn ceiling_bound(book: &Book) -> u32
     ensures { result ≡ ceiling_bound_of book.now }
 {
     (u32::from(book.ceiling) * book.pell.maximum as u32 + 99) / 100
@@ -178,8 +178,8 @@ fn awarded(way: Way, scheduled: i64, sai: i32) -> Decision
     }
 }
 
-// The income that decides.
-fn income(book: &Book, formula: Formula, a: &Application) -> i64
+/// The income that decides, in dollars: the parents' under formula A, and else the student's (HEA 401(b)(1)).
+pub fn income(book: &Book, formula: Formula, a: &Application) -> i64
     ensures { result ≡ income_of book.now formula a.now }
 {
     match formula {
@@ -200,8 +200,8 @@ fn counted_income(ceiling: u16, side: &Side) -> i64
     }
 }
 
-// Whether the household was required to file a return.
-fn must_file(formula: Formula, a: &Application) -> bool
+/// Whether the household whose income decides was required to file a return.
+pub fn must_file(formula: Formula, a: &Application) -> bool
     ensures { result ≡ must_file_of formula a.now }
 {
     match formula {
@@ -222,8 +222,8 @@ fn is_single_parent(formula: Formula, a: &Application) -> bool
     }
 }
 
-// The percent of the guideline up to which an award is a Maximum.
-fn maximum_percent(percents: &Percents, formula: Formula, a: &Application) -> i64
+/// The percent of the guideline up to which an award is a Maximum.
+pub fn maximum_percent(percents: &Percents, formula: Formula, a: &Application) -> i64
     ensures { result ≡ maximum_percent_of percents.now formula a.now }
 {
     if is_single_parent(formula, a) {
@@ -233,8 +233,8 @@ fn maximum_percent(percents: &Percents, formula: Formula, a: &Application) -> i6
     }
 }
 
-// The percent of the guideline up to which an award is a Minimum.
-fn minimum_percent(percents: &Percents, formula: Formula, a: &Application) -> i64
+/// The percent of the guideline up to which an award is at least a Minimum.
+pub fn minimum_percent(percents: &Percents, formula: Formula, a: &Application) -> i64
     ensures { result ≡ minimum_percent_of percents.now formula a.now }
 {
     match formula {
@@ -263,8 +263,8 @@ fn is_within(income: i64, percent: i64, guideline: i64) -> bool
     100 * i128::from(income) <= i128::from(percent) * i128::from(guideline)
 }
 
-// The award that the index leaves of the greatest.
-fn calculated(book: &Book, index: i32) -> i64
+/// The award that an index leaves of the greatest, in dollars, to the nearest five.
+pub fn calculated(book: &Book, index: i32) -> i64
     requires { IsIndex index }
     ensures value { result ≡ calculated_of book.now index }
     ensures in_range { IsSignedAmount result }
@@ -272,8 +272,8 @@ fn calculated(book: &Book, index: i32) -> i64
     to5(book.pell.maximum - i64::from(index.max(0)))
 }
 
-// The poverty guideline of a household.
-fn guideline(book: &Book, a: &Application) -> i64
+/// The poverty guideline of a household, in dollars, by region and family size.
+pub fn guideline(book: &Book, a: &Application) -> i64
     ensures { result ≡ guideline_at book.now a.now }
 {
     let guideline = match a.region {

@@ -20,7 +20,7 @@ use pell_schedule::Ceiling;
 impl Plain<'_> {
     /// The student's application in force in the year, which is the first with the highest transaction, and its position.
     #[tactic(auto, using(office_history::proofs::Bounds::short))]
-    pub(crate) fn application(&self, student: Student, year: Year) -> (u32, Option<Application>)
+    pub fn application(&self, student: Student, year: Year) -> (u32, Option<Application>)
         ensures position { result.0 ≡ application_at self.now student year }
         ensures application { result.1 ≡ application_of self.now student year }
     {

@@ -74,7 +74,8 @@ same_year x y e =
 first_letters : {A : Type 0} (one other : List (List ℕ)) → one ≡ other → (get_or (get_or one 0 []) 0 0 ≡ get_or (get_or other 0 []) 0 0 → ⊥) → A
 first_letters one other e differ = absurd (differ (ap (λ (words : List (List ℕ)). get_or (get_or words 0 []) 0 0) e))
 
-same_report : (x y : ReportRequest) → report_words x ≡ report_words y → x ≡ y
+-- and of reports
+pub same_report : (x y : ReportRequest) → report_words x ≡ report_words y → x ≡ y
 same_report (Standing x) (Standing y) e = let year : decimal x.year ≡ decimal y.year = cc in ap Standing (same_year x y year)
 same_report (Awards x) (Awards y) e = let year : decimal x.year ≡ decimal y.year = cc in ap Awards (same_year x y year)
 same_report (Returns x) (Returns y) e = let year : decimal x.year ≡ decimal y.year = cc in ap Returns (same_year x y year)

@@ -17,5 +17,7 @@ pub use command::{
     ReportYear, StampedCommand,
 };
 pub use main_row::{MOST_DESKS, needs_journal, row_of};
+pub use number::number_in;
 pub use stamped::{command_of, is_found};
 pub use upgrade::upgrade_file;
+pub use words::report_request;

@@ -266,8 +266,8 @@ fn read_yearly(
     }
 }
 
-// The report of a year that is asked for.
-fn report_request(report: &str, year: &str) -> Option<ReportRequest>
+/// The report of a year that is asked for, of the two words behind `report`: its name and the year.
+pub fn report_request(report: &str, year: &str) -> Option<ReportRequest>
     ensures { ReadsReport (report.now ∷ year.now ∷ []) result }
 {
     let of = report_year(year)?;
