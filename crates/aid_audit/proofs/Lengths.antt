@@ -1,11 +1,11 @@
 -- How long an export is: at most what an input may have.
-use Rattle.std.proofs.Common.{◌≡◌, ◌∙◌, ℕ, zero, suc, ◌+◌, ◌-◌, ◌*◌, ◌/◌, ◌^◌, ◌<◌, ◌≤◌, eqb, Bool, true, false, ◌&&◌, ◌||◌, ℤ, pos, negsuc, List, [], ◌∷◌, ◌++◌, length, take, drop, reverse, Option, Some, None, refl, sym, ap, arith, lit≤, zero-le, codes, decimal, length-append, append-nil}
+use Rattle.std.proofs.Common.{◌≡◌, ◌∙◌, ℕ, zero, suc, ◌+◌, ◌-◌, ◌*◌, ◌/◌, ◌^◌, ◌<◌, ◌≤◌, eqb, Bool, true, false, ◌&&◌, ◌||◌, ℤ, pos, negsuc, List, [], ◌∷◌, ◌++◌, length, take, drop, reverse, Option, Some, None, refl, sym, ap, subst, arith, lit≤, zero-le, codes, decimal, length-append, append-nil}
 use Rattle.std.specs.Prelude.{◌==◌, IsTrue, int_lt, if◌then◌else◌, map, unsigned_abs}
-use Rattle.std.specs.List.{AllByRecursion, IsDistinct, concat, cons_option, list_any, sum_by}
+use Rattle.std.specs.List.{AllByRecursion, IsDistinct, concat, cons_option, list_any}
 use Rattle.std.proofs.lemmas.Bool.{eqb-false, eqb-true, ne_eqb, true≢false}
 use Rattle.std.proofs.lemmas.Fmt.{length-decimal-le}
 use Rattle.std.proofs.lemmas.Int.{ints}
-use Rattle.std.proofs.lemmas.List.{map-append}
+use Rattle.std.proofs.lemmas.List.{map-append, reverse-append}
 use Rattle.std.proofs.lemmas.List.Folds.{concat-append}
 use Rattle.std.proofs.lemmas.Map.Steps.{length-le_from_distinct_below}
 use Rattle.aid_num.specs.Cents.{cents_text, fraction_text}
@@ -36,7 +36,7 @@ use Rattle.filing_kinds.specs.Kinds.{book_slots, slots_of_kind, table_row_of}
 use Rattle.filing_kinds.specs.declared.kind.Kind.{Kind}
 use Rattle.filing_kinds.specs.declared.kind.Kind.TheVariants.{Book, School, Calendar, Prior, Apply, Enrol, Originate, Pay, Withdraw, Repay, Adjust}
 use Rattle.filing_kinds.proofs.Laws.{IsTable-kind}
-use Rattle.filing_numbers.specs.Numbers.{IsFiling, facts_of, kind_of}
+use Rattle.filing_numbers.specs.Numbers.{IsFiling, facts_of, kind_of, numbers_of}
 use Rattle.filing_numbers.proofs.Ranges.{within}
 use Rattle.filing_codec.specs.Spelling.{spelling}
 use Rattle.filing_codec.proofs.RowLaws.{length-row_bytes}
@@ -58,7 +58,7 @@ use Rattle.aid_audit.proofs.Ranges.{standing_small}
 
 -- ---- the bytes of a filing
 -- of fields that count nothing
-widths : List Slot → ℕ
+abbrev widths : List Slot → ℕ
 widths [] = 0
 widths (slot ∷ slots) = width_of slot.line.form + widths slots
 
@@ -70,7 +70,7 @@ both false b e = absurd (true≢false (sym e))
 -- behind such a field stand the others
 others : (n : ℕ) (first later : List Line) (ends : ℕ) (z : ℤ) (slots : List Slot) → (has_none first && (ends == 0)) ≡ true → rows n first later ++ cut ends z slots ≡ slots
 others n [] later zero z slots e = refl
-others n [] later (suc ends) z slots e = absurd (true≢false (sym e))
+others n [] later (suc ends) z slots e = absurd (omega (arith, eqb-true (suc ends) 0 e))
 others n (line ∷ lines) later ends z slots e = absurd (true≢false (sym e))
 
 plain_few : (slots : List Slot) (zs : List ℤ) → are_plain slots ≡ true → length (numbers_bytes slots zs) ≤ widths slots
@@ -98,11 +98,11 @@ few_bytes Repay zs other are = omega (arith, plain_few (slots_of_kind Repay) zs 
 few_bytes Adjust zs other are = omega (arith, plain_few (slots_of_kind Adjust) zs refl)
 
 -- ---- the years of the books on a legal list, counted from 2000: each once
-year_in : What → Option ℕ
+abbrev year_in : What → Option ℕ
 year_in (BookFiled b) = Some (b.year - 2000)
 year_in _ = None
 
-years : List Filing → List ℕ
+abbrev years : List Filing → List ℕ
 years [] = []
 years (f ∷ past) = cons_option (year_in f.what) (years past)
 
@@ -114,34 +114,42 @@ year_fits : (test : Bool) (earlier zs : List ℤ) (year : ℕ) → AreNumbers (i
 year_fits true earlier zs year are = are.0
 year_fits false earlier zs year are = are.0
 
-book_between : (key : Key) (b : Tables) → AreNumbers (slots_of_kind Book) [] (pos key.school ∷ pos key.number ∷ facts_of (BookFiled b)) → (2000 ≤ b.year) × (b.year ≤ 2099)
-unfolding table_row_of facts_of book_numbers
-book_between key b are =
-    let range = within (pos 2000) (pos 2099) (pos b.year) (year_fits (int_lt (pos 1) (form_number b.ceiling)) _ _ b.year are.1.1.1) in
-    (omega (arith, ints, range), omega (arith, ints, range))
+between : (year : ℕ) → IsTrue (is_between (pos 2000) (pos 2099) (pos year)) → (2000 ≤ year) × (year ≤ 2099)
+between year fits = let range = within (pos 2000) (pos 2099) (pos year) fits in (omega (arith, ints, range), omega (arith, ints, range))
+
+book_numbers_between : (school number form : ℤ) (year : ℕ) (zs : List ℤ) → AreNumbers (slots_of_kind Book) [] (school ∷ number ∷ form ∷ pos year ∷ zs) → (2000 ≤ year) × (year ≤ 2099)
+unfolding table_row_of
+book_numbers_between school number form year zs are = between year (year_fits (int_lt (pos 1) form) (form ∷ number ∷ school ∷ []) zs year are.1.1.1)
+
+book_begins : (b : Tables) → facts_of (BookFiled b) ≡ form_number b.ceiling ∷ pos b.year ∷ drop 2 (facts_of (BookFiled b))
+unfolding facts_of book_numbers
+book_begins b = refl
+
+book_between : (key : Key) (b : Tables) → IsFiling (record { key = key; what = BookFiled b }) → (2000 ≤ b.year) × (b.year ≤ 2099)
+book_between key b is =
+    book_numbers_between (pos key.school) (pos key.number) (form_number b.ceiling) b.year (drop 2 (facts_of (BookFiled b)))
+    (subst (λ (zs : List ℤ). AreNumbers (slots_of_kind Book) [] (pos key.school ∷ pos key.number ∷ zs)) (book_begins b) is)
 
 years_few : (past : List Filing) → AllByRecursion IsFiling past → (year : ℕ) → list_any (eqb year) (years past) ≡ true → year < 100
 years_few [] are year there = absurd (true≢false (sym there))
-years_few (f ∷ past) are year there = go f.key f.what are.0 there
+years_few (f ∷ past) are year there = go f.key f.what are.0 (years_few past are.1 year) there
   where
-    go : (key : Key) (what : What) → IsFiling (record { key = key; what = what }) → list_any (eqb year) (cons_option (year_in what) (years past)) ≡ true → year < 100
-    go key (BookFiled b) is there = here (eqb year (b.year - 2000)) refl there
+    go : (key : Key) (what : What) → IsFiling (record { key = key; what = what }) → (list_any (eqb year) (years past) ≡ true → year < 100) → list_any (eqb year) (cons_option (year_in what) (years past)) ≡ true → year < 100
+    go key (BookFiled b) is rest there = here (eqb year (b.year - 2000)) refl there
       where
-        between = book_between key b is
-
         here : (same : Bool) → eqb year (b.year - 2000) ≡ same → (same || list_any (eqb year) (years past)) ≡ true → year < 100
-        here true e there = let n : year ≡ b.year - 2000 = eqb-true year (b.year - 2000) e in let most = between.1 in omega (arith, n, most)
-        here false e there = years_few past are.1 year there
-    go key (SchoolFiled x) is there = years_few past are.1 year there
-    go key (CalendarFiled x) is there = years_few past are.1 year there
-    go key (PriorFiled x) is there = years_few past are.1 year there
-    go key (ApplyFiled x) is there = years_few past are.1 year there
-    go key (EnrolFiled x) is there = years_few past are.1 year there
-    go key (OriginateFiled x) is there = years_few past are.1 year there
-    go key (PayFiled x) is there = years_few past are.1 year there
-    go key (WithdrawFiled x) is there = years_few past are.1 year there
-    go key (RepayFiled x) is there = years_few past are.1 year there
-    go key (AdjustFiled x) is there = years_few past are.1 year there
+        here true e there = let n : year ≡ b.year - 2000 = eqb-true year (b.year - 2000) e in let most = (book_between key b is).1 in omega (arith, n, most)
+        here false e there = rest there
+    go key (SchoolFiled x) is rest there = rest there
+    go key (CalendarFiled x) is rest there = rest there
+    go key (PriorFiled x) is rest there = rest there
+    go key (ApplyFiled x) is rest there = rest there
+    go key (EnrolFiled x) is rest there = rest there
+    go key (OriginateFiled x) is rest there = rest there
+    go key (PayFiled x) is rest there = rest there
+    go key (WithdrawFiled x) is rest there = rest there
+    go key (RepayFiled x) is rest there = rest there
+    go key (AdjustFiled x) is rest there = rest there
 
 neither : {A : Type 0} (a b : Option A) → earlier a b ≡ None → (a ≡ None) × (b ≡ None)
 neither None b e = (refl, e)
@@ -151,44 +159,44 @@ neither (Some a) (Some b) e = absurd cc
 -- a year without a book is none of those of the books
 no_year : (past : List Filing) (year : ℕ) → AllByRecursion IsFiling past → 2000 ≤ year → the_book past year ≡ None → AllByRecursion (λ y. eqb (year - 2000) y ≡ false) (years past)
 no_year [] year are low none = tt
-no_year (f ∷ past) year are low none = go f.key f.what are.0 (neither (book_in year f.what) (the_book past year) none)
+no_year (f ∷ past) year are low none = go f.key f.what are.0 (no_year past year are.1 low) (neither (book_in year f.what) (the_book past year) none)
   where
-    go : (key : Key) (what : What) → IsFiling (record { key = key; what = what }) → (book_in year what ≡ None) × (the_book past year ≡ None)
+    go : (key : Key) (what : What) → IsFiling (record { key = key; what = what }) → (the_book past year ≡ None → AllByRecursion (λ y. eqb (year - 2000) y ≡ false) (years past))
+        → (book_in year what ≡ None) × (the_book past year ≡ None)
         → AllByRecursion (λ y. eqb (year - 2000) y ≡ false) (cons_option (year_in what) (years past))
-    go key (BookFiled b) is nones = (apart (b.year == year) refl nones.0, no_year past year are.1 low nones.1)
+    go key (BookFiled b) is rest nones = (apart (b.year == year) refl nones.0, rest nones.1)
       where
-        between = book_between key b is
-
         apart : (same : Bool) → (b.year == year) ≡ same → given same b ≡ None → eqb (year - 2000) (b.year - 2000) ≡ false
         apart true e none = absurd cc
-        apart false e none = ne_eqb (year - 2000) (b.year - 2000) (λ same. let low_b = between.0 in eqb-false b.year year e (omega (arith, same, low, low_b)))
-    go key (SchoolFiled x) is nones = no_year past year are.1 low nones.1
-    go key (CalendarFiled x) is nones = no_year past year are.1 low nones.1
-    go key (PriorFiled x) is nones = no_year past year are.1 low nones.1
-    go key (ApplyFiled x) is nones = no_year past year are.1 low nones.1
-    go key (EnrolFiled x) is nones = no_year past year are.1 low nones.1
-    go key (OriginateFiled x) is nones = no_year past year are.1 low nones.1
-    go key (PayFiled x) is nones = no_year past year are.1 low nones.1
-    go key (WithdrawFiled x) is nones = no_year past year are.1 low nones.1
-    go key (RepayFiled x) is nones = no_year past year are.1 low nones.1
-    go key (AdjustFiled x) is nones = no_year past year are.1 low nones.1
+        apart false e none = ne_eqb (year - 2000) (b.year - 2000) (λ same. let low_b = (book_between key b is).0 in eqb-false b.year year e (omega (arith, same, low, low_b)))
+    go key (SchoolFiled x) is rest nones = rest nones.1
+    go key (CalendarFiled x) is rest nones = rest nones.1
+    go key (PriorFiled x) is rest nones = rest nones.1
+    go key (ApplyFiled x) is rest nones = rest nones.1
+    go key (EnrolFiled x) is rest nones = rest nones.1
+    go key (OriginateFiled x) is rest nones = rest nones.1
+    go key (PayFiled x) is rest nones = rest nones.1
+    go key (WithdrawFiled x) is rest nones = rest nones.1
+    go key (RepayFiled x) is rest nones = rest nones.1
+    go key (AdjustFiled x) is rest nones = rest nones.1
 
 years_apart : (past : List Filing) → IsLegal past → AllByRecursion IsFiling past → IsDistinct eqb (years past)
+unfolding IsDistinct
 years_apart [] legal are = tt
-years_apart (f ∷ past) legal are = go f.key f.what are.0 legal.1.1
+years_apart (f ∷ past) legal are = go f.key f.what are.0 legal.2 (years_apart past legal.0 are.1)
   where
-    go : (key : Key) (what : What) → IsFiling (record { key = key; what = what }) → breaks past (record { key = key; what = what }) ≡ None → IsDistinct eqb (cons_option (year_in what) (years past))
-    go key (BookFiled b) is fine = (no_year past b.year are.1 (book_between key b is).0 (book_new past key b fine), years_apart past legal.0 are.1)
-    go key (SchoolFiled x) is fine = years_apart past legal.0 are.1
-    go key (CalendarFiled x) is fine = years_apart past legal.0 are.1
-    go key (PriorFiled x) is fine = years_apart past legal.0 are.1
-    go key (ApplyFiled x) is fine = years_apart past legal.0 are.1
-    go key (EnrolFiled x) is fine = years_apart past legal.0 are.1
-    go key (OriginateFiled x) is fine = years_apart past legal.0 are.1
-    go key (PayFiled x) is fine = years_apart past legal.0 are.1
-    go key (WithdrawFiled x) is fine = years_apart past legal.0 are.1
-    go key (RepayFiled x) is fine = years_apart past legal.0 are.1
-    go key (AdjustFiled x) is fine = years_apart past legal.0 are.1
+    go : (key : Key) (what : What) → IsFiling (record { key = key; what = what }) → breaks past (record { key = key; what = what }) ≡ None → IsDistinct eqb (years past) → IsDistinct eqb (cons_option (year_in what) (years past))
+    go key (BookFiled b) is fine rest = (no_year past b.year are.1 (book_between key b is).0 (book_new past key b fine), rest)
+    go key (SchoolFiled x) is fine rest = rest
+    go key (CalendarFiled x) is fine rest = rest
+    go key (PriorFiled x) is fine rest = rest
+    go key (ApplyFiled x) is fine rest = rest
+    go key (EnrolFiled x) is fine rest = rest
+    go key (OriginateFiled x) is fine rest = rest
+    go key (PayFiled x) is fine rest = rest
+    go key (WithdrawFiled x) is fine rest = rest
+    go key (RepayFiled x) is fine rest = rest
+    go key (AdjustFiled x) is fine rest = rest
 
 books_few : (past : List Filing) → IsLegal past → AllByRecursion IsFiling past → length (years past) ≤ 100
 books_few past legal are = length-le_from_distinct_below (years past) 100 (years_apart past legal are) (years_few past are)
@@ -201,11 +209,11 @@ filing_line_few : (past : List Filing) (f : Filing) → IsFiling f → length (f
 filing_line_few past f is = go f.key f.what is (length-filing_line f)
   where
     short : (key : Key) (what : What) → IsFiling (record { key = key; what = what }) → (kind_of what ≡ Book → ⊥) → length (spelling (record { key = key; what = what })) ≤ 298
-    short key what is other = let few = few_bytes (kind_of what) _ other is in omega (arith, few)
+    short key what is other = let few = few_bytes (kind_of what) (numbers_of (record { key = key; what = what })) other is in omega (arith, few)
 
     go : (key : Key) (what : What) → IsFiling (record { key = key; what = what }) → length (filing_line f) ≡ 8 + 2 * length (spelling (record { key = key; what = what }))
         → length (filing_line f) + 15714 * length (years past) ≤ 604 + 15714 * length (cons_option (year_in what) (years past))
-    go key (BookFiled b) is len = let few = length-row_bytes Book _ is in omega (arith, len, few)
+    go key (BookFiled b) is len = let few = length-row_bytes Book (numbers_of (record { key = key; what = BookFiled b })) is in omega (arith, len, few)
     go key (SchoolFiled x) is len = let few = short key (SchoolFiled x) is (λ e. absurd cc) in omega (arith, len, few)
     go key (CalendarFiled x) is len = let few = short key (CalendarFiled x) is (λ e. absurd cc) in omega (arith, len, few)
     go key (PriorFiled x) is len = let few = short key (PriorFiled x) is (λ e. absurd cc) in omega (arith, len, few)
@@ -217,20 +225,27 @@ filing_line_few past f is = go f.key f.what is (length-filing_line f)
     go key (RepayFiled x) is len = let few = short key (RepayFiled x) is (λ e. absurd cc) in omega (arith, len, few)
     go key (AdjustFiled x) is len = let few = short key (AdjustFiled x) is (λ e. absurd cc) in omega (arith, len, few)
 
+reverse_more : (f : Filing) (past : List Filing) → reverse (f ∷ past) ≡ reverse past ++ f ∷ []
+reverse_more f past = reverse-append (f ∷ []) past
+
 filing_lines_few : (past : List Filing) → AllByRecursion IsFiling past → length (concat (map filing_line (reverse past))) ≤ 604 * length past + 15714 * length (years past)
 filing_lines_few [] are = zero-le
 filing_lines_few (f ∷ past) are =
     let text = concat (map filing_line (reverse past)) in
     let last : concat (map filing_line (f ∷ [])) ≡ filing_line f = append-nil (filing_line f) in
     let whole : concat (map filing_line (reverse (f ∷ past))) ≡ text ++ filing_line f =
-    ap concat (map-append filing_line (reverse past) (f ∷ [])) ∙ concat-append (map filing_line (reverse past)) (map filing_line (f ∷ [])) ∙ ap (λ (behind : List ℕ). text ++ behind) last in
+    ap (λ fs. concat (map filing_line fs)) (reverse_more f past) ∙ ap concat (map-append filing_line (reverse past) (f ∷ [])) ∙ concat-append (map filing_line (reverse past)) (map filing_line (f ∷ [])) ∙ ap (λ (behind : List ℕ). text ++ behind) last in
     let len : length (text ++ filing_line f) ≡ length text + length (filing_line f) = length-append text (filing_line f) in
     omega (arith, ap length whole, len, filing_lines_few past are.1, filing_line_few past f are.0)
 
 -- ---- the lines of standings
-length-line_of : (word : List ℕ) (words : List (List ℕ)) → length (line_of (word ∷ words)) ≡ sum_by (λ w. length w + 1) (word ∷ words)
+abbrev sizes : List (List ℕ) → ℕ
+sizes [] = 0
+sizes (word ∷ words) = length word + 1 + sizes words
+
+length-line_of : (word : List ℕ) (words : List (List ℕ)) → length (line_of (word ∷ words)) ≡ sizes (word ∷ words)
 length-line_of word [] = omega (arith, length-append word (codes "\n"))
-length-line_of word (next ∷ words) = omega (arith, length-append word (codes " " ++ line_of (next ∷ words)), length-line_of next words)
+length-line_of word (next ∷ words) = omega (arith, length-append (word ++ codes " ") (line_of (next ∷ words)), length-append word (codes " "), length-line_of next words)
 
 digits_few : (k n : ℕ) → 0 < k → n < 10 ^ k → n < 2 ^ 64 → length (natural_text n) ≤ k
 digits_few k n some few small = rw (sym (decimal-natural_text n (omega (arith, small)))) (length-decimal-le k n some few small)
@@ -292,7 +307,8 @@ export_fits past year legal are few from to =
     let standings = map (λ student. standing_line student year (standing_of past student year)) (applicants past year) in
     let last = end_line (length past) (length (applicants past year)) in
     let some : length (applicants past year) ≤ 20000 = omega (arith, few, length-applicants past year) in
-    let whole : export_text past year ≡ concat filings ++ concat standings ++ concat (last ∷ []) =
-    concat-append filings (standings ++ last ∷ []) ∙ ap (λ (behind : List ℕ). concat filings ++ behind) (concat-append standings (last ∷ [])) in
-    omega (arith, ap length whole, length-append (concat filings) (concat standings ++ concat (last ∷ [])), length-append (concat standings) (concat (last ∷ [])), ap length (append-nil last),
+    let front = filings ++ standings in
+    let whole : export_text past year ≡ (concat filings ++ concat standings) ++ concat (last ∷ []) =
+    concat-append front (last ∷ []) ∙ ap (λ (text : List ℕ). text ++ concat (last ∷ [])) (concat-append filings standings) in
+    omega (arith, ap length whole, length-append (concat filings ++ concat standings) (concat (last ∷ [])), length-append (concat filings) (concat standings), ap length (append-nil last),
     filing_lines_few past are, books_few past legal are, standing_lines_few past year (applicants past year) legal few (applicants_ask past year are from to), end_line_few (length past) (length (applicants past year)) few some)
