@@ -56,8 +56,8 @@ pub(crate) fn paid_places(
     Ok(places)
 }
 
-// Appends what a filing tells, where it tells something.
-fn push_told<K: Drop>(told: Option<K>, out: &mut Vec<K>) -> Result<(), AllocError>
+/// Appends what a filing tells, where it tells something. An `Err` is want of memory.
+pub fn push_told<K: Drop>(told: Option<K>, out: &mut Vec<K>) -> Result<(), AllocError>
     ensures { OnOk result (out.new.items ≡ out.old.items ++ option_to_list told) }
 {
     if let Some(item) = told {
@@ -66,8 +66,8 @@ fn push_told<K: Drop>(told: Option<K>, out: &mut Vec<K>) -> Result<(), AllocErro
     Ok(())
 }
 
-// Sorts students by number, and drops those that come again.
-fn sort_students(students: &mut Vec<Student>)
+/// Sorts students by number, and drops those that come again.
+pub fn sort_students(students: &mut Vec<Student>)
     ensures { students.new.items ≡ in_order nat_cmp (reverse students.old.items) }
 {
     students.sort_unstable_by_key(|student| student.0);

@@ -18,6 +18,7 @@ pub use columns::{
     put_amount, put_left, put_number, put_position, put_right, put_school, put_text,
 };
 pub use exported::export;
+pub use gathered::{push_told, sort_students};
 pub use laws::{places_of_awards, returns_in_order, students_of_reports};
 pub use reports::{awards, lifetimes, returns, stamp_lines, standings};
 pub use table::{Line, put_count, table_of};
