@@ -284,9 +284,19 @@ standing_line_few past student year legal few asks =
     let most_transaction = small.transaction in
     let most_scheduled = small.scheduled in
     let most_used = small.used in
-    omega (arith, len, length-decimal-le 12 student (omega arith) (omega (arith, most_student)) (omega (arith, most_student)), length-decimal-le 4 year (omega arith) (omega (arith, most_year)) (omega (arith, most_year)),
-    length-decimal-le 2 r.transaction (omega arith) (omega (arith, most_transaction)) (omega (arith, most_transaction)), formula_few r.formula, index_few r.sai (index_fits past student year), way_few r.way,
-    length-decimal-le 6 r.scheduled (omega arith) (omega (arith, most_scheduled)) (omega (arith, most_scheduled)), cents_few r.paid paid, length-decimal-le 6 r.used (omega arith) (omega (arith, most_used)) (omega (arith, most_used)))
+    omega (
+      arith,
+      len,
+      length-decimal-le 12 student (omega arith) (omega (arith, most_student)) (omega (arith, most_student)),
+      length-decimal-le 4 year (omega arith) (omega (arith, most_year)) (omega (arith, most_year)),
+      length-decimal-le 2 r.transaction (omega arith) (omega (arith, most_transaction)) (omega (arith, most_transaction)),
+      formula_few r.formula,
+      index_few r.sai (index_fits past student year),
+      way_few r.way,
+      length-decimal-le 6 r.scheduled (omega arith) (omega (arith, most_scheduled)) (omega (arith, most_scheduled)),
+      cents_few r.paid paid,
+      length-decimal-le 6 r.used (omega arith) (omega (arith, most_used)) (omega (arith, most_used)),
+    )
 
 standing_lines_few : (past : List Filing) (year : ℕ) (students : List ℕ) → IsLegal past → length past ≤ 20000 → AllByRecursion (λ student. IsAsked (student, year)) students
     → length (concat (map (λ student. standing_line student year (standing_of past student year)) students)) ≤ 80 * length students
@@ -310,5 +320,14 @@ export_fits past year legal are few from to =
     let front = filings ++ standings in
     let whole : export_text past year ≡ (concat filings ++ concat standings) ++ concat (last ∷ []) =
     concat-append front (last ∷ []) ∙ ap (λ (text : List ℕ). text ++ concat (last ∷ [])) (concat-append filings standings) in
-    omega (arith, ap length whole, length-append (concat filings ++ concat standings) (concat (last ∷ [])), length-append (concat filings) (concat standings), ap length (append-nil last),
-    filing_lines_few past are, books_few past legal are, standing_lines_few past year (applicants past year) legal few (applicants_ask past year are from to), end_line_few (length past) (length (applicants past year)) few some)
+    omega (
+      arith,
+      ap length whole,
+      length-append (concat filings ++ concat standings) (concat (last ∷ [])),
+      length-append (concat filings) (concat standings),
+      ap length (append-nil last),
+      filing_lines_few past are,
+      books_few past legal are,
+      standing_lines_few past year (applicants past year) legal few (applicants_ask past year are from to),
+      end_line_few (length past) (length (applicants past year)) few some,
+    )
