@@ -1,0 +1,47 @@
+-- Words written one by one, before others.
+use Rattle.std.proofs.Common.{◌≡◌, ℕ, List, [], ◌∷◌, ◌++◌, codes, decimal, refl, sym, ap, ◌∙◌, append_assoc}
+use Rattle.aid_num.specs.Cents.{cents_text}
+use Rattle.aid_types.specs.Words.{program_text}
+use Rattle.desk_forms.specs.Replies.{outcome_text}
+use Rattle.export_lines.specs.Lines.{line_of}
+use Rattle.aid_reports.specs.Columns.{left, right}
+use Rattle.aid_sheets.specs.LedgerLines.{columns_of, moved_text}
+use Rattle.aid_sheets.specs.declared.ledger_rows.Told.{Told}
+use Rattle.aid_sheets.specs.declared.ledger_rows.Told.TheVariants.{Prior, Application, Enrolment, Cost, Withdrawal, Money}
+
+-- words appended one by one, each with a space behind it, and then a text
+abbrev pub IsAhead : List ℕ → List (List ℕ) → List ℕ → List ℕ → Type 0
+IsAhead old [] last new = new ≡ old ++ last
+IsAhead old (word ∷ more) last new = (text : List ℕ) × (text ≡ old ++ word ++ 32 ∷ []) × IsAhead text more last new
+
+abbrev pub spaced : List (List ℕ) → List ℕ → List ℕ
+spaced [] last = last
+spaced (word ∷ more) last = word ++ 32 ∷ [] ++ spaced more last
+
+ahead : (old : List ℕ) (words : List (List ℕ)) (last new : List ℕ) → IsAhead old words last new → new ≡ old ++ spaced words last
+ahead old [] last new e = e
+ahead old (word ∷ more) last new (text, e, rest) =
+    ahead text more last new rest ∙ ap (λ front. front ++ spaced more last) e
+    ∙ append_assoc (old ++ word) (32 ∷ []) (spaced more last) ∙ append_assoc old word (32 ∷ spaced more last)
+    ∙ ap (λ behind. old ++ behind) (sym (append_assoc word (32 ∷ []) (spaced more last)))
+
+-- a word before others
+first_of : (word next : List ℕ) (words : List (List ℕ)) → word ++ 32 ∷ [] ++ line_of (next ∷ words) ≡ line_of (word ∷ next ∷ words)
+first_of word next words = refl
+
+-- a word before the columns of what is told
+word_first : (word : List ℕ) (told : Told) → word ++ 32 ∷ [] ++ line_of (columns_of told) ≡ line_of (word ∷ columns_of told)
+word_first word (Prior units) = first_of word (decimal units) (codes "units" ∷ [])
+word_first word (Application outcome) = first_of word (outcome_text outcome) []
+word_first word (Enrolment credits) = first_of word (decimal credits) (codes "credits" ∷ [])
+word_first word (Cost dollars) = first_of word (decimal dollars) (codes "dollars" ∷ [])
+word_first word (Withdrawal outcome) = first_of word (outcome_text outcome) []
+word_first word (Money m net used) =
+    first_of word (left 5 (program_text m.program)) (right 12 (moved_text m.movement m.cents) ∷ right 12 (cents_text net) ∷ right 7 (decimal used) ∷ [])
+
+-- eight words before the columns of what is told
+pub eight_first : (old a b c d e f g h : List ℕ) (told : Told) (new : List ℕ) → IsAhead old (a ∷ b ∷ c ∷ d ∷ e ∷ f ∷ g ∷ h ∷ []) (line_of (columns_of told)) new
+    → new ≡ old ++ line_of (a ∷ b ∷ c ∷ d ∷ e ∷ f ∷ g ∷ h ∷ columns_of told)
+eight_first old a b c d e f g h told new is =
+    ahead old (a ∷ b ∷ c ∷ d ∷ e ∷ f ∷ g ∷ h ∷ []) (line_of (columns_of told)) new is
+    ∙ ap (λ (t : List ℕ). old ++ (a ++ 32 ∷ [] ++ (b ++ 32 ∷ [] ++ (c ++ 32 ∷ [] ++ (d ++ 32 ∷ [] ++ (e ++ 32 ∷ [] ++ (f ++ 32 ∷ [] ++ (g ++ 32 ∷ [] ++ t)))))))) (word_first h told)

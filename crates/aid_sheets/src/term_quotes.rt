@@ -1,0 +1,167 @@
+//! What the students of a term could be paid of Pell.
+ghost use Rattle.std.specs.Prelude.{◌≡◌, ◌++◌, ◌/◌, ◌∷◌, [], IfOk, OnOk, codes, decimal, map, reverse};
+ghost use Rattle.std.specs.List.{concat};
+ghost use Rattle.aid_num.specs.Cents.{cents_text};
+ghost use Rattle.aid_sheets.specs.Quotes.{enrolled as enrolled_on, enrolled_by as enrolled_by_what, quote_line, quote_row, quote_rows as quote_rows_on, quotes_sheet, quotes_text};
+
+use aid_filings::{Filing, What};
+use aid_num::put_cents;
+use aid_reports::{push_told, sort_students};
+use aid_types::{Program, School, Student, Year};
+use itoa::Buffer;
+use office_core::Office;
+use std::alloc::{AllocError, Global};
+
+/// A student with credits in force in a term: the credits, the Scheduled Award in dollars, the term's net Pell in cents, and the
+/// greatest Pell payment that the school could file, in cents that are whole dollars.
+#[derive(Clone, Copy)]
+pub struct QuoteOf {
+    pub student: Student,
+    pub credits: u8,
+    pub scheduled: u32,
+    pub pell: u64,
+    pub quote: u64,
+}
+
+/// Each student with credits in force in a term of a school, by number, as comma-separated values below a heading: the credits, the
+/// Scheduled Award, the term's net Pell, and the greatest Pell payment in whole dollars that the school could file. `none` where there
+/// is no such student. One pass over the filings and four look-ups for each student. An `Err` is want of memory.
+pub fn quotes(
+    alloc: Global,
+    office: &Office,
+    school: School,
+    year: Year,
+    term: u8,
+) -> Result<Vec<u8>, AllocError>
+    ensures { IfOk result (λ text. text.items ≡ quotes_sheet office.now.history school year term) }
+{
+    let rows = quote_rows(alloc, office, school, year, term)?;
+    quote_lines(alloc, rows.as_slice())
+}
+
+// The students with credits in force.
+fn quote_rows(
+    alloc: Global,
+    office: &Office,
+    school: School,
+    year: Year,
+    term: u8,
+) -> Result<Vec<QuoteOf>, AllocError>
+    ensures { IfOk result (λ rows. rows.items ≡ quote_rows_on office.now.history school year term) }
+{
+    let students = enrolled(alloc, office.filings(), school, year, term)?;
+    let mut rows = Vec::new(alloc);
+    for &student in students.as_slice() {
+        push_quote(office, school, year, term, student, &mut rows)?;
+    }
+    Ok(rows)
+}
+
+// Appends a student who has credits in force.
+fn push_quote(
+    office: &Office,
+    school: School,
+    year: Year,
+    term: u8,
+    student: Student,
+    rows: &mut Vec<QuoteOf>,
+) -> Result<(), AllocError>
+    ensures { OnOk result (rows.new.items ≡ rows.old.items ++ quote_row office.now.history school year term student) }
+{
+    let credits = office.place(school, student, year, term).credits;
+    if credits == 0 {
+        return Ok(());
+    }
+    rows.push(QuoteOf {
+        student,
+        credits,
+        scheduled: office.standing(student, year).scheduled,
+        pell: office.net(student, school, year, term, Program::Pell),
+        quote: office.quote(school, student, year, term),
+    })?;
+    Ok(())
+}
+
+// The students who were enrolled in a term, by number.
+fn enrolled(
+    alloc: Global,
+    filings: &[Filing],
+    school: School,
+    year: Year,
+    term: u8,
+) -> Result<Vec<Student>, AllocError>
+    ensures { IfOk result (λ students. students.items ≡ enrolled_on (reverse filings.now) school year term) }
+{
+    let mut students = Vec::new(alloc);
+    for filing in filings {
+        push_told(enrolled_by(filing, school, year, term), &mut students)?;
+    }
+    sort_students(&mut students);
+    Ok(students)
+}
+
+// The student of an enrolment in the term.
+fn enrolled_by(filing: &Filing, school: School, year: Year, term: u8) -> Option<Student>
+    ensures { result ≡ enrolled_by_what school year term filing.now.key filing.now.what }
+{
+    match &filing.what {
+        What::Enrol(e) if filing.key.school == school && e.year == year && e.term == term => {
+            Some(e.student)
+        }
+        _ => None,
+    }
+}
+
+// The lines, or that there is none.
+fn quote_lines(alloc: Global, rows: &[QuoteOf]) -> Result<Vec<u8>, AllocError>
+    ensures { IfOk result (λ text. text.items ≡ quotes_text rows.now) }
+{
+    let mut out = Vec::new(alloc);
+    if rows.is_empty() {
+        out.extend_from_slice(b"none\n")?;
+    } else {
+        out.extend_from_slice(b"student,credits,scheduled,pell,quote\n")?;
+        put_quotes(rows, &mut out)?;
+    }
+    Ok(out)
+}
+
+// Appends a line for each.
+fn put_quotes(rows: &[QuoteOf], out: &mut Vec<u8>) -> Result<(), AllocError>
+    ensures { OnOk result (out.new.items ≡ out.old.items ++ concat (map quote_line rows.now)) }
+{
+    for row in rows {
+        put_quote(row, out)?;
+    }
+    Ok(())
+}
+
+// Appends the line of a student.
+fn put_quote(row: &QuoteOf, out: &mut Vec<u8>) -> Result<(), AllocError>
+    ensures { OnOk result (out.new.items ≡ out.old.items ++ quote_line row.now) }
+{
+    put_number(row.student.0, b',', out)?;
+    put_number(u64::from(row.credits), b',', out)?;
+    put_number(u64::from(row.scheduled), b',', out)?;
+    put_dollars(row.pell, out)?;
+    put_number(row.quote / 100, b'\n', out)
+}
+
+// Appends a number and a byte behind it.
+fn put_number(number: u64, end: u8, out: &mut Vec<u8>) -> Result<(), AllocError>
+    ensures { OnOk result (out.new.items ≡ out.old.items ++ decimal number ++ end ∷ []) }
+{
+    let mut digits = Buffer::new();
+    out.extend_from_slice(digits.format(number).as_bytes())?;
+    out.push(end)?;
+    Ok(())
+}
+
+// Appends cents as dollars, and a comma.
+fn put_dollars(cents: u64, out: &mut Vec<u8>) -> Result<(), AllocError>
+    ensures { OnOk result (out.new.items ≡ out.old.items ++ cents_text cents ++ codes ",") }
+{
+    put_cents(cents, out)?;
+    out.push(b',')?;
+    Ok(())
+}
