@@ -1,0 +1,59 @@
+//! The sheets that can be asked for, and the words that say them.
+ghost use Rattle.aid_types.specs.Ranges.{IsBetween};
+
+use aid_types::{School, Student, Year};
+use run_words::ReportRequest;
+
+/// The student whose ledger is asked for: 1 to 999,999,999,999.
+#[derive(Clone, Copy)]
+pub struct StudentRequest {
+    pub student: Student,
+    pub ghost in_range: { IsBetween 1 999999999999 student },
+}
+
+/// The student and the award year whose need is asked for: the year is 2000 to 2099.
+#[derive(Clone, Copy)]
+pub struct NeedRequest {
+    pub student: Student,
+    pub year: Year,
+    pub ghost in_range: { IsBetween 1 999999999999 student × IsBetween 2000 2099 year },
+}
+
+/// The term of a school whose quotes are asked for: the school is 1 to 999,999, the year 2000 to 2099, the term 1 to 8.
+#[derive(Clone, Copy)]
+pub struct QuotesRequest {
+    pub school: School,
+    pub year: Year,
+    pub term: u8,
+    pub ghost in_range: { IsBetween 1 999999 school × IsBetween 2000 2099 year × IsBetween 1 8 term },
+}
+
+/// The sheet that is asked for.
+#[derive(Clone, Copy)]
+pub enum SheetRequest {
+    /// `list`: all filings, each as its row behind its stamp.
+    List,
+    /// `student STUDENT`: the ledger of a student.
+    Student(StudentRequest),
+    /// `need STUDENT YEAR`: how a student's need in a year is found.
+    Need(NeedRequest),
+    /// `quotes SCHOOL YEAR TERM`: what the students of a term could be paid of Pell.
+    Quotes(QuotesRequest),
+    /// `report standing YEAR`, and the other reports of the aid office.
+    Report(ReportRequest),
+}
+
+/// A position in the list: 1 to 4,294,967,295.
+#[derive(Clone, Copy)]
+pub struct Position {
+    pub number: u32,
+    pub ghost in_range: { IsBetween 1 4294967295 number },
+}
+
+/// A row of words: the sheet that is asked for, of the whole list, or of the list as it stood when its last filing was at this
+/// position.
+#[derive(Clone, Copy)]
+pub struct SheetRow {
+    pub upto: Option<Position>,
+    pub request: SheetRequest,
+}

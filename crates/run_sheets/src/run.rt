@@ -1,0 +1,102 @@
+//! A run that writes a sheet.
+ghost use Rattle.std.specs.Prelude.{◌≡◌, ◌⊎◌, ◌≤◌, ◌++◌, ℕ, IsTrue, List, Result, map, string_bytes};
+ghost use Rattle.aid_edges.specs.Faults.{Rose};
+ghost use Rattle.aid_filings.specs.declared.filing.Filing.{Filing};
+ghost use Rattle.disk_model.specs.Telling.{EachImage, EachMoment, IsHonest};
+ghost use Rattle.kept_office.specs.Openable.{IsOffice};
+ghost use Rattle.kept_office.specs.Recovers.{Recovers};
+ghost use Rattle.kept_office.specs.Scheme.{office_scheme};
+ghost use Rattle.kept_runs.specs.Counts.{Shows};
+ghost use Rattle.kept_runs.specs.Ends.{Moved};
+ghost use Rattle.kept_runs.specs.Statuses.{ended_file, is_disk_fault, is_read_fault, is_write_fault};
+ghost use Rattle.kept_session.specs.Reports.{Reports};
+ghost use Rattle.kept_session.specs.declared.stop.SessionStop.{SessionStop as Stopping};
+ghost use Rattle.office_history.specs.Within.{IsWithinEveryLimit};
+ghost use Rattle.stamped_list.specs.Entries.{entries};
+ghost use Rattle.stamped_list.specs.declared.entry.StampedEntry.{StampedEntry};
+ghost use Rattle.run_sheets.specs.Runs.{RanSheets, edges};
+ghost use Rattle.run_sheets.specs.Texts.{sheet_text};
+ghost use Rattle.run_sheets.specs.Words.{sheet_words};
+ghost use Rattle.run_sheets.specs.declared.request.SheetRow.{SheetRow as RowData};
+
+use crate::request::SheetRow;
+use crate::sheet::SheetReport;
+use crate::words::row_of;
+use aid_edges::Sink;
+use disk_model::Disk;
+use kept_office::StampedOffice;
+use kept_runs::{RunStop, end, ended_filing};
+use kept_session::write_report;
+use std::alloc::Global;
+
+// Opens the office of the disk's file, and writes the sheet of a row, up to how it ends.
+fn write_sheet<D: Disk, K: Sink>(
+    alloc: Global,
+    row: SheetRow,
+    disk: D,
+    out: &mut K,
+) -> (Result<(), RunStop>, D)
+    ensures reports { (ended : Result Unit Stopping) × (result.0 ≡ ended_file ended) × Reports D.Disk office_scheme (sheet_text row) disk result.1
+        (record { honest = K.honest out.old; before = K.text out.old; after = K.text out.new }) ended }
+    ensures source { Moved (is_read_fault result.0) (0, 0) }
+    ensures sink { Moved (is_write_fault result.0) (K.faults out.old, K.faults out.new) }
+    ensures disk { Moved (is_disk_fault result.0) (D.faults disk, D.faults result.1) }
+    ensures sink_later { K.faults out.old ≤ K.faults out.new }
+    ensures disk_later { D.faults disk ≤ D.faults result.1 }
+    ensures sink_honest { K.honest out.new ≡ K.honest out.old }
+    ensures disk_honest { (D.tells result.1).honest ≡ (D.tells disk).honest }
+{
+    let report = SheetReport { row };
+    let (ended, disk) = write_report::<D, K, StampedOffice, SheetReport>(alloc, disk, &report, out);
+    (ended_filing(ended), disk)
+}
+
+/// Writes the sheet that the words ask for, and answers the status and the disk as it is then. A row of words is a
+/// request, in front of which `upto POSITION` may stand: `list` writes all filings, each as its row behind its stamp;
+/// `student` the ledger of a student, `need` how a student's need in a year is found, `quotes` what the students of a
+/// term could be paid, and `report` a report of the aid office. Behind `upto POSITION` the sheet is that of the list as
+/// it stood when so many filings were on it, and `none` where there are fewer. Nothing is filed. The office is opened,
+/// and the whole text is made, before any of it is written.
+///
+/// The status is 0 where the text was written; 2 where the words are no row, and then no call is made on the disk; 4
+/// where a write failed, 5 where the disk failed, 6 where the file is no office, 7 where it is damaged, and 9 where there
+/// is no memory. At each but 0 and 4 the last line of the text names the fault.
+pub fn run_sheets<D: Disk, K: Sink>(
+    alloc: Global,
+    words: &Vec<String>,
+    disk: D,
+    out: &mut K,
+) -> (u8, D)
+    // Over an honest disk each image of which recovers a list, a run that was done has written exactly the sheet of this
+    // list, and at no moment does an image recover another one. What a file recovers is one list at most, in which no
+    // student stands above a limit.
+    ensures shown { (row : RowData) (past : List (StampedEntry Filing)) → map string_bytes words.now.items ≡ sheet_words row → result.0 ≡ 0 → IsHonest (D.tells disk) → IsTrue (K.honest out.old)
+        → EachImage (D.tells disk) (λ file. Recovers file past) → K.text out.new ≡ K.text out.old ++ sheet_text row past }
+    ensures keeps { (past : List (StampedEntry Filing)) → IsHonest (D.tells disk) → EachImage (D.tells disk) (λ file. Recovers file past)
+        → EachMoment (D.tells disk) (D.tells result.1) (λ file. Recovers file past) }
+    ensures within { (file : List ℕ) (history : List (StampedEntry Filing)) → Recovers file history → IsWithinEveryLimit (entries history) }
+    ensures one { (file : List ℕ) (history other : List (StampedEntry Filing)) → Recovers file history → Recovers file other → history ≡ other }
+
+    // All that a run does, by its words and by how it ended: the text, the disk at every moment, the counts, and the status.
+    ensures ran { RanSheets D.Disk K.Sink (edges (K.faults out.old, K.faults out.new) (D.faults disk, D.faults result.1)) (map string_bytes words.now.items) disk result.1 out.old out.new result.0 }
+
+    // 4 and 5 come only where the count of the sink or the disk rose, and no fault is passed over.
+    ensures shows { Shows (edges (K.faults out.old, K.faults out.new) (D.faults disk, D.faults result.1)) result.0 }
+
+    // Where no count rose, a row over an office is done, if there is memory.
+    ensures complete { (row : RowData) → map string_bytes words.now.items ≡ sheet_words row → IsOffice (D.tells disk)
+        → ¬ (Rose (K.faults out.old) (K.faults out.new)) → ¬ (Rose (D.faults disk) (D.faults result.1)) → (result.0 ≡ 0) ⊎ (result.0 ≡ 9) }
+
+    ensures sink_later { K.faults out.old ≤ K.faults out.new }
+    ensures disk_later { D.faults disk ≤ D.faults result.1 }
+    ensures sink_honest { K.honest out.new ≡ K.honest out.old }
+    ensures disk_honest { (D.tells result.1).honest ≡ (D.tells disk).honest }
+{
+    match row_of(words.as_slice()) {
+        Some(row) => {
+            let (ended, disk) = write_sheet(alloc, row, disk, out);
+            (end(ended, out), disk)
+        }
+        None => (end(Err(RunStop::Usage), out), disk),
+    }
+}

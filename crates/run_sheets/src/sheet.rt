@@ -1,0 +1,104 @@
+//! A sheet that is asked for, as a text of the office.
+ghost use Rattle.std.specs.Prelude.{◌≡◌, ◌-◌, ◌≤◌, IfOk, codes, drop, length, reverse};
+ghost use Rattle.run_sheets.specs.Texts.{report_on, sheet_on};
+
+use crate::request::{SheetRequest, SheetRow};
+use aid_reports::{awards, export, lifetimes, returns, stamp_lines, standings};
+use aid_sheets::{front_of, list, need, quotes, student};
+use kept_office::StampedOffice;
+use kept_session::Report;
+use office_core::Office;
+use run_words::ReportRequest;
+use stamps::Stamp;
+use std::alloc::{AllocError, Global};
+
+/// The sheet of a row, as a text of the office.
+#[derive(Drop)]
+pub struct SheetReport {
+    pub row: SheetRow,
+}
+
+impl Report<StampedOffice> for SheetReport {
+    ghost use Rattle.run_sheets.specs.Texts.{sheet_text};
+
+    ghost text = { λ report. sheet_text report.row };
+
+    fn write(&self, alloc: Global, docket: &StampedOffice) -> Result<Vec<u8>, AllocError> {
+        let office = docket.inner().office();
+        let stamps = docket.stamps();
+        match self.row.upto {
+            None => sheet(alloc, self.row.request, office, stamps),
+            Some(last) => {
+                if last.number <= office.front() {
+                    first_sheet(alloc, last.number, self.row.request, office, stamps)
+                } else {
+                    none_text(alloc)
+                }
+            }
+        }
+    }
+}
+
+// The sheet on the first filings of an office.
+fn first_sheet(
+    alloc: Global,
+    front: u32,
+    request: SheetRequest,
+    office: &Office,
+    stamps: &[Stamp],
+) -> Result<Vec<u8>, AllocError>
+    requires length { length stamps.now ≡ length office.now.history }
+    requires front { front ≤ length office.now.history }
+    ensures { IfOk result (λ text. text.items
+        ≡ sheet_on request (drop (length office.now.history - front) office.now.history) (drop (length office.now.history - front) (reverse stamps.now))) }
+{
+    let past = front_of(alloc, office, front)?;
+    sheet(alloc, request, &past, &stamps[..front as usize])
+}
+
+// The text that tells that there are fewer filings.
+fn none_text(alloc: Global) -> Result<Vec<u8>, AllocError>
+    ensures { IfOk result (λ text. text.items ≡ codes "none\n") }
+{
+    let mut text = Vec::new(alloc);
+    text.extend_from_slice(b"none\n")?;
+    Ok(text)
+}
+
+// The sheet on an office.
+fn sheet(
+    alloc: Global,
+    request: SheetRequest,
+    office: &Office,
+    stamps: &[Stamp],
+) -> Result<Vec<u8>, AllocError>
+    requires { length stamps.now ≡ length office.now.history }
+    ensures { IfOk result (λ text. text.items ≡ sheet_on request office.now.history (reverse stamps.now)) }
+{
+    match request {
+        SheetRequest::List => list(alloc, office, stamps),
+        SheetRequest::Student(of) => student(alloc, office, stamps, of.student),
+        SheetRequest::Need(of) => need(alloc, office, of.student, of.year),
+        SheetRequest::Quotes(of) => quotes(alloc, office, of.school, of.year, of.term),
+        SheetRequest::Report(request) => report(alloc, request, office, stamps),
+    }
+}
+
+// A report on an office.
+fn report(
+    alloc: Global,
+    request: ReportRequest,
+    office: &Office,
+    stamps: &[Stamp],
+) -> Result<Vec<u8>, AllocError>
+    ensures { IfOk result (λ text. text.items ≡ report_on request office.now.history (reverse stamps.now)) }
+{
+    match request {
+        ReportRequest::Standing(of) => standings(alloc, office, of.year),
+        ReportRequest::Awards(of) => awards(alloc, office, of.year),
+        ReportRequest::Returns(of) => returns(alloc, office, of.year),
+        ReportRequest::Lifetime => lifetimes(alloc, office),
+        ReportRequest::Stamps => stamp_lines(alloc, stamps),
+        ReportRequest::Export(of) => export(alloc, office, of.year),
+    }
+}

@@ -1,0 +1,271 @@
+// The sheets of the worked year, and those of students under the other formulas.
+use aid_edges::MemorySink;
+use disk_model::MemoryDisk;
+use run_sheets::run_sheets;
+use specimen::{BOOK_TEXT, YEAR_LINES, YEAR_ROWS};
+use std::alloc::Global;
+use std::process::Abort;
+use std::test::Fail;
+use whole_runs::{EMPTY, disk, ran, words_of};
+
+// The file of an office in which the book, and then these rows, were filed with these answers.
+fn office(rt: &impl Abort, alloc: Global, inputs: &[(&str, &str)]) -> Result<MemoryDisk, Fail> {
+    let empty = disk(alloc, EMPTY, &[], None)?;
+    let (_, _, mut kept) = ran(alloc, "book 1", BOOK_TEXT.as_bytes(), empty, &[])?;
+    for &(rows, answers) in inputs {
+        let (status, sink, next) = ran(alloc, "file", rows.as_bytes(), kept, &[])?;
+        assert_eq!(rt; sink.text(), answers.as_bytes());
+        assert_eq!(rt; status, 0);
+        kept = next;
+    }
+    Ok(kept)
+}
+
+// Asserts the status and the text of a run over a file with these bytes, of which these calls fail to write.
+fn assert_sheet(
+    rt: &impl Abort,
+    alloc: Global,
+    image: &[u8],
+    line: &str,
+    status: u8,
+    text: &str,
+) -> Result<(), Fail> {
+    let words = words_of(alloc, line)?;
+    let mut sink = MemorySink::new(alloc, Vec::new(alloc));
+    let (ended, _disk) = run_sheets(alloc, &words, disk(alloc, image, &[], None)?, &mut sink);
+    assert_eq!(rt; sink.text(), text.as_bytes(), "{line}");
+    assert_eq!(rt; ended, status, "{line}");
+    Ok(())
+}
+
+#[test]
+fn a_worked_year(rt: HostRuntime) -> Result<(), Fail> {
+    let alloc = rt.alloc();
+    let year = office(&rt, alloc, &[(YEAR_ROWS, YEAR_LINES)])?;
+    let image = year.image();
+    assert_sheet(&rt, alloc, image, "list", 0, LIST)?;
+    assert_sheet(&rt, alloc, image, "student 5001", 0, LEDGER)?;
+    assert_sheet(&rt, alloc, image, "need 5001 2025", 0, DEPENDENT)?;
+    assert_sheet(&rt, alloc, image, "upto 18 student 5001", 0, LEDGER)?;
+    assert_sheet(
+        &rt,
+        alloc,
+        image,
+        "upto 10 quotes 110 2025 1",
+        0,
+        FIRST_QUOTES,
+    )
+}
+
+#[test]
+fn other_formulas(rt: HostRuntime) -> Result<(), Fail> {
+    let alloc = rt.alloc();
+    let year = office(&rt, alloc, &[(YEAR_ROWS, YEAR_LINES), (APPLIED, ANSWERED)])?;
+    assert_sheet(&rt, alloc, year.image(), "need 5002 2025", 0, SINGLE)?;
+    assert_sheet(&rt, alloc, year.image(), "need 5003 2025", 0, FAMILY)
+}
+
+#[test]
+fn names_that_are_on_no_file(rt: HostRuntime) -> Result<(), Fail> {
+    let alloc = rt.alloc();
+    let year = office(&rt, alloc, &[(YEAR_ROWS, YEAR_LINES)])?;
+    for line in [
+        "student 77",
+        "need 77 2025",
+        "need 5001 2026",
+        "quotes 110 2025 3",
+        "upto 7 need 5001 2025",
+        "upto 19 list",
+        "upto 4294967295 list",
+    ] {
+        assert_sheet(&rt, alloc, year.image(), line, 0, "none\n")?;
+    }
+    assert_sheet(&rt, alloc, EMPTY, "list", 0, "rows 0\n")
+}
+
+#[test]
+fn words_and_files_that_are_none(rt: HostRuntime) -> Result<(), Fail> {
+    let alloc = rt.alloc();
+    for line in [
+        "lists",
+        "list list",
+        "student 0",
+        "student 05001",
+        "student 1000000000000",
+        "need 5001 1999",
+        "upto 0 list",
+        "upto 1 upto 1 list",
+        "quotes 110 2025 9",
+        "found",
+    ] {
+        assert_sheet(&rt, alloc, EMPTY, line, 2, "fault usage\n")?;
+    }
+    assert_sheet(&rt, alloc, b"", "list", 6, "fault no office\n")
+}
+
+// Applications of a student without dependents, and of one with a dependent.
+const APPLIED: &str = "\
+apply,110,50,5002,2025,1,2000,0,1,0,0,0,0,0,0,0,0,0,0,1,20000,0,0,0,0,0,0,0,0,600,20000,0,0,1000,0,0,1,1,48,0,0,0,0,0,0,0,0,0,0,0,0,0,0,0,0\n\
+apply,110,51,5003,2025,1,1990,0,2,0,0,0,0,1,0,0,0,0,0,1,60000,0,0,0,0,0,0,0,0,3000,60000,0,0,0,40000,0,1,1,48,0,0,0,0,0,0,0,0,0,0,0,0,0,0,0,0\n";
+
+const ANSWERED: &str = "\
+1 18 accepted 19 index B -20 maximum 7395\n\
+2 19 accepted 20 index C -707 calculated 7395\n";
+
+// All filings as rows, each with its outcome.
+const LIST: &str = "\
+1 1970-01-01 - book,0,1,2025 noted\n\
+2 1970-01-01 - school,0,2,110,2,12 noted\n\
+3 1970-01-01 - school,0,3,120,3,12 noted\n\
+4 1970-01-01 - calendar,110,1,2025,1,0,2025-08-25,2025-12-12,1,2025-11-22,2025-11-30 noted\n\
+5 1970-01-01 - calendar,110,2,2025,2,0,2026-01-12,2026-05-01,0 noted\n\
+6 1970-01-01 - calendar,120,1,2025,1,0,2025-09-22,2025-12-05,0 noted\n\
+7 1970-01-01 - calendar,120,2,2025,2,0,2026-01-05,2026-03-20,0 noted\n\
+8 1970-01-01 - apply,110,3,5001,2025,1,2006,0,4,0,0,0,0,0,0,0,0,0,0,1,6000,0,0,0,0,0,0,0,0,0,6000,0,0,900,0,0,1,1,48,85000,0,0,0,0,0,0,0,0,5200,50000,35000,0,12000,20000,0 index A 5104 calculated 2290\n\
+9 1970-01-01 - enrol,110,4,5001,2025,1,12 noted\n\
+10 1970-01-01 - originate,110,5,5001,2025,24000 noted\n\
+11 1970-01-01 - pay,110,6,5001,2025,1,pell,1145.00 paid 1145.00 50000\n\
+12 1970-01-01 - pay,110,7,5001,2025,1,unsub,1000.00 paid 1000.00 50000\n\
+13 1970-01-01 - enrol,120,3,5001,2025,1,12 noted\n\
+14 1970-01-01 - originate,120,4,5001,2025,21000 noted\n\
+15 1970-01-01 - enrol,120,6,5001,2025,2,12 noted\n\
+16 1970-01-01 - pay,120,7,5001,2025,2,pell,763.00 paid 1908.00 83319\n\
+17 1970-01-01 - withdraw,120,8,5001,2025,2,2026-01-30,2026-02-05,100.00,0.00,0.00,0.00,0.00,0.00,0.00 returned 34.7 65.30 51.44 0.00\n\
+18 1970-01-01 - repay,120,9,5001,2025,2,pell,51.44 noted\n\
+rows 18\n";
+
+// All about one student.
+const LEDGER: &str = "\
+\x20      8 1970-01-01 -           110            3 2025 - apply     index A 5104 calculated 2290\n\
+\x20      9 1970-01-01 -           110            4 2025 1 enrol     12 credits\n\
+\x20     10 1970-01-01 -           110            5 2025 - originate 24000 dollars\n\
+\x20     11 1970-01-01 -           110            6 2025 1 pay       pell       1145.00      1145.00   50000\n\
+\x20     12 1970-01-01 -           110            7 2025 1 pay       unsub      1000.00      1000.00   50000\n\
+\x20     13 1970-01-01 -           120            3 2025 1 enrol     12 credits\n\
+\x20     14 1970-01-01 -           120            4 2025 - originate 21000 dollars\n\
+\x20     15 1970-01-01 -           120            6 2025 2 enrol     12 credits\n\
+\x20     16 1970-01-01 -           120            7 2025 2 pay       pell        763.00       763.00   83319\n\
+\x20     17 1970-01-01 -           120            8 2025 2 withdraw  returned 34.7 65.30 51.44 0.00\n\
+\x20     17 1970-01-01 -           120            8 2025 2 return    pell        -65.30       697.70   80467\n\
+\x20     18 1970-01-01 -           120            9 2025 2 repay     pell        -51.44       646.26   78221\n\
+rows 12\n";
+
+// What could be paid before anything was.
+const FIRST_QUOTES: &str = "\
+student,credits,scheduled,pell,quote\n\
+5001,12,2290,0.00,1145\n";
+
+// Formula A.
+const DEPENDENT: &str = "\
+Student Aid Index of student 5001, award year 2025: formula A\n\
+application at 8, transaction 1; year book at 1\n\
+parents\n\
+\x20  adjusted gross income                              85000\n\
+\x20= total income                                       85000\n\
+\x20  income tax, where above 0                           5200\n\
+\x20+ payroll tax allowance                               6503\n\
+\x20+ income protection, family of 4                     43870\n\
+\x20+ employment expense allowance                        4730\n\
+\x20= allowances                                         60303\n\
+\x20  available income                                   24697\n\
+\x20+ cash, savings and checking                         12000\n\
+\x20+ net worth of investments                           20000\n\
+\x20= net worth                                          32000\n\
+\x20- asset protection allowance, age 48                  6000\n\
+\x20= discretionary net worth                            26000\n\
+\x20  contribution from assets, 12.00 percent             3120\n\
+\x20  adjusted available income                          27817\n\
+\x20  contribution, by the schedule                       6424\n\
+student\n\
+\x20  adjusted gross income                               6000\n\
+\x20= total income                                        6000\n\
+\x20  income tax, where above 0                              0\n\
+\x20+ payroll tax allowance                                459\n\
+\x20+ income protection                                  11770\n\
+\x20+ parents' adjusted income below 0                       0\n\
+\x20= allowances                                         12229\n\
+\x20  available income                                   -6229\n\
+\x20  contribution from income, 50.00 percent            -1500\n\
+\x20  cash, savings and checking                           900\n\
+\x20= net worth                                            900\n\
+\x20  contribution from assets, 20.00 percent              180\n\
+award\n\
+\x20= sum of the contributions                            5104\n\
+\x20  Student Aid Index, -1500 to 999999                  5104\n\
+\x20  required to file a tax return                        yes\n\
+\x20  a graduate, or has a bachelor's degree                no\n\
+\x20  adjusted gross income                              85000\n\
+\x20  poverty guideline, family of 4                     30000\n\
+\x20  maximum award up to 175 percent                    52500\n\
+\x20  minimum award up to 275 percent                    82500\n\
+\x20  7395 less the index, to the nearest 5               2290\n\
+\x20  minimum award of the year                            740\n\
+\x20= Scheduled Award: calculated                         2290\n\
+\x20  final Student Aid Index                             5104\n";
+
+// Formula B, of a student who earned 20,000 dollars.
+const SINGLE: &str = "\
+Student Aid Index of student 5002, award year 2025: formula B\n\
+application at 19, transaction 1; year book at 1\n\
+student\n\
+\x20  adjusted gross income                              20000\n\
+\x20= total income                                       20000\n\
+\x20  income tax, where above 0                            600\n\
+\x20+ payroll tax allowance                               1530\n\
+\x20+ income protection                                  18310\n\
+\x20+ employment expense allowance                           0\n\
+\x20= allowances                                         20440\n\
+\x20  available income                                    -440\n\
+\x20  contribution from income, 50.00 percent             -220\n\
+\x20+ cash, savings and checking                          1000\n\
+\x20= net worth                                           1000\n\
+\x20- asset protection allowance, age 25                     0\n\
+\x20= discretionary net worth                             1000\n\
+\x20  contribution from assets, 20.00 percent              200\n\
+award\n\
+\x20= sum of the contributions                             -20\n\
+\x20  Student Aid Index, -1500 to 999999                   -20\n\
+\x20  required to file a tax return                        yes\n\
+\x20  a graduate, or has a bachelor's degree                no\n\
+\x20  adjusted gross income                              20000\n\
+\x20  poverty guideline, family of 1                     14580\n\
+\x20  maximum award up to 175 percent                    25515\n\
+\x20  minimum award up to 275 percent                    40095\n\
+\x20  7395 less the index, to the nearest 5               7395\n\
+\x20  minimum award of the year                            740\n\
+\x20= Scheduled Award: maximum                            7395\n\
+\x20  final Student Aid Index                              -20\n";
+
+// Formula C, of a student with a dependent who earned 60,000 dollars.
+const FAMILY: &str = "\
+Student Aid Index of student 5003, award year 2025: formula C\n\
+application at 20, transaction 1; year book at 1\n\
+student\n\
+\x20  adjusted gross income                              60000\n\
+\x20= total income                                       60000\n\
+\x20  income tax, where above 0                           3000\n\
+\x20+ payroll tax allowance                               4590\n\
+\x20+ income protection, family of 2                     53660\n\
+\x20+ employment expense allowance                        4730\n\
+\x20= allowances                                         65980\n\
+\x20  available income                                   -5980\n\
+\x20+ net worth of investments                           40000\n\
+\x20= net worth                                          40000\n\
+\x20- asset protection allowance, age 35                   500\n\
+\x20= discretionary net worth                            39500\n\
+\x20  contribution from assets, 7.00 percent              2765\n\
+\x20  adjusted available income                          -3215\n\
+\x20  contribution, by the schedule                       -707\n\
+award\n\
+\x20= sum of the contributions                            -707\n\
+\x20  Student Aid Index, -1500 to 999999                  -707\n\
+\x20  required to file a tax return                        yes\n\
+\x20  a graduate, or has a bachelor's degree                no\n\
+\x20  adjusted gross income                              60000\n\
+\x20  poverty guideline, family of 2                     19720\n\
+\x20  maximum award up to 225 percent                    44370\n\
+\x20  minimum award up to 400 percent                    78880\n\
+\x20  7395 less the index, to the nearest 5               7395\n\
+\x20  minimum award of the year                            740\n\
+\x20= Scheduled Award: calculated                         7395\n\
+\x20  final Student Aid Index                             -707\n";
