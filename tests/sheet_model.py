@@ -110,3 +110,178 @@ def student_sheet(history, stamps, student):
         for line in ledger_lines(history, position, stamps[position - 1], brought[position - 1])
     ]
     return table(lines) if lines else "none\n"
+
+
+def quotes_sheet(history, school, year, term):
+    """What `quotes SCHOOL YEAR TERM` prints."""
+    students = sorted({
+        filing.student for filing in history
+        if isinstance(filing, model.Enrolment) and (filing.school, filing.year, filing.term) == (school, year, term)
+    })
+    lines = []
+    for student in students:
+        credits = model.credits_of(history, student, school, year, term)
+        if credits:
+            pell = model.net(history, student, school, year, term, model.PELL)
+            quote = model.quote(history, school, student, year, term) // 100
+            lines.append(f"{student},{credits},{model.scheduled(history, student, year)},{desk.money(pell)},{quote}\n")
+    return "".join(["student,credits,scheduled,pell,quote\n", *lines]) if lines else "none\n"
+
+
+# The worksheet of an index and an award
+
+def line(mark, words, told):
+    """A line: its mark, its words, what is told."""
+    return f" {mark} {words:44}{told:>12}\n"
+
+
+def amounts(*entries):
+    """Lines of amounts, of those that aren't 0."""
+    return "".join(line(mark, words, amount) for mark, words, amount in entries if amount)
+
+
+def income_lines(household):
+    """The amounts of a household's income, and its total."""
+    return amounts(
+        (" ", "adjusted gross income", household.gross_income),
+        ("+", "deductions for retirement savings", household.ira_deductions),
+        ("+", "tax-exempt interest", household.exempt_interest),
+        ("+", "untaxed distributions of retirement savings", household.ira_distributions),
+        ("+", "untaxed pensions", household.pensions),
+        ("+", "foreign income that isn't taxed", household.foreign_income),
+        ("-", "taxable grants and scholarships", household.grants),
+        ("-", "education credits", household.education_credits),
+        ("-", "earnings of work-study", household.work_study),
+    ) + line("=", "total income", model.total_income(household))
+
+
+def allowance_lines(book, household, married, living, further):
+    """The allowances of a household, and the income that they leave."""
+    tax, payroll = model.tax_allowance(household), model.payroll_allowance(book, household, married)
+    allowances = tax + payroll + living[1] + further[1]
+    available = model.total_income(household) - allowances
+    return available, "".join([
+        line(" ", "income tax, where above 0", tax), line("+", "payroll tax allowance", payroll), line("+", *living),
+        line("+", *further), line("=", "allowances", allowances), line(" ", "available income", available),
+    ])
+
+
+def rate(percent):
+    """A rate of ten-thousandths, in percent."""
+    return f"{percent // 100}.{percent % 100:02}"
+
+
+def asset_lines(book, household, married, age, share):
+    """A household's assets, what is protected of them, and the share of the rest."""
+    business = model.value_at(book.business, household.business, 0)
+    worth = household.child_support + household.cash + household.investments + business
+    protected = model.asset_protection(book, age, married)
+    found = model.asset_contribution(book, household, age, married, share)
+    return found, amounts(
+        (" ", "child support received", household.child_support),
+        ("+", "cash, savings and checking", household.cash),
+        ("+", "net worth of investments", household.investments),
+        ("+", "adjusted net worth of a business", business),
+    ) + "".join([
+        line("=", "net worth", worth), line("-", f"asset protection allowance, age {age}", protected),
+        line("=", "discretionary net worth", worth - protected), line(" ", f"contribution from assets, {rate(share)} percent", found),
+    ])
+
+
+def assessed_lines(book, household, married, living, age, share):
+    """A household whose income and assets the schedule assesses."""
+    further = "employment expense allowance", model.employment_allowance(book, household)
+    available, allowances = allowance_lines(book, household, married, living, further)
+    found, assets = asset_lines(book, household, married, age, share)
+    contribution = model.assessment(book, available + found)
+    return available + found, contribution, "".join([
+        income_lines(household), allowances, assets, line(" ", "adjusted available income", available + found),
+        line(" ", "contribution, by the schedule", contribution),
+    ])
+
+
+def dependent_lines(book, application):
+    """Formula A: the parents, and the student."""
+    parents, own = application.parents, application.own
+    living = f"income protection, family of {application.family}", model.by_size(book.parents, application.family, 2)
+    adjusted, from_parents, lines = assessed_lines(
+        book, parents, application.parents_married, living, application.parent_age, book.parents_rate,
+    )
+    further = "parents' adjusted income below 0", max(0, -adjusted)
+    available, allowances = allowance_lines(book, own, False, ("income protection", book.dependent_student), further)
+    from_income = model.income_contribution(book, available)
+    worth = own.cash + own.investments + own.business
+    from_assets = model.share(worth, book.dependent_rate)
+    assets = amounts(
+        (" ", "cash, savings and checking", own.cash), ("+", "net worth of investments", own.investments),
+        ("+", "net worth of a business", own.business),
+    )
+    return from_parents + from_income + from_assets, "".join([
+        "parents\n", lines, "student\n", income_lines(own), allowances,
+        line(" ", f"contribution from income, {rate(book.student_rate)} percent", from_income), assets,
+        line("=", "net worth", worth), line(" ", f"contribution from assets, {rate(book.dependent_rate)} percent", from_assets),
+    ])
+
+
+def single_lines(book, application):
+    """Formula B: the student, with the spouse."""
+    own, married = application.own, application.married
+    living = "income protection", book.married_student if married else book.single_student
+    further = "employment expense allowance", model.employment_allowance(book, own) if married else 0
+    available, allowances = allowance_lines(book, own, married, living, further)
+    from_income = model.income_contribution(book, available)
+    age = model.age_of(book, application)
+    from_assets, assets = asset_lines(book, own, married, age, book.no_dependents_rate)
+    return from_income + from_assets, "".join([
+        "student\n", income_lines(own), allowances,
+        line(" ", f"contribution from income, {rate(book.student_rate)} percent", from_income), assets,
+    ])
+
+
+def family_lines(book, application):
+    """Formula C: the student's family."""
+    married, family = application.married, application.family
+    living = f"income protection, family of {family}", model.by_size(book.married_parent if married else book.single_parent, family, 2)
+    age = model.age_of(book, application)
+    _, raw, lines = assessed_lines(book, application.own, married, living, age, book.with_dependents_rate)
+    return raw, "student\n" + lines
+
+
+def award_lines(book, application, raw):
+    """The index, the incomes that decide, and the award."""
+    which, found = model.formula(book, application), model.index(book, application)
+    household = application.parents if which == "A" else application.own
+    must_file = application.parents_must_file if which == "A" else application.student_must_file
+    barred = application.graduate or application.bachelor
+    income = household.gross_income + (household.foreign_income if book.ceiling else 0)
+    words = "adjusted gross income and foreign income" if book.ceiling else "adjusted gross income"
+    guideline = model.by_size(book.poverty[application.region], application.family, 1)
+    most, least = model.maximum_percent(book, application), model.minimum_percent(book, application)
+    decided = model.decision(book, application)
+    ceiling = -(-book.ceiling * book.maximum // 100)
+    return "".join([
+        line("=", "sum of the contributions", raw), line(" ", "Student Aid Index, -1500 to 999999", found),
+        amounts((" ", "ceiling: no award from this index on", ceiling)),
+        line(" ", "required to file a tax return", "yes" if must_file else "no"),
+        line(" ", "a graduate, or has a bachelor's degree", "yes" if barred else "no"),
+        line(" ", words, income), line(" ", f"poverty guideline, family of {application.family}", guideline),
+        line(" ", f"maximum award up to {most} percent", most * guideline // 100),
+        line(" ", f"minimum award up to {least} percent", least * guideline // 100),
+        line(" ", f"{book.maximum} less the index, to the nearest 5", model.to_five(book.maximum - max(found, 0))),
+        line(" ", "minimum award of the year", book.minimum), line("=", f"Scheduled Award: {decided.way}", decided.award),
+        line(" ", "final Student Aid Index", decided.index),
+    ])
+
+
+def need_sheet(history, student, year):
+    """What `need STUDENT YEAR` prints."""
+    application, (book_at, book) = model.application_of(history, student, year), model.book_at(history, year)
+    if application is None or book is None:
+        return "none\n"
+    which = model.formula(book, application)
+    raw, lines = {"A": dependent_lines, "B": single_lines, "C": family_lines}[which](book, application)
+    return "".join([
+        f"Student Aid Index of student {student}, award year {year}: formula {which}\n",
+        f"application at {history.index(application) + 1}, transaction {application.transaction}; year book at {book_at}\n",
+        lines, "award\n", award_lines(book, application, raw),
+    ])
