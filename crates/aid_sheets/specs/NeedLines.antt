@@ -14,7 +14,7 @@ told_text (Worked n) = whole_text n
 told_text (Dollars n) = whole_text n
 told_text (Answer b) = if b then codes "yes" else codes "no"
 
--- dollars of the application or the book have no line where they are 0
+-- dollars of an application or a book, an adjusted business and a ceiling have no line where they are 0
 abbrev pub is_shown : Told → Bool
 is_shown (Worked n) = true
 is_shown (Dollars n) = not (int_eq n (pos 0))

@@ -68,8 +68,8 @@ pub enum Part {
     Taken(Way),
 }
 
-/// What a line tells: a worked number; dollars of the application or the book, which have no line where they are 0; or an
-/// answer.
+/// What a line tells: a worked number; dollars of the application or the book, the adjusted net worth of a business or
+/// the ceiling of the year, which have no line where they are 0; or an answer.
 #[derive(Clone, Copy)]
 pub enum Told {
     Worked(i128),

@@ -11,7 +11,7 @@ pub struct StudentRequest {
     pub ghost in_range: { IsBetween 1 999999999999 student },
 }
 
-/// The student and the award year whose need is asked for: the year is 2000 to 2099.
+/// The student and the award year whose worksheet is asked for: the year is 2000 to 2099.
 #[derive(Clone, Copy)]
 pub struct NeedRequest {
     pub student: Student,
@@ -35,7 +35,7 @@ pub enum SheetRequest {
     List,
     /// `student STUDENT`: the ledger of a student.
     Student(StudentRequest),
-    /// `need STUDENT YEAR`: how a student's need in a year is found.
+    /// `need STUDENT YEAR`: how the index and the award of a student in a year came about.
     Need(NeedRequest),
     /// `quotes SCHOOL YEAR TERM`: what the students of a term could be paid of Pell.
     Quotes(QuotesRequest),
