@@ -103,7 +103,8 @@ def standings_text(awards):
 def returns_text(sums):
     """A bar for each week in which something is due."""
     for monday, amount in sums.items():
-        print(f"{monday} to {monday + WEEK - datetime.timedelta(days=1)} {dollars(amount):>14} {bar(amount, max(sums.values()))}")
+        line = f"{monday} to {monday + WEEK - datetime.timedelta(days=1)} {dollars(amount):>14} {bar(amount, max(sums.values()))}"
+        print(line.rstrip())
 
 
 def lifetime_text(counts):
