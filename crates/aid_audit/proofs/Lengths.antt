@@ -29,9 +29,9 @@ use Rattle.field_table.specs.Limits.{is_between}
 use Rattle.field_table.specs.Parts.{Line, Slot, width_of}
 use Rattle.field_table.specs.Tables.{are_plain, has_none}
 use Rattle.field_table.proofs.Laws.{AreNumbers-few}
-use Rattle.field_bytes.specs.Spelling.{number_bytes, numbers_bytes}
-use Rattle.field_bytes.proofs.NumberLaws.{length-number_bytes}
-use Rattle.field_bytes.proofs.RowLaws.{numbers_few}
+use Rattle.field_table.specs.Spelling.{number_bytes, numbers_bytes}
+use Rattle.field_table.proofs.NumberLaws.{length-number_bytes}
+use Rattle.field_table.proofs.RowLaws.{numbers_few}
 use Rattle.filing_kinds.specs.Kinds.{book_slots, slots_of_kind, table_row_of}
 use Rattle.filing_kinds.specs.declared.kind.Kind.{Kind}
 use Rattle.filing_kinds.specs.declared.kind.Kind.TheVariants.{Book, School, Calendar, Prior, Apply, Enrol, Originate, Pay, Withdraw, Repay, Adjust}

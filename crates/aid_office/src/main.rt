@@ -1,15 +1,12 @@
 //! The program of a federal student aid office: its words, its journal, what it reads and what it writes.
 #![tactic(auto)]
 
-use aid_edges::{FreeGate, ReadEdge, Sink, WriteEdge};
+use aid_edges::{FreeGate, ReadEdge, Sink, WriteEdge, fill_streams, hold, is_born, keep_in_folder, open_input, open_journal, say, words_of};
 use disk_model::HostDisk;
 use filing_journal::OpenError;
 use fund_policy::{Rule, level, quarter, standard};
 use kept_runs::{RunStop, end};
 use kept_session::ReadStop;
-use program_edges::{
-    fill_streams, hold, is_born, keep_in_folder, open_input, open_journal, say, words_of,
-};
 use run_office::{DeskInput, run, run_desks};
 use run_upgrade::upgrade;
 use run_web::run_web;

@@ -15,7 +15,7 @@ use aid_types::{Day, Year, program_name};
 use arrayvec::ArrayString;
 use desk_forms::outcome_line;
 use enrolment::put_day;
-use field_lines::push_cents;
+use field_rows::push_cents;
 use itoa::Buffer;
 use stamps::ClerkName;
 use std::alloc::AllocError;

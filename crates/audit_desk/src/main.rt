@@ -1,10 +1,9 @@
 //! The program of the auditor: it checks an export, or answers rows about clock-hour programs, and has no journal.
 #![tactic(auto)]
 
-use aid_edges::{ReadEdge, WriteEdge};
+use aid_edges::{ReadEdge, WriteEdge, say, words_of};
 use kept_runs::{RunStop, end};
 use kept_session::CheckStop;
-use program_edges::{say, words_of};
 use run_audit::run_audit;
 use std::io::ErrorKind;
 use std::process::ExitCode;

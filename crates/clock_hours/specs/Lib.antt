@@ -1,1 +1,4 @@
 pub mod Clock
+pub mod Fields
+pub mod Lines
+pub mod Rows

@@ -1,4 +1,4 @@
-pub use Rattle.field_lines.specs.Lines
+pub use Rattle.field_rows.specs.Lines
 pub use Rattle.aid_num.specs.Whole
 pub mod Rows
 pub mod BookLines

@@ -3,7 +3,7 @@ use Rattle.std.specs.Prelude.{ℕ, ◌/◌, List, [], ◌++◌, ◌+◌, codes, 
 use Rattle.aid_num.specs.Cents.{cents_text}
 use Rattle.aid_num.specs.Percents.{percent_text}
 use Rattle.aid_num.specs.Whole.{whole_text}
-use Rattle.field_lines.specs.Lines.{refused_text}
+use Rattle.field_rows.specs.Lines.{refused_text}
 use Rattle.aid_types.specs.Words.{formula_text, way_text}
 use Rattle.aid_filings.specs.declared.reply.Outcome.{Outcome}
 use Rattle.aid_filings.specs.declared.reply.Outcome.TheVariants.{Noted, Indexed, Paid, Returned}

@@ -9,7 +9,7 @@ mod line;
 mod reply;
 mod row;
 
-pub use field_lines::{put_error, put_fine, put_tally};
+pub use field_rows::{put_error, put_fine, put_tally};
 pub use filing::book_filing;
 pub use form::{FilingForm, FilingSaid};
 pub use laws::once;

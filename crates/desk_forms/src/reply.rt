@@ -9,7 +9,7 @@ ghost use Rattle.desk_forms.specs.Replies.{line_of, outcome_text, quote_line, re
 use aid_filings::{Outcome, Reply, Verdict};
 use aid_types::{Formula, Way, formula_name, way_name};
 use arrayvec::ArrayString;
-use field_lines::{push_cents, push_count, push_number, refused_line};
+use field_rows::{push_cents, push_count, push_number, refused_line};
 use itoa::Buffer;
 use std::alloc::AllocError;
 

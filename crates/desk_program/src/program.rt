@@ -1,10 +1,9 @@
 // The way from a program's words to a journal that is open, and to its status.
-use aid_edges::Sink;
+use aid_edges::{Sink, fill_streams, hold, is_born, keep_in_folder, open_journal, say, words_of};
 use disk_model::HostDisk;
 use filing_journal::OpenError;
 use kept_runs::{RunStop, end};
 use kept_session::ReadStop;
-use program_edges::{fill_streams, hold, is_born, keep_in_folder, open_journal, say, words_of};
 use std::fs::File;
 use std::io::ErrorKind;
 use std::process::ExitCode;

@@ -1,10 +1,9 @@
 // The program of a list under rules.
-use aid_edges::{FreeGate, ReadEdge, Sink};
+use aid_edges::{FreeGate, ReadEdge, Sink, open_input};
 use disk_model::HostDisk;
 use kept_crews::MOST_DESKS;
 use kept_runs::{RunStop, end};
 use kept_session::ReadStop;
-use program_edges::open_input;
 use ruled_forms::OutcomeText;
 use ruled_runs::{RuledInput, run_ruled, run_ruled_desks};
 use std::fs::File;

@@ -20,10 +20,10 @@ use Rattle.field_table.specs.Tables.{IsRow, KindRow, kind_at, slots_in}
 use Rattle.field_table.specs.declared.field.Form.TheVariants.{U32}
 use Rattle.field_table.specs.declared.field.Limit.TheVariants.{Between}
 use Rattle.filing_kinds.specs.Kinds.{key_slots}
-use Rattle.loan_filings.specs.Ranges.{EachIsDollars, HaveLevels, is_dollars, is_loan}
-use Rattle.loan_filings.specs.declared.filing.LimitFacts.{LimitFacts}
-use Rattle.loan_filings.specs.declared.filing.LoanWhat.{LoanWhat}
-use Rattle.loan_filings.specs.declared.filing.LoanWhat.TheVariants.{Limits, Borrower, Before, Lend, Cancel}
+use Rattle.loan_history.specs.Ranges.{EachIsDollars, HaveLevels, is_dollars, is_loan}
+use Rattle.loan_history.specs.declared.filing.LimitFacts.{LimitFacts}
+use Rattle.loan_history.specs.declared.filing.LoanWhat.{LoanWhat}
+use Rattle.loan_history.specs.declared.filing.LoanWhat.TheVariants.{Limits, Borrower, Before, Lend, Cancel}
 use Rattle.direct_loans.specs.Kinds.{limit_slots, limits_slots, loan_kinds}
 use Rattle.direct_loans.specs.Numbers.{code_of_what, dollar_numbers, key_numbers, limits_in, limits_numbers, what_numbers}
 use Rattle.direct_loans.specs.Parts.{FitAnywhere, FitSomewhere, dollar_slots, slots_of_what}

@@ -2,13 +2,13 @@
 use Rattle.std.specs.Prelude.{ℕ, ℤ, pos, Bool, true, false, List, [], ◌∷◌, ◌++◌, map}
 use Rattle.aid_types.specs.Programs.{rank}
 use Rattle.aid_types.specs.declared.number.Key.{Key}
-use Rattle.loan_filings.specs.declared.filing.BeforeFacts.{BeforeFacts}
-use Rattle.loan_filings.specs.declared.filing.BorrowerFacts.{BorrowerFacts}
-use Rattle.loan_filings.specs.declared.filing.LimitFacts.{LimitFacts}
-use Rattle.loan_filings.specs.declared.filing.LoanAmount.{LoanAmount}
-use Rattle.loan_filings.specs.declared.filing.LoanFiling.{LoanFiling}
-use Rattle.loan_filings.specs.declared.filing.LoanWhat.{LoanWhat}
-use Rattle.loan_filings.specs.declared.filing.LoanWhat.TheVariants.{Limits, Borrower, Before, Lend, Cancel}
+use Rattle.loan_history.specs.declared.filing.BeforeFacts.{BeforeFacts}
+use Rattle.loan_history.specs.declared.filing.BorrowerFacts.{BorrowerFacts}
+use Rattle.loan_history.specs.declared.filing.LimitFacts.{LimitFacts}
+use Rattle.loan_history.specs.declared.filing.LoanAmount.{LoanAmount}
+use Rattle.loan_history.specs.declared.filing.LoanFiling.{LoanFiling}
+use Rattle.loan_history.specs.declared.filing.LoanWhat.{LoanWhat}
+use Rattle.loan_history.specs.declared.filing.LoanWhat.TheVariants.{Limits, Borrower, Before, Lend, Cancel}
 
 -- a yes by 1
 abbrev pub flag_number : Bool → ℤ

@@ -4,8 +4,8 @@ use Rattle.field_table.specs.Columns.{one}
 use Rattle.field_table.specs.Layout.{AreNumbers}
 use Rattle.field_table.specs.Parts.{Slot}
 use Rattle.field_table.specs.declared.field.Form.TheVariants.{U32}
-use Rattle.loan_filings.specs.declared.filing.LoanWhat.{LoanWhat}
-use Rattle.loan_filings.specs.declared.filing.LoanWhat.TheVariants.{Limits, Borrower, Before, Lend, Cancel}
+use Rattle.loan_history.specs.declared.filing.LoanWhat.{LoanWhat}
+use Rattle.loan_history.specs.declared.filing.LoanWhat.TheVariants.{Limits, Borrower, Before, Lend, Cancel}
 use Rattle.direct_loans.specs.Kinds.{before_slots, borrower_slots, limits_slots, loan_slots}
 
 -- numbers of these fields behind some numbers

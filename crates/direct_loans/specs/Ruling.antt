@@ -5,7 +5,7 @@ use Rattle.ruled_list.specs.Rows.{SpellsRows, ruling_by}
 use Rattle.ruled_list.specs.Ruled.{IsLegal}
 use Rattle.ruled_list.specs.Ruling.{Ruling}
 use Rattle.ruled_list.specs.RowLaws.{rows_by}
-use Rattle.loan_filings.specs.declared.filing.LoanFiling.{LoanFiling}
+use Rattle.loan_history.specs.declared.filing.LoanFiling.{LoanFiling}
 use Rattle.loan_history.specs.Rules.{AreAllowed, breaks, outcome_of}
 use Rattle.loan_history.specs.Within.{IsWithinLoans}
 use Rattle.loan_history.specs.declared.facts.LoanOutcome.{LoanOutcome}

@@ -6,15 +6,15 @@ use Rattle.aid_types.specs.declared.number.Key.{Key}
 use Rattle.aid_types.specs.declared.number.Program.{Program}
 use Rattle.aid_types.specs.declared.number.Program.TheVariants.{Unsub, Sub, Plus, Pell, Fseog, Teach}
 use Rattle.aid_types.proofs.Same.{key_parts, key_whole}
-use Rattle.loan_filings.specs.Ranges.{HaveLevels, is_loan}
-use Rattle.loan_filings.specs.declared.filing.BeforeFacts.{BeforeFacts}
-use Rattle.loan_filings.specs.declared.filing.BorrowerFacts.{BorrowerFacts}
-use Rattle.loan_filings.specs.declared.filing.LimitFacts.{LimitFacts}
-use Rattle.loan_filings.specs.declared.filing.LoanAmount.{LoanAmount}
-use Rattle.loan_filings.specs.declared.filing.LoanFiling.{LoanFiling}
-use Rattle.loan_filings.specs.declared.filing.LoanWhat.{LoanWhat}
-use Rattle.loan_filings.specs.declared.filing.LoanWhat.TheVariants.{Limits, Borrower, Before, Lend, Cancel}
-use Rattle.loan_filings.proofs.SameLoan.{LimitParts, before_parts, before_whole, borrower_parts, borrower_whole, limit_parts, limit_whole, loan_parts, loan_whole}
+use Rattle.loan_history.specs.Ranges.{HaveLevels, is_loan}
+use Rattle.loan_history.specs.declared.filing.BeforeFacts.{BeforeFacts}
+use Rattle.loan_history.specs.declared.filing.BorrowerFacts.{BorrowerFacts}
+use Rattle.loan_history.specs.declared.filing.LimitFacts.{LimitFacts}
+use Rattle.loan_history.specs.declared.filing.LoanAmount.{LoanAmount}
+use Rattle.loan_history.specs.declared.filing.LoanFiling.{LoanFiling}
+use Rattle.loan_history.specs.declared.filing.LoanWhat.{LoanWhat}
+use Rattle.loan_history.specs.declared.filing.LoanWhat.TheVariants.{Limits, Borrower, Before, Lend, Cancel}
+use Rattle.loan_history.proofs.SameLoan.{LimitParts, before_parts, before_whole, borrower_parts, borrower_whole, limit_parts, limit_whole, loan_parts, loan_whole}
 use Rattle.direct_loans.specs.Numbers.{before_numbers, borrower_numbers, code_of_loan, code_of_what, dollar_numbers, flag_number, key_numbers, limits_in, limits_numbers, loan_numbers, numbers_of_loan, what_numbers}
 
 -- the numbers of equal lists, and what they are of

@@ -12,7 +12,7 @@ use crate::facts::{
 use crate::limits::{limits_of, put_limits};
 use crate::table::Loans;
 use field_table::{Entries, Numbers};
-use loan_filings::{LoanFiling, LoanWhat};
+use loan_history::{LoanFiling, LoanWhat};
 
 impl Entries for Loans {
     type Entry = LoanFiling;

@@ -12,7 +12,7 @@ use crate::scalar::{
 };
 use aid_types::{Key, School};
 use field_table::{Numbers, add_numbers};
-use loan_filings::{BeforeFacts, BorrowerFacts, LoanAmount};
+use loan_history::{BeforeFacts, BorrowerFacts, LoanAmount};
 
 pub(crate) fn put_key(key: &Key, numbers: &mut Numbers)
     requires room { length numbers.old.items + 2 ≤ most_numbers }

@@ -2,7 +2,7 @@
 ghost use Rattle.std.specs.Prelude.{◌≡◌, ◌+◌, ◌≤◌, [], ◌∷◌, ◌++◌, length, pos};
 ghost use Rattle.field_table.specs.Columns.{year as year_slot};
 ghost use Rattle.field_table.specs.Forms.{most_numbers};
-ghost use Rattle.loan_filings.specs.Ranges.{EachIsDollars};
+ghost use Rattle.loan_history.specs.Ranges.{EachIsDollars};
 ghost use Rattle.direct_loans.specs.Kinds.{limits_slots};
 ghost use Rattle.direct_loans.specs.Numbers.{dollar_numbers, limits_numbers};
 ghost use Rattle.direct_loans.specs.Parts.{FitAnywhere, FitSomewhere, dollar_slots};
@@ -10,7 +10,7 @@ ghost use Rattle.direct_loans.specs.Parts.{FitAnywhere, FitSomewhere, dollar_slo
 use crate::scalar::{dollars_from, number_of_year, year_from};
 use aid_types::Year;
 use field_table::{Numbers, add_numbers};
-use loan_filings::LimitFacts;
+use loan_history::LimitFacts;
 
 pub(crate) fn put_limits(limits: &LimitFacts, numbers: &mut Numbers)
     requires room { length numbers.old.items + 17 ≤ most_numbers }

@@ -1,7 +1,7 @@
 //! The text of what a loan filing is admitted with.
 use crate::table::Loans;
 use arrayvec::ArrayString;
-use field_lines::push_cents;
+use field_rows::push_cents;
 use loan_history::LoanOutcome;
 use ruled_forms::OutcomeText;
 

@@ -2,7 +2,7 @@
 ghost use Rattle.std.specs.Prelude.{◌≡◌, ◌≤◌, IsTrue, pos};
 ghost use Rattle.aid_types.specs.Programs.{rank};
 ghost use Rattle.field_table.specs.Limits.{is_between};
-ghost use Rattle.loan_filings.specs.Ranges.{is_loan};
+ghost use Rattle.loan_history.specs.Ranges.{is_loan};
 ghost use Rattle.direct_loans.specs.Numbers.{flag_number};
 
 use aid_types::{Program, Student, Year};

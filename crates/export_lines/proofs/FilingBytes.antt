@@ -3,7 +3,7 @@ use Rattle.std.proofs.Common.{ℕ, zero, suc, ◌<◌, ℤ, List, [], ◌∷◌,
 use Rattle.std.specs.List.{AllByRecursion}
 use Rattle.std.specs.Int.{w64, to_le_bytes, cast_unsigned}
 use Rattle.aid_filings.specs.declared.filing.Filing.{Filing}
-use Rattle.field_bytes.specs.Spelling.{number_bytes, numbers_bytes}
+use Rattle.field_table.specs.Spelling.{number_bytes, numbers_bytes}
 use Rattle.field_table.specs.Layout.{after}
 use Rattle.field_table.specs.Parts.{Slot, width_of}
 use Rattle.filing_codec.specs.Spelling.{spelling}

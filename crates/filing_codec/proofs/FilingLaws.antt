@@ -11,7 +11,7 @@ use Rattle.filing_codec.specs.declared.reading.TakeError.TheVariants.{NotFiling,
 use Rattle.filing_codec.specs.Spelling.{IsAlone, spelling}
 use Rattle.filing_codec.specs.Taking.{Gives, taken}
 use Rattle.filing_codec.proofs.RowLaws.{Row, done, length-row_bytes, row_is, rows_alone, takes, takes_again}
-use Rattle.field_bytes.proofs.Widths.{AreBytes}
+use Rattle.field_table.proofs.Widths.{AreBytes}
 
 pub is_found : (bytes : List ℕ) (r : Result Filing TakeError) → AreBytes bytes → Gives r (taken bytes) → IfOk r (λ filing. IsFiling filing × (bytes ≡ spelling filing))
 is_found bytes (Ok filing) are given = takes (kind_of filing.what) (numbers_of filing) bytes are given

@@ -8,9 +8,9 @@ use Rattle.field_table.specs.Layout.{after}
 use Rattle.field_table.specs.Limits.{fits}
 use Rattle.field_table.specs.Parts.{Slot, width_of}
 use Rattle.field_table.specs.Walk.{Found, and_then, nothing_left, number_first, numbers_from}
-use Rattle.field_bytes.specs.Reading.{front_value}
-use Rattle.field_bytes.specs.Taking.{Placed, byte_source, place_left, placed}
-use Rattle.field_bytes.proofs.NumberLaws.{long, short}
+use Rattle.field_table.specs.Reading.{front_value}
+use Rattle.field_table.specs.Taking.{Placed, byte_source, place_left, placed}
+use Rattle.field_table.proofs.NumberLaws.{long, short}
 use Rattle.filing_kinds.specs.Kinds.{kind_at, slots_of_kind}
 use Rattle.filing_kinds.specs.declared.kind.Kind.{Kind}
 use Rattle.filing_codec.specs.Taking.{of_kind, taken, with_kind}

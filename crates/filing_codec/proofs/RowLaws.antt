@@ -2,10 +2,10 @@
 -- another.
 use Rattle.std.proofs.Common.{◌≡◌, ℕ, suc, ◌≤◌, ◌==◌, Bool, true, false, cond, find, ℤ, List, [], ◌∷◌, ◌++◌, length, Option, Some, None, Result, Ok, Err, refl, sym, ap, subst, ◌∙◌, arith, lit≤}
 use Rattle.std.proofs.lemmas.Bool.{eqb-true}
-use Rattle.field_bytes.specs.Spelling.{numbers_bytes}
-use Rattle.field_bytes.specs.Taking.{byte_source, placed}
-use Rattle.field_bytes.proofs.RowLaws.{AreKept-table, numbers_again, numbers_alone, numbers_few, numbers_take}
-use Rattle.field_bytes.proofs.Widths.{AreBytes}
+use Rattle.field_table.specs.Spelling.{numbers_bytes}
+use Rattle.field_table.specs.Taking.{byte_source, placed}
+use Rattle.field_table.proofs.RowLaws.{AreKept-table, numbers_again, numbers_alone, numbers_few, numbers_take}
+use Rattle.field_table.proofs.Widths.{AreBytes}
 use Rattle.filing_kinds.specs.Drafts.{numbers_of_kind}
 use Rattle.field_table.specs.Forms.{most_numbers, most_of}
 use Rattle.field_table.specs.Parts.{Slot}

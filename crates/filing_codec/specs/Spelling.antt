@@ -2,7 +2,7 @@
 -- bytes with the lowest first. Own format.
 use Rattle.std.specs.Prelude.{◌≡◌, ℕ, List, [], ◌∷◌}
 use Rattle.aid_filings.specs.declared.filing.Filing.{Filing}
-use Rattle.field_bytes.specs.Spelling.{numbers_bytes}
+use Rattle.field_table.specs.Spelling.{numbers_bytes}
 use Rattle.filing_kinds.specs.Kinds.{code_of, slots_of_kind}
 use Rattle.filing_numbers.specs.Numbers.{kind_of, numbers_of}
 

@@ -1,7 +1,7 @@
 -- Reading a filing's bytes from left to right, with the place of the first fault.
 use Rattle.std.specs.Prelude.{◌≡◌, ℕ, ℤ, List, [], ◌∷◌, Option, Some, None, Result, Ok, Err}
 use Rattle.aid_filings.specs.declared.filing.Filing.{Filing}
-use Rattle.field_bytes.specs.Taking.{byte_source, placed}
+use Rattle.field_table.specs.Taking.{byte_source, placed}
 use Rattle.filing_kinds.specs.Drafts.{numbers_of_kind}
 use Rattle.filing_kinds.specs.Kinds.{kind_at}
 use Rattle.filing_kinds.specs.declared.kind.Kind.{Kind}

@@ -8,8 +8,7 @@ ghost use Rattle.field_table.specs.Layout.{AreNumbers};
 ghost use Rattle.filing_numbers.specs.Numbers.{IsFiling};
 
 use aid_filings::Filing;
-use field_bytes::numbers_at;
-use field_table::MOST_NUMBERS;
+use field_table::{MOST_NUMBERS, numbers_at};
 use filing_kinds::{Kind, key_parts, kind_at, table_row};
 use filing_numbers::filing_of;
 use std::alloc::Global;

@@ -6,7 +6,7 @@ ghost use Rattle.filing_numbers.specs.Numbers.{IsFiling};
 
 use aid_edges::{CAPACITY, Room};
 use aid_filings::Filing;
-use field_bytes::put_numbers;
+use field_table::put_numbers;
 use filing_kinds::{key_parts, table_row};
 use filing_numbers::{kind, numbers_in};
 

@@ -5,7 +5,7 @@ use Rattle.aid_books.specs.declared.book.Book.{Book}
 use Rattle.book_numbers.proofs.Chain.{length-size_numbers}
 use Rattle.book_numbers.specs.Book.{age_numbers, age_row, asset_numbers, bracket_numbers, bracket_row, ceiling_numbers, employment_numbers, form_number, numbers_of, payroll_numbers, pell_numbers, percent_numbers, schedule_numbers, size_numbers}
 use Rattle.book_numbers.specs.Sections.{ceiling_slots}
-use Rattle.field_bytes.specs.Spelling.{numbers_bytes}
+use Rattle.field_table.specs.Spelling.{numbers_bytes}
 use Rattle.filing_kinds.specs.Kinds.{age_columns, amount, book_slots, by_amount}
 use Rattle.field_table.specs.Columns.{counted}
 use Rattle.field_table.proofs.LayoutLemmas.{cut-zero}

@@ -4,7 +4,7 @@ use Rattle.std.specs.Prelude.{flat_map, map}
 use Rattle.std.proofs.lemmas.Bool.{true≢false}
 use Rattle.std.proofs.lemmas.List.{map-append}
 use Rattle.aid_types.specs.Programs.{rank}
-use Rattle.field_bytes.specs.Spelling.{number_bytes, numbers_bytes}
+use Rattle.field_table.specs.Spelling.{number_bytes, numbers_bytes}
 use Rattle.field_table.specs.Layout.{cut, plain, rows, rows_again}
 use Rattle.field_table.specs.Parts.{Line, Slot, width_of}
 use Rattle.filing_numbers.specs.Numbers.{day_number}

@@ -6,7 +6,7 @@ use Rattle.aid_filings.specs.declared.filing.Filing.{Filing}
 use Rattle.aid_filings.specs.declared.filing.What.{What}
 use Rattle.aid_filings.specs.declared.filing.What.TheVariants.{Book, School, Calendar, Prior, Apply, Enrol, Originate, Pay, Withdraw, Repay, Adjust}
 use Rattle.aid_filings.specs.declared.filing.WithdrawFacts.{WithdrawFacts}
-use Rattle.field_bytes.specs.Spelling.{numbers_bytes}
+use Rattle.field_table.specs.Spelling.{numbers_bytes}
 use Rattle.filing_codec.specs.Spelling.{spelling}
 use Rattle.filing_kinds.specs.Kinds.{calendar_slots, code_of, first_and_last, withdraw_slots, table_row_of}
 use Rattle.field_table.specs.Layout.{rows}

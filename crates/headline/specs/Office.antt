@@ -11,7 +11,7 @@ use Rattle.stamps.specs.declared.stamp.Stamp.{Stamp}
 use Rattle.headline.specs.Written.{CanBeKept, Files, stamped_bytes}
 use Rattle.headline.specs.Rules.{AreAdmitted, may_follow}
 use Rattle.desk_forms.specs.Replies.{standing_text}
-use Rattle.field_lines.specs.Lines.{refused_text}
+use Rattle.field_rows.specs.Lines.{refused_text}
 
 -- records, the oldest first: an open gate, the length of what is kept of a filing in four bytes, and that
 abbrev pub records_of : List (StampedEntry Filing) → List ℕ

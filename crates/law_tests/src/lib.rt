@@ -1,5 +1,5 @@
 //! What the law's worksheets say that nothing prints: the lines of need analysis and the edges of the book's tables, the decision on
-//! an index, the worksheet of a withdrawal, rounds of awards, lifetime totals, tables of rows by key, and the room for a text's rows.
+//! an index, the worksheet of a withdrawal, rounds of awards, lifetime totals, tables of rows by key, the room for a text's rows, and a full office.
 //! Expected figures are worked by hand from the specimen book. This library has tests alone.
 #![tactic(auto)]
 
@@ -7,6 +7,8 @@
 mod applications;
 #[cfg(test)]
 mod edges;
+#[cfg(test)]
+mod full;
 #[cfg(test)]
 mod households;
 #[cfg(test)]

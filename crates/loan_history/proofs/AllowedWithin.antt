@@ -1,9 +1,9 @@
 -- A list of which each filing breaks no rule on those before it is within every limit.
 use Rattle.std.proofs.Common.{◌≡◌, ℕ, ◌<◌, refl, arith, List, [], ◌∷◌, None, zero-le}
 use Rattle.aid_types.specs.declared.number.Key.{Key}
-use Rattle.loan_filings.specs.declared.filing.LoanFiling.{LoanFiling}
-use Rattle.loan_filings.specs.declared.filing.LoanWhat.{LoanWhat}
-use Rattle.loan_filings.specs.declared.filing.LoanWhat.TheVariants.{Limits, Borrower, Before, Lend, Cancel}
+use Rattle.loan_history.specs.declared.filing.LoanFiling.{LoanFiling}
+use Rattle.loan_history.specs.declared.filing.LoanWhat.{LoanWhat}
+use Rattle.loan_history.specs.declared.filing.LoanWhat.TheVariants.{Limits, Borrower, Before, Lend, Cancel}
 use Rattle.loan_history.specs.Rules.{AreAllowed, breaks}
 use Rattle.loan_history.specs.Within.{IsWithinLoans}
 use Rattle.loan_history.proofs.NetSteps.{after}

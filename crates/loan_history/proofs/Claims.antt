@@ -1,8 +1,8 @@
 -- What is claimed of a student's year and of all his years, on the numbers alone.
 use Rattle.std.proofs.Common.{ℕ, ◌+◌, ◌*◌, ◌≤◌, ◌<◌, refl, arith, Bool, true, false, Option}
-use Rattle.loan_filings.specs.declared.filing.BeforeFacts.{BeforeFacts}
-use Rattle.loan_filings.specs.declared.filing.BorrowerFacts.{BorrowerFacts}
-use Rattle.loan_filings.specs.declared.filing.LimitFacts.{LimitFacts}
+use Rattle.loan_history.specs.declared.filing.BeforeFacts.{BeforeFacts}
+use Rattle.loan_history.specs.declared.filing.BorrowerFacts.{BorrowerFacts}
+use Rattle.loan_history.specs.declared.filing.LimitFacts.{LimitFacts}
 use Rattle.loan_history.specs.Loans.{aggregate_sub, aggregate_total, annual_sub, annual_total, before_sub, before_total, cost_of, need_of, under}
 use Rattle.loan_history.specs.Rules.{bounds_under, of_all, of_year, tries_of_loan, with_loan}
 use Rattle.loan_history.specs.declared.bounds.Bounds.{Bounds}

@@ -5,11 +5,11 @@ use Rattle.std.proofs.lemmas.Bool.{and_parts}
 use Rattle.aid_types.specs.declared.number.Key.{Key}
 use Rattle.aid_types.specs.declared.number.Program.{Program}
 use Rattle.aid_types.specs.declared.number.Program.TheVariants.{Unsub, Sub, Plus, Pell, Fseog, Teach}
-use Rattle.loan_filings.specs.Ranges.{is_loan}
-use Rattle.loan_filings.specs.declared.filing.LoanAmount.{LoanAmount}
-use Rattle.loan_filings.specs.declared.filing.LoanFiling.{LoanFiling}
-use Rattle.loan_filings.specs.declared.filing.LoanWhat.{LoanWhat}
-use Rattle.loan_filings.specs.declared.filing.LoanWhat.TheVariants.{Limits, Borrower, Before, Lend, Cancel}
+use Rattle.loan_history.specs.Ranges.{is_loan}
+use Rattle.loan_history.specs.declared.filing.LoanAmount.{LoanAmount}
+use Rattle.loan_history.specs.declared.filing.LoanFiling.{LoanFiling}
+use Rattle.loan_history.specs.declared.filing.LoanWhat.{LoanWhat}
+use Rattle.loan_history.specs.declared.filing.LoanWhat.TheVariants.{Limits, Borrower, Before, Lend, Cancel}
 use Rattle.loan_history.specs.Loans.{cancelled, cancelled_in, if_passes, in_all, in_year, is_sub, lent, lent_in, net, of_cells, same_program}
 use Rattle.loan_history.specs.Rules.{AreAllowed, breaks}
 use Rattle.loan_history.proofs.Holding.{cancel_holds}

@@ -2,10 +2,10 @@
 use Rattle.std.proofs.Common.{◌≡◌, ℕ, zero, suc, ◌+◌, ◌-◌, ◌<◌, refl, arith, cond, Bool, true, false, List, [], ◌∷◌, length, Some, None, ne_eqb}
 use Rattle.std.specs.Prelude.{◌==◌}
 use Rattle.aid_types.specs.declared.number.Key.{Key}
-use Rattle.loan_filings.specs.declared.filing.BeforeFacts.{BeforeFacts}
-use Rattle.loan_filings.specs.declared.filing.LoanFiling.{LoanFiling}
-use Rattle.loan_filings.specs.declared.filing.LoanWhat.{LoanWhat}
-use Rattle.loan_filings.specs.declared.filing.LoanWhat.TheVariants.{Limits, Borrower, Before, Lend, Cancel}
+use Rattle.loan_history.specs.declared.filing.BeforeFacts.{BeforeFacts}
+use Rattle.loan_history.specs.declared.filing.LoanFiling.{LoanFiling}
+use Rattle.loan_history.specs.declared.filing.LoanWhat.{LoanWhat}
+use Rattle.loan_history.specs.declared.filing.LoanWhat.TheVariants.{Limits, Borrower, Before, Lend, Cancel}
 use Rattle.loan_history.specs.Loans.{cancelled, earlier_or, in_all, is_loan_to, lent, lent_in, loan_at}
 use Rattle.loan_history.specs.Rules.{breaks}
 use Rattle.loan_history.proofs.Holding.{before_holds}

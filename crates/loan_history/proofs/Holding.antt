@@ -1,11 +1,11 @@
 -- What holds where a filing breaks no rule.
 use Rattle.std.proofs.Common.{◌≡◌, ℕ, ◌+◌, ◌*◌, ◌≤◌, ◌<◌, refl, subst, Bool, true, false, List, length, Some, None, leb-false}
 use Rattle.aid_types.specs.declared.number.Key.{Key}
-use Rattle.loan_filings.specs.declared.filing.BeforeFacts.{BeforeFacts}
-use Rattle.loan_filings.specs.declared.filing.BorrowerFacts.{BorrowerFacts}
-use Rattle.loan_filings.specs.declared.filing.LoanAmount.{LoanAmount}
-use Rattle.loan_filings.specs.declared.filing.LoanFiling.{LoanFiling}
-use Rattle.loan_filings.specs.declared.filing.LoanWhat.TheVariants.{Borrower, Before, Lend, Cancel}
+use Rattle.loan_history.specs.declared.filing.BeforeFacts.{BeforeFacts}
+use Rattle.loan_history.specs.declared.filing.BorrowerFacts.{BorrowerFacts}
+use Rattle.loan_history.specs.declared.filing.LoanAmount.{LoanAmount}
+use Rattle.loan_history.specs.declared.filing.LoanFiling.{LoanFiling}
+use Rattle.loan_history.specs.declared.filing.LoanWhat.TheVariants.{Borrower, Before, Lend, Cancel}
 use Rattle.rule_lines.specs.RuleLines.{over, tried_if}
 use Rattle.rule_lines.specs.declared.line.RuleLine.{RuleLine}
 use Rattle.rule_lines.proofs.Holds.{AllHold, all_hold, over_holds, stands_holds}

@@ -2,9 +2,9 @@
 use Rattle.std.proofs.Common.{◌≡◌, ℕ, refl, Bool, true, false, ◌&&◌, List, None}
 use Rattle.std.specs.Prelude.{◌==◌}
 use Rattle.aid_types.specs.declared.number.Key.{Key}
-use Rattle.loan_filings.specs.declared.filing.LoanAmount.{LoanAmount}
-use Rattle.loan_filings.specs.declared.filing.LoanFiling.{LoanFiling}
-use Rattle.loan_filings.specs.declared.filing.LoanWhat.TheVariants.{Lend}
+use Rattle.loan_history.specs.declared.filing.LoanAmount.{LoanAmount}
+use Rattle.loan_history.specs.declared.filing.LoanFiling.{LoanFiling}
+use Rattle.loan_history.specs.declared.filing.LoanWhat.TheVariants.{Lend}
 use Rattle.loan_history.specs.Loans.{before, in_all, in_year, is_sub, last_record, limits, limits_under, net, nets, record_in}
 use Rattle.loan_history.specs.Rules.{breaks, of_all, of_year, with_loan}
 use Rattle.loan_history.specs.Within.{net_of_year}

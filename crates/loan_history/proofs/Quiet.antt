@@ -1,10 +1,10 @@
 -- A student and a year that a filing doesn't speak of stay within.
 use Rattle.std.proofs.Common.{◌≡◌, ℕ, ◌≤◌, sym, subst, Bool, true, false, List, Option, None}
 use Rattle.aid_types.specs.declared.number.Key.{Key}
-use Rattle.loan_filings.specs.declared.filing.BeforeFacts.{BeforeFacts}
-use Rattle.loan_filings.specs.declared.filing.BorrowerFacts.{BorrowerFacts}
-use Rattle.loan_filings.specs.declared.filing.LoanFiling.{LoanFiling}
-use Rattle.loan_filings.specs.declared.filing.LoanWhat.{LoanWhat}
+use Rattle.loan_history.specs.declared.filing.BeforeFacts.{BeforeFacts}
+use Rattle.loan_history.specs.declared.filing.BorrowerFacts.{BorrowerFacts}
+use Rattle.loan_history.specs.declared.filing.LoanFiling.{LoanFiling}
+use Rattle.loan_history.specs.declared.filing.LoanWhat.{LoanWhat}
 use Rattle.loan_history.specs.Loans.{before, before_of, borrower_of, earlier, higher, in_all, in_year, last_record, lent_in, limits, limits_under, net, record_in, record_of}
 use Rattle.loan_history.specs.Within.{net_of_all, net_of_year}
 use Rattle.loan_history.proofs.NetSteps.{after, net_falls}

@@ -2,10 +2,10 @@
 use Rattle.std.proofs.Common.{◌≡◌, ℕ, ◌≤◌, refl, sym, subst, cond, Bool, true, false, ◌&&◌, List, Option, Some, None, lt-ltb}
 use Rattle.std.specs.Prelude.{◌==◌}
 use Rattle.aid_types.specs.declared.number.Key.{Key}
-use Rattle.loan_filings.specs.declared.filing.BeforeFacts.{BeforeFacts}
-use Rattle.loan_filings.specs.declared.filing.BorrowerFacts.{BorrowerFacts}
-use Rattle.loan_filings.specs.declared.filing.LoanFiling.{LoanFiling}
-use Rattle.loan_filings.specs.declared.filing.LoanWhat.TheVariants.{Borrower}
+use Rattle.loan_history.specs.declared.filing.BeforeFacts.{BeforeFacts}
+use Rattle.loan_history.specs.declared.filing.BorrowerFacts.{BorrowerFacts}
+use Rattle.loan_history.specs.declared.filing.LoanFiling.{LoanFiling}
+use Rattle.loan_history.specs.declared.filing.LoanWhat.TheVariants.{Borrower}
 use Rattle.loan_history.specs.Loans.{before, earlier, higher, in_all, in_year, last_record, limits, limits_under, net, record_in}
 use Rattle.loan_history.specs.Rules.{breaks}
 use Rattle.loan_history.specs.Within.{net_of_all, net_of_year}

@@ -1,9 +1,9 @@
 -- How large sums of loans are.
 use Rattle.std.proofs.Common.{ℕ, ◌+◌, ◌-◌, ◌*◌, ◌^◌, ◌≤◌, ◌<◌, arith, Bool, true, false, List, [], ◌∷◌, length, zero-le}
-use Rattle.loan_filings.specs.declared.filing.LoanAmount.{LoanAmount}
-use Rattle.loan_filings.specs.declared.filing.LoanFiling.{LoanFiling}
-use Rattle.loan_filings.specs.declared.filing.LoanWhat.{LoanWhat}
-use Rattle.loan_filings.specs.declared.filing.LoanWhat.TheVariants.{Limits, Borrower, Before, Lend, Cancel}
+use Rattle.loan_history.specs.declared.filing.LoanAmount.{LoanAmount}
+use Rattle.loan_history.specs.declared.filing.LoanFiling.{LoanFiling}
+use Rattle.loan_history.specs.declared.filing.LoanWhat.{LoanWhat}
+use Rattle.loan_history.specs.declared.filing.LoanWhat.TheVariants.{Limits, Borrower, Before, Lend, Cancel}
 use Rattle.loan_history.specs.Loans.{cancelled, if_passes, in_all, in_year, lent, lent_in, net, nets}
 use Rattle.loan_history.specs.Rules.{AreAllowed, AreSmall}
 use Rattle.loan_history.proofs.Holding.{has_room}

@@ -1,3 +1,4 @@
 pub mod Loans
+pub mod Ranges
 pub mod Rules
 pub mod Within

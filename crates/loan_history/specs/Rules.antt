@@ -2,11 +2,11 @@
 use Rattle.std.specs.Prelude.{◌≡◌, ◌<◌, ◌^◌, ℕ, ◌+◌, ◌*◌, ◌==◌, Bool, true, false, nat_le, nat_lt, if◌then◌else◌}
 use Rattle.std.specs.Prelude.{List, [], ◌∷◌, length, Option, Some, None}
 use Rattle.aid_types.specs.declared.award.Refusal.{Refusal}
-use Rattle.loan_filings.specs.declared.filing.BorrowerFacts.{BorrowerFacts}
-use Rattle.loan_filings.specs.declared.filing.LimitFacts.{LimitFacts}
-use Rattle.loan_filings.specs.declared.filing.LoanFiling.{LoanFiling}
-use Rattle.loan_filings.specs.declared.filing.LoanWhat.{LoanWhat}
-use Rattle.loan_filings.specs.declared.filing.LoanWhat.TheVariants.{Limits, Borrower, Before, Lend, Cancel}
+use Rattle.loan_history.specs.declared.filing.BorrowerFacts.{BorrowerFacts}
+use Rattle.loan_history.specs.declared.filing.LimitFacts.{LimitFacts}
+use Rattle.loan_history.specs.declared.filing.LoanFiling.{LoanFiling}
+use Rattle.loan_history.specs.declared.filing.LoanWhat.{LoanWhat}
+use Rattle.loan_history.specs.declared.filing.LoanWhat.TheVariants.{Limits, Borrower, Before, Lend, Cancel}
 use Rattle.rule_lines.specs.RuleLines.{first_broken, lacks, over, stands, tried_if, where_true}
 use Rattle.rule_lines.specs.declared.line.RuleLine.{RuleLine}
 use Rattle.loan_history.specs.Loans.{aggregate_sub, aggregate_total, annual_sub, annual_total, before, before_at, before_sub, before_total, cost_of}

@@ -1,7 +1,7 @@
 -- No student stands above a limit of Direct Loans.
 use Rattle.std.specs.Prelude.{ℕ, ◌+◌, ◌*◌, ◌≤◌, ◌<◌, Bool, true, false, List}
 use Rattle.aid_types.specs.declared.number.Program.{Program}
-use Rattle.loan_filings.specs.declared.filing.LoanFiling.{LoanFiling}
+use Rattle.loan_history.specs.declared.filing.LoanFiling.{LoanFiling}
 use Rattle.loan_history.specs.Loans.{aggregate_sub, aggregate_total, annual_sub, annual_total, before, before_sub, before_total, cost_of}
 use Rattle.loan_history.specs.Loans.{cancelled, in_all, in_year, last_record, lent, limits, limits_under, need_of, net, of_cells, record_in, under}
 

@@ -10,7 +10,7 @@ ghost use Rattle.loan_history.specs.Loans.{
 ghost use Rattle.loan_history.specs.Rules.{bounds_under};
 
 use crate::facts::LoanFacts;
-use loan_filings::{BorrowerFacts, LimitFacts};
+use crate::filing::{BorrowerFacts, LimitFacts};
 
 /// The level of a graduate student.
 const GRADUATE: u8 = 4;

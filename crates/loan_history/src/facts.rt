@@ -1,5 +1,5 @@
 // What a filing is judged on.
-use loan_filings::{BorrowerFacts, LimitFacts};
+use crate::filing::{BorrowerFacts, LimitFacts};
 
 /// The nets of a student in cents: subsidized and unsubsidized, in a year and in all years.
 #[derive(Clone, Copy, PartialEq, Eq, Debug)]

@@ -1,7 +1,7 @@
 //! Laws of lists of loan filings, each as the contract of a function that computes nothing. A list has its newest filing first.
 ghost use Rattle.std.specs.Prelude.{◌≡◌, ◌*◌, ◌≤◌, ◌<◌, ℕ, Bool, List, None, length};
-ghost use Rattle.loan_filings.specs.declared.filing.LoanAmount.{LoanAmount};
-ghost use Rattle.loan_filings.specs.declared.filing.LoanFiling.{LoanFiling};
+ghost use Rattle.loan_history.specs.declared.filing.LoanAmount.{LoanAmount};
+ghost use Rattle.loan_history.specs.declared.filing.LoanFiling.{LoanFiling};
 ghost use Rattle.loan_history.specs.Loans.{lent, nets};
 ghost use Rattle.loan_history.specs.Rules.{AreAllowed, AreSmall, breaks};
 ghost use Rattle.loan_history.specs.Within.{IsWithinLoans};

@@ -3,10 +3,12 @@
 
 mod bounds;
 mod facts;
+mod filing;
 mod laws;
 mod nets;
 mod rules;
 
 pub use facts::{LoanFacts, LoanNets, LoanOutcome};
+pub use filing::{BeforeFacts, BorrowerFacts, LimitFacts, LoanAmount, LoanFiling, LoanWhat};
 pub use laws::{allowed_amounts, allowed_length, allowed_within, room_left};
 pub use rules::{MOST_LOAN_FILINGS, broken, outcome};

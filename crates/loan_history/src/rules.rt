@@ -1,6 +1,6 @@
 //! The rules of Direct Loans on what is on file (HEA 455(a); 34 CFR 685.203).
 ghost use Rattle.std.specs.Prelude.{◌≡◌, ◌+◌, ◌*◌, ◌^◌, ◌<◌, ◌==◌, ◌∷◌};
-ghost use Rattle.loan_filings.specs.declared.filing.LoanWhat.TheVariants.{Before, Borrower, Cancel, Lend, Limits};
+ghost use Rattle.loan_history.specs.declared.filing.LoanWhat.TheVariants.{Before, Borrower, Cancel, Lend, Limits};
 ghost use Rattle.loan_history.specs.Loans.{transaction_of};
 ghost use Rattle.loan_history.specs.Rules.{
   AreSmall,
@@ -20,7 +20,7 @@ use crate::bounds::{Bounds, bounds_of, last_bounds, own_bounds};
 use crate::facts::{LoanFacts, LoanNets, LoanOutcome, Tries};
 use crate::nets::{is_sub, of_all, of_program, of_year, with_loan};
 use aid_types::{Refusal, School};
-use loan_filings::{BeforeFacts, BorrowerFacts, LimitFacts, LoanAmount, LoanFiling, LoanWhat};
+use crate::filing::{BeforeFacts, BorrowerFacts, LimitFacts, LoanAmount, LoanFiling, LoanWhat};
 use rule_lines::{RuleLine, first_broken, lacks, over, stands, where_true};
 
 /// The most filings that a loan office keeps.

@@ -2,8 +2,8 @@
 use Rattle.std.proofs.Common.{ℕ, ◌^◌, ◌<◌, ◌≤◌, Bool, true, false, List, length, arith, subst, sym}
 use Rattle.std.specs.Ordering.{nat_cmp}
 use Rattle.sorted_rows.specs.Places.{value_at}
-use Rattle.loan_filings.specs.declared.filing.LoanAmount.{LoanAmount}
-use Rattle.loan_filings.specs.declared.filing.LoanFiling.{LoanFiling}
+use Rattle.loan_history.specs.declared.filing.LoanAmount.{LoanAmount}
+use Rattle.loan_history.specs.declared.filing.LoanFiling.{LoanFiling}
 use Rattle.loan_history.specs.Loans.{in_all, in_year, net}
 use Rattle.loan_history.specs.Rules.{most_loan_filings}
 use Rattle.loan_history.proofs.Small.{lent_most}

@@ -1,6 +1,6 @@
 -- The rows of an index with no filing, and with one more.
 use Rattle.std.proofs.Common.{◌≡◌, ℕ, ◌+◌, ◌-◌, ◌<◌, ◌≤◌, List, [], ◌∷◌, length, reverse, refl, subst, sym, arith}
-use Rattle.loan_filings.specs.declared.filing.LoanFiling.{LoanFiling}
+use Rattle.loan_history.specs.declared.filing.LoanFiling.{LoanFiling}
 use Rattle.loan_history.specs.Rules.{most_loan_filings}
 use Rattle.loan_index.specs.Rows.{AreIndexed, AreLimits, AreStudents, AreYears}
 use Rattle.loan_index.specs.declared.names.StudentYear.{StudentYear}

@@ -2,8 +2,8 @@
 use Rattle.std.proofs.Common.{◌≡◌, ℕ, ◌^◌, ◌<◌, List, length, Option, sym, subst, ◌∙◌}
 use Rattle.std.specs.Ordering.{nat_cmp}
 use Rattle.sorted_rows.specs.Places.{value_at}
-use Rattle.loan_filings.specs.declared.filing.LimitFacts.{LimitFacts}
-use Rattle.loan_filings.specs.declared.filing.LoanFiling.{LoanFiling}
+use Rattle.loan_history.specs.declared.filing.LimitFacts.{LimitFacts}
+use Rattle.loan_history.specs.declared.filing.LoanFiling.{LoanFiling}
 use Rattle.loan_history.specs.Loans.{before_sub, before_total, limits_under}
 use Rattle.loan_history.specs.Rules.{facts_of, student_of, year_of}
 use Rattle.loan_history.specs.declared.facts.LoanFacts.{LoanFacts}

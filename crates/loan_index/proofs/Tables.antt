@@ -6,10 +6,10 @@ use Rattle.std.specs.Ordering.{is_eq, nat_cmp}
 use Rattle.std.specs.declared.cmp.Ordering.{Ordering}
 use Rattle.std.proofs.lemmas.Bool.{and_parts}
 use Rattle.sorted_rows.specs.Places.{IsWritten, value_at}
-use Rattle.loan_filings.specs.declared.filing.LimitFacts.{LimitFacts}
-use Rattle.loan_filings.specs.declared.filing.LoanFiling.{LoanFiling}
-use Rattle.loan_filings.specs.declared.filing.LoanWhat.{LoanWhat}
-use Rattle.loan_filings.specs.declared.filing.LoanWhat.TheVariants.{Limits, Borrower, Before, Lend, Cancel}
+use Rattle.loan_history.specs.declared.filing.LimitFacts.{LimitFacts}
+use Rattle.loan_history.specs.declared.filing.LoanFiling.{LoanFiling}
+use Rattle.loan_history.specs.declared.filing.LoanWhat.{LoanWhat}
+use Rattle.loan_history.specs.declared.filing.LoanWhat.TheVariants.{Limits, Borrower, Before, Lend, Cancel}
 use Rattle.loan_history.specs.Loans.{limits_of}
 use Rattle.loan_history.specs.Rules.{student_of, year_of}
 use Rattle.loan_index.specs.Changes.{AreCovered, limits_after, student_after, year_after}

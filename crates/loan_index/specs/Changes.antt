@@ -1,10 +1,10 @@
 -- What a filing makes of the rows that it is about.
 use Rattle.std.specs.Prelude.{ℕ, ◌+◌, ◌-◌, ◌≤◌, ◌<◌, ◌^◌, Bool, true, false, List, Some}
-use Rattle.loan_filings.specs.declared.filing.LimitFacts.{LimitFacts}
+use Rattle.loan_history.specs.declared.filing.LimitFacts.{LimitFacts}
 use Rattle.aid_types.specs.declared.number.Program.{Program}
-use Rattle.loan_filings.specs.declared.filing.LoanFiling.{LoanFiling}
-use Rattle.loan_filings.specs.declared.filing.LoanWhat.{LoanWhat}
-use Rattle.loan_filings.specs.declared.filing.LoanWhat.TheVariants.{Limits, Borrower, Before, Lend, Cancel}
+use Rattle.loan_history.specs.declared.filing.LoanFiling.{LoanFiling}
+use Rattle.loan_history.specs.declared.filing.LoanWhat.{LoanWhat}
+use Rattle.loan_history.specs.declared.filing.LoanWhat.TheVariants.{Limits, Borrower, Before, Lend, Cancel}
 use Rattle.loan_history.specs.Loans.{cancelled, earlier, earlier_or, higher, is_sub, lent, of_cells}
 use Rattle.loan_index.specs.declared.rows.LimitsRow.{LimitsRow}
 use Rattle.loan_index.specs.declared.rows.ProgramNets.{ProgramNets}

@@ -3,7 +3,7 @@ use Rattle.std.specs.Prelude.{◌≡◌, ℕ, ◌≤◌, true, false, List, leng
 use Rattle.std.specs.Ordering.{nat_cmp, ordering_then}
 use Rattle.std.specs.declared.cmp.Ordering.{Ordering}
 use Rattle.sorted_rows.specs.Places.{value_at}
-use Rattle.loan_filings.specs.declared.filing.LoanFiling.{LoanFiling}
+use Rattle.loan_history.specs.declared.filing.LoanFiling.{LoanFiling}
 use Rattle.loan_history.specs.Loans.{before, before_at, in_all, in_year, last_record, limits, limits_at, loan_at, net, record_in}
 use Rattle.loan_history.specs.Rules.{most_loan_filings}
 use Rattle.loan_index.specs.declared.names.StudentYear.{StudentYear}

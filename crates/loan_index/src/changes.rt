@@ -5,7 +5,7 @@ ghost use Rattle.loan_index.specs.Changes.{AreBelow, limits_after as limits_of, 
 
 use crate::rows::{LimitsRow, ProgramNets, StudentRow, YearRow};
 use aid_types::Program;
-use loan_filings::{BorrowerFacts, LimitFacts, LoanWhat};
+use loan_history::{BorrowerFacts, LimitFacts, LoanWhat};
 
 /// The limits of a year once these are filed for it: the first stay.
 pub(crate) fn limits_after(row: &LimitsRow, limits: &LimitFacts, position: u32) -> LimitsRow

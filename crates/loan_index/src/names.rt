@@ -3,7 +3,7 @@ ghost use Rattle.std.specs.Prelude.{◌≡◌};
 ghost use Rattle.loan_history.specs.Rules.{student_of, year_of};
 
 use aid_types::Student;
-use loan_filings::LoanWhat;
+use loan_history::LoanWhat;
 
 /// What names a student's year.
 #[derive(Clone, Copy, PartialEq, Eq, PartialOrd, Ord, Debug)]

@@ -2,7 +2,7 @@
 ghost use Rattle.std.specs.Prelude.{◌≡◌};
 ghost use Rattle.loan_index.specs.Rows.{limits_or, student_or, year_or};
 
-use loan_filings::{BeforeFacts, BorrowerFacts, LimitFacts};
+use loan_history::{BeforeFacts, BorrowerFacts, LimitFacts};
 
 /// The nets of loans by program, in cents.
 #[derive(Clone, Copy, PartialEq, Eq, Debug)]

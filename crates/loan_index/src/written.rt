@@ -2,7 +2,7 @@
 ghost use Rattle.std.specs.Prelude.{◌≡◌, ℕ, ◌+◌, ◌≤◌, ◌∷◌, List, length};
 ghost use Rattle.std.specs.Ordering.{nat_cmp};
 ghost use Rattle.sorted_rows.specs.Places.{value_at};
-ghost use Rattle.loan_filings.specs.declared.filing.LoanFiling.{LoanFiling as Filed};
+ghost use Rattle.loan_history.specs.declared.filing.LoanFiling.{LoanFiling as Filed};
 ghost use Rattle.loan_index.specs.Changes.{AreBelow, AreCovered};
 ghost use Rattle.loan_index.specs.Rows.{AreLimits, AreStudents, AreYears, student_or, year_cmp, year_or};
 ghost use Rattle.loan_index.specs.declared.names.StudentYear.{StudentYear as Named};
@@ -10,7 +10,7 @@ ghost use Rattle.loan_index.specs.declared.names.StudentYear.{StudentYear as Nam
 use crate::changes::{limits_after, student_after, year_after};
 use crate::names::{StudentYear, student_named, year_named};
 use crate::rows::{LimitsRow, StudentRow, YearRow, limits_told, student_told, year_told};
-use loan_filings::{LoanFiling, LoanWhat};
+use loan_history::{LoanFiling, LoanWhat};
 use sorted_rows::Table;
 
 /// Writes the limits of a year, where such are filed.

@@ -1,6 +1,6 @@
 -- What the rows of a table say to a list of filings by rules, and the lines that answer them. Own format.
 use Rattle.std.specs.Prelude.{ℕ, ◌+◌, ◌++◌, ℤ, List, Result, codes, decimal}
-use Rattle.field_lines.specs.Lines.{error_line, refused_text}
+use Rattle.field_rows.specs.Lines.{error_line, refused_text}
 use Rattle.field_rows.specs.Meanings.{said_of}
 use Rattle.field_rows.specs.TableForms.{said_by}
 use Rattle.field_rows.specs.declared.error.RowError.{RowError}

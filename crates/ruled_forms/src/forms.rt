@@ -1,7 +1,6 @@
 // The rows of a desk.
 use crate::{OutcomeText, put_answer};
-use field_lines::{put_error, put_fine};
-use field_rows::{RowError, TableForm, TextRows};
+use field_rows::{RowError, TableForm, TextRows, put_error, put_fine};
 use kept_list::{Forms, Rows};
 use ruled_list::{RuledList, RuledVerdict, Rules};
 use std::alloc::{AllocError, Global};
@@ -68,7 +67,7 @@ impl<R: OutcomeText> Rows<RuledList<R>> for TableRows<R> {
 }
 
 impl<R: OutcomeText> Forms<RuledList<R>> for TableForms<R> {
-    ghost use Rattle.field_lines.specs.Lines.{fine_line};
+    ghost use Rattle.field_rows.specs.Lines.{fine_line};
 
     type Rows = TableRows<R>;
 

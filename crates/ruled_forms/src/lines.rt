@@ -4,7 +4,7 @@ ghost use Rattle.ruled_forms.specs.Lines.{line_of, standing_text};
 
 use crate::OutcomeText;
 use arrayvec::ArrayString;
-use field_lines::{push_count, push_number, refused_line};
+use field_rows::{push_count, push_number, refused_line};
 use ruled_list::RuledVerdict;
 use std::alloc::AllocError;
 

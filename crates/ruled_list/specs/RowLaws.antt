@@ -7,9 +7,9 @@ use Rattle.std.proofs.lemmas.Cmp.{int_eq_equiv}
 use Rattle.aid_types.specs.declared.number.Key.{Key}
 use Rattle.aid_types.specs.declared.award.Refusal.{Refusal}
 use Rattle.filing_journal.specs.Stands.{IsPayload}
-use Rattle.field_bytes.specs.Spelling.{row_bytes}
-use Rattle.field_bytes.proofs.EntryLaws.{AreOne, is_alone}
-use Rattle.field_bytes.proofs.RowLaws.{length-row_bytes}
+use Rattle.field_table.specs.Spelling.{row_bytes}
+use Rattle.field_table.proofs.EntryLaws.{AreOne, is_alone}
+use Rattle.field_table.proofs.RowLaws.{length-row_bytes}
 use Rattle.field_table.specs.Parts.{Slot}
 use Rattle.field_table.specs.Tables.{KindRow, is_sound_table}
 use Rattle.ruled_list.specs.Rows.{SpellsRows, ruling_by, same_numbers, same_row}

@@ -3,7 +3,7 @@ use Rattle.std.specs.Prelude.{◌≡◌, ◌==◌, ◌&&◌, ℕ, ℤ, Bool, tru
 use Rattle.std.specs.Ordering.{int_eq}
 use Rattle.aid_types.specs.declared.number.Key.{Key}
 use Rattle.aid_types.specs.declared.award.Refusal.{Refusal}
-use Rattle.field_bytes.specs.Spelling.{row_bytes}
+use Rattle.field_table.specs.Spelling.{row_bytes}
 use Rattle.field_table.specs.Parts.{Slot}
 use Rattle.field_table.specs.Tables.{IsRow, KindRow}
 use Rattle.ruled_list.specs.Ruling.{Ruling}

@@ -64,5 +64,5 @@ fn answer_new<R: Rules>(index: &R::Index, filing: &R::Entry) -> RuledVerdict<R::
 pub fn is_same<R: Rules>(one: &R::Entry, other: &R::Entry) -> bool
     ensures { result ≡ R.ruling.is_same one.now other.now }
 {
-    field_bytes::is_same::<R>(one, other)
+    field_table::is_same::<R>(one, other)
 }

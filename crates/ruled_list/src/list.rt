@@ -194,15 +194,15 @@ impl<R: Rules> Docket for RuledList<R> {
     }
 
     fn put(filing: &R::Entry, room: &mut Room) {
-        field_bytes::put::<R>(filing, room);
+        field_table::put::<R>(filing, room);
     }
 
     fn foresee(ask: &R::Entry, room: &mut Room) {
-        field_bytes::put::<R>(ask, room);
+        field_table::put::<R>(ask, room);
     }
 
     fn take(_alloc: Global, bytes: &[u8]) -> Result<R::Entry, TakeFault> {
-        match field_bytes::take::<R>(bytes) {
+        match field_table::take::<R>(bytes) {
             Ok(filing) => Ok(filing),
             Err(_) => Err(TakeFault::NotEntry),
         }

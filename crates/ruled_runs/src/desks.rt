@@ -12,7 +12,7 @@ use aid_edges::{Gate, Sink, Source};
 use disk_model::Disk;
 use kept_crews::{CrewInput, run_crew};
 use kept_session::{ReadStop, read_rows};
-use ruled_desks::FilingCopies;
+use crate::copies::FilingCopies;
 use ruled_forms::{OutcomeText, TableForms, TableRows};
 use ruled_list::RuledList;
 use std::alloc::Global;

@@ -1,7 +1,7 @@
 -- What answers a whole input.
 use Rattle.std.specs.Prelude.{◌≡◌, ℕ, List, ◌++◌, IsTrue, Result, Ok, Err, codes, decimal}
 use Rattle.aid_edges.specs.declared.sink.Sink.{Ghosts}
-use Rattle.clock_rows.specs.Lines.{clock_text}
+use Rattle.clock_hours.specs.Lines.{clock_text}
 use Rattle.kept_session.specs.Edges.{Input, IsReadWhole}
 use Rattle.kept_session.specs.Sessions.{IsUnread}
 use Rattle.kept_session.specs.declared.checking.CheckStop.TheVariants.{Reading, Write, NoMemory}

@@ -8,7 +8,7 @@ ghost use Rattle.kept_runs.specs.Statuses.{is_read_fault, is_write_fault};
 ghost use Rattle.run_audit.specs.Answers.{AnswersInput};
 
 use aid_edges::{ReadError, Sink, Source, read_to_limit};
-use clock_rows::clock_lines;
+use clock_hours::clock_lines;
 use kept_runs::{RunStop, put};
 use kept_session::{CheckStop, INPUT_LIMIT, ReadStop};
 use std::alloc::{AllocError, Global};

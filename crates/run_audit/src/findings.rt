@@ -5,7 +5,7 @@ ghost use Rattle.run_audit.specs.Answers.{finding_line as line_of_finding};
 use crate::answering::Answering;
 use aid_audit::{Finding, audit};
 use arrayvec::ArrayString;
-use field_lines::push_count;
+use field_rows::push_count;
 use std::alloc::{AllocError, Global};
 
 /// The line of what an audit finds in the whole input.

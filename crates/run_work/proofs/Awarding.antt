@@ -6,9 +6,9 @@ use Rattle.fund_policy.specs.Rounds.{AreWithinNeeds}
 use Rattle.fund_policy.specs.declared.candidate.Candidate.{Candidate}
 use Rattle.run_work.specs.Plans.{AreAwarded, IsAwarded}
 use Rattle.run_work.specs.declared.words.RoundRequest.{RoundRequest}
-use Rattle.work_filings.specs.declared.filing.WorkFiling.{WorkFiling}
-use Rattle.work_filings.specs.declared.filing.WorkWhat.{WorkWhat}
-use Rattle.work_filings.specs.declared.filing.WorkWhat.TheVariants.{Fund, Award, Earn, Release}
+use Rattle.work_history.specs.declared.filing.WorkFiling.{WorkFiling}
+use Rattle.work_history.specs.declared.filing.WorkWhat.{WorkWhat}
+use Rattle.work_history.specs.declared.filing.WorkWhat.TheVariants.{Fund, Award, Earn, Release}
 use Rattle.work_history.specs.Funds.{dollars_of, fund, fund_at, is_fund, rest}
 
 -- an award within its candidate's need is none, or one of 100 to 4,000 dollars

@@ -12,7 +12,7 @@ use Rattle.std.proofs.lemmas.List.Elements.{Contains-append_left, Contains-push,
 use Rattle.std.proofs.lemmas.Bool.{and_parts, ltb-false}
 use Rattle.std.proofs.lemmas.List.Folds.{find-append, list_any-append}
 use Rattle.aid_types.proofs.Same.{le_ℤ-prop, same_with_fact}
-use Rattle.field_lines.specs.Lines.{error_line}
+use Rattle.field_rows.specs.Lines.{error_line}
 use Rattle.field_rows.specs.declared.error.RowError.{RowError}
 use Rattle.fund_policy.specs.Answers.{IsAsked}
 use Rattle.fund_policy.specs.Order.{IsInOrder}
@@ -24,7 +24,7 @@ use Rattle.run_work.specs.Rows.{is_of, repeated_line, round_line, round_lines, s
 use Rattle.run_work.specs.declared.gather.Gathered.{Gathered}
 use Rattle.run_work.specs.declared.rows.RoundSaid.{RoundSaid}
 use Rattle.run_work.specs.declared.words.RoundRequest.{RoundRequest}
-use Rattle.work_filings.specs.declared.filing.WorkFiling.{WorkFiling}
+use Rattle.work_history.specs.declared.filing.WorkFiling.{WorkFiling}
 use Rattle.work_history.specs.Funds.{award_at}
 
 abbrev Row : Type 0

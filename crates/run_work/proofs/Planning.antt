@@ -9,7 +9,7 @@ use Rattle.run_work.specs.Rows.{round_lines, round_rows}
 use Rattle.run_work.specs.declared.gather.Gathered.{Gathered}
 use Rattle.run_work.specs.declared.rows.RoundSaid.{RoundSaid}
 use Rattle.run_work.specs.declared.words.RoundRequest.{RoundRequest}
-use Rattle.work_filings.specs.declared.filing.WorkFiling.{WorkFiling}
+use Rattle.work_history.specs.declared.filing.WorkFiling.{WorkFiling}
 use Rattle.work_history.specs.Funds.{rest}
 
 pub planned : (gives : ℕ → ℤ → ℕ → ℕ → Type 0) (r : RoundRequest) (text : List ℕ) (past : List WorkFiling) (rows : List (Result RoundSaid RowError)) (g : Gathered) (cs ds es : List Candidate) (awards given : List ℕ) (fs left_filings : List WorkFiling) (whole left : ℕ) (closing : List ℕ)

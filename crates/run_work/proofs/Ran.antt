@@ -18,7 +18,7 @@ use Rattle.run_work.specs.Plans.{IsPlanned, policies_give, round_plans, round_te
 use Rattle.run_work.specs.Runs.{CanBeDone, MayRecoverWork, RanWork, RecoversWork, SchoolGives, StandsWork, StoodBefore, reads_input, work_judging, work_rows, work_scheme, work_texts}
 use Rattle.run_work.specs.Words.{WorkCommand, OfList, OfRound, or_list, policy_of}
 use Rattle.run_work.specs.declared.words.RoundRequest.{RoundRequest}
-use Rattle.work_filings.specs.declared.filing.WorkFiling.{WorkFiling}
+use Rattle.work_history.specs.declared.filing.WorkFiling.{WorkFiling}
 
 some_command : (x y : WorkCommand) → ◌≡◌ {A = Option WorkCommand} (Some x) (Some y) → x ≡ y
 some_command x y e = ap (λ (o : Option WorkCommand). elim o [ Some z ↦ z | None ↦ x ]) e

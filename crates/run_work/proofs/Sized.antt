@@ -11,10 +11,10 @@ use Rattle.rule_lines.specs.RuleLines.{first_broken, told_by}
 use Rattle.rule_lines.specs.declared.line.RuleLine.{RuleLine}
 use Rattle.run_work.specs.Plans.{AreAwarded, IsAwarded}
 use Rattle.run_work.specs.declared.words.RoundRequest.{RoundRequest}
-use Rattle.work_filings.specs.declared.filing.DollarFacts.{DollarFacts}
-use Rattle.work_filings.specs.declared.filing.WorkFiling.{WorkFiling}
-use Rattle.work_filings.specs.declared.filing.WorkWhat.{WorkWhat}
-use Rattle.work_filings.specs.declared.filing.WorkWhat.TheVariants.{Award}
+use Rattle.work_history.specs.declared.filing.DollarFacts.{DollarFacts}
+use Rattle.work_history.specs.declared.filing.WorkFiling.{WorkFiling}
+use Rattle.work_history.specs.declared.filing.WorkWhat.{WorkWhat}
+use Rattle.work_history.specs.declared.filing.WorkWhat.TheVariants.{Award}
 use Rattle.work_history.specs.Rules.{breaks, facts_of, is_no_award, kind_lines, rule_210}
 use Rattle.work_history.specs.declared.facts.WorkFacts.{WorkFacts}
 

@@ -10,7 +10,7 @@ use Rattle.run_work.specs.Rows.{is_of, round_lines}
 use Rattle.run_work.specs.declared.gather.Gathered.{Gathered}
 use Rattle.run_work.specs.declared.rows.RoundSaid.{RoundSaid}
 use Rattle.run_work.specs.declared.words.RoundRequest.{RoundRequest}
-use Rattle.work_filings.specs.declared.filing.WorkFiling.{WorkFiling}
+use Rattle.work_history.specs.declared.filing.WorkFiling.{WorkFiling}
 
 -- their lines, those who are candidates by them, and the students of those that were read
 pub record IsGathered (past : List WorkFiling) (r : RoundRequest) (rows : List (Result RoundSaid RowError)) (g : Gathered) : Type 0 where

@@ -1,7 +1,7 @@
 -- What a round files. Own.
 use Rattle.std.specs.Prelude.{◌≡◌, ℕ, zero, suc, ◌+◌, ◌++◌, ℤ, List, [], ◌∷◌, codes, decimal, Some, Result, Ok, ◌↔◌}
 use Rattle.std.specs.List.{Contains, find}
-use Rattle.field_lines.specs.Lines.{error_line}
+use Rattle.field_rows.specs.Lines.{error_line}
 use Rattle.field_rows.specs.declared.error.RowError.{RowError}
 use Rattle.fund_policy.specs.Order.{IsInOrder}
 use Rattle.fund_policy.specs.Rounds.{IsRound}
@@ -13,9 +13,9 @@ use Rattle.run_work.specs.Rows.{is_of, round_lines, round_rows, said_of_candidat
 use Rattle.run_work.specs.Words.{policy_of}
 use Rattle.run_work.specs.declared.rows.RoundSaid.{RoundSaid}
 use Rattle.run_work.specs.declared.words.RoundRequest.{RoundRequest}
-use Rattle.work_filings.specs.declared.filing.DollarFacts.{DollarFacts}
-use Rattle.work_filings.specs.declared.filing.WorkFiling.{WorkFiling}
-use Rattle.work_filings.specs.declared.filing.WorkWhat.TheVariants.{Award}
+use Rattle.work_history.specs.declared.filing.DollarFacts.{DollarFacts}
+use Rattle.work_history.specs.declared.filing.WorkFiling.{WorkFiling}
+use Rattle.work_history.specs.declared.filing.WorkWhat.TheVariants.{Award}
 use Rattle.work_history.specs.Funds.{award_at, rest}
 use Rattle.work_history.specs.declared.facts.WorkOutcome.{WorkOutcome}
 use Rattle.work_study.specs.Outcomes.{work_text}

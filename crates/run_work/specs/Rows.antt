@@ -3,7 +3,7 @@ use Rattle.std.specs.Prelude.{ℕ, ◌+◌, ◌++◌, ◌==◌, ℤ, pos, neg_�
 use Rattle.std.specs.List.{list_any}
 use Rattle.std.specs.Result.{result_map_both}
 use Rattle.aid_num.specs.Whole.{whole_between, whole_of}
-use Rattle.field_lines.specs.Lines.{error_line}
+use Rattle.field_rows.specs.Lines.{error_line}
 use Rattle.field_rows.specs.Meanings.{meanings}
 use Rattle.field_rows.specs.Numbers.{cause_of, refused}
 use Rattle.field_rows.specs.declared.error.Cause.TheVariants.{WrongCount}

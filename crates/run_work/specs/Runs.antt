@@ -21,7 +21,7 @@ use Rattle.ruled_list.specs.Ruled.{judging_of, scheme_of}
 use Rattle.ruled_list.specs.declared.verdict.RuledVerdict.{RuledVerdict}
 use Rattle.run_work.specs.Plans.{round_plans, round_texts}
 use Rattle.run_work.specs.Words.{WorkCommand, OfList, OfRound}
-use Rattle.work_filings.specs.declared.filing.WorkFiling.{WorkFiling}
+use Rattle.work_history.specs.declared.filing.WorkFiling.{WorkFiling}
 use Rattle.work_history.specs.declared.facts.WorkOutcome.{WorkOutcome}
 use Rattle.work_study.specs.Kinds.{work_kinds}
 use Rattle.work_study.specs.Numbers.{code_of_work, numbers_of_work}

@@ -8,7 +8,7 @@ use crate::words::RoundRequest;
 use aid_types::Key;
 use fund_policy::Candidate;
 use std::alloc::{AllocError, Global};
-use work_filings::{DollarFacts, WorkFiling, WorkWhat};
+use work_history::{DollarFacts, WorkFiling, WorkWhat};
 
 /// The filings of the awards above 0, in the order of the candidates, under consecutive numbers of the school. An `Err` is want
 /// of memory.

@@ -8,8 +8,7 @@ ghost use Rattle.run_work.specs.declared.rows.RoundSaid.{RoundSaid};
 
 use crate::rows::{RoundForm, put_repeated};
 use crate::words::RoundRequest;
-use field_lines::put_error;
-use field_rows::{RowError, TextRows};
+use field_rows::{RowError, TextRows, put_error};
 use fund_policy::Candidate;
 use ruled_list::RuledList;
 use std::alloc::{AllocError, Global};

@@ -4,7 +4,7 @@ ghost use Rattle.std.specs.List.{Contains};
 ghost use Rattle.aid_types.specs.declared.award.Refusal.{Refusal};
 ghost use Rattle.run_work.specs.Plans.{IsPlanned};
 ghost use Rattle.run_work.specs.declared.words.RoundRequest.{RoundRequest};
-ghost use Rattle.work_filings.specs.declared.filing.WorkFiling.{WorkFiling};
+ghost use Rattle.work_history.specs.declared.filing.WorkFiling.{WorkFiling};
 ghost use Rattle.work_history.specs.Rules.{breaks};
 
 use fund_policy::{Policy, Rule};

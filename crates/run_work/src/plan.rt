@@ -10,8 +10,7 @@ use crate::gather::gather;
 use crate::order::sort_candidates;
 use crate::rows::RoundForm;
 use crate::words::RoundRequest;
-use field_lines::put_error;
-use field_rows::{RowError, TextRows};
+use field_rows::{RowError, TextRows, put_error};
 use fund_policy::{Policy, Rule, round};
 use headed_rounds::{HeadedPlan, PlannedRound};
 use kept_list::Rows;
@@ -20,8 +19,7 @@ use ruled_forms::put_answer;
 use ruled_list::{RuledList, RuledVerdict};
 use std::alloc::{AllocError, Global};
 use std::vec::IntoIter;
-use work_filings::WorkFiling;
-use work_history::WorkOutcome;
+use work_history::{WorkFiling, WorkOutcome};
 use work_study::{FundDesk, WorkStudy};
 
 /// The awards of a round that weren't filed yet.

@@ -10,8 +10,7 @@ use aid_num::{Malformed, read_whole};
 use aid_types::Student;
 use arrayvec::ArrayString;
 use csv::ByteRecord;
-use field_lines::push_count;
-use field_rows::{Cause, RowError, RowForm};
+use field_rows::{Cause, RowError, RowForm, push_count};
 use fund_policy::Candidate;
 use std::alloc::{AllocError, Global};
 

@@ -6,7 +6,7 @@ ghost use Rattle.kept_runs.specs.Counts.{Shows};
 ghost use Rattle.run_work.specs.Plans.{policies_give};
 ghost use Rattle.run_work.specs.Runs.{CanBeDone, MayRecoverWork, RanWork, RecoversWork, StandsWork, StoodBefore, reads_input};
 ghost use Rattle.run_work.specs.Words.{WorkCommand, command_in};
-ghost use Rattle.work_filings.specs.declared.filing.WorkFiling.{WorkFiling};
+ghost use Rattle.work_history.specs.declared.filing.WorkFiling.{WorkFiling};
 ghost use Rattle.work_history.specs.AddsUp.{AddsUp};
 
 use crate::plan::WorkRound;

@@ -2,12 +2,12 @@
 use Rattle.std.proofs.Common.{◌≡◌, ℕ, ◌+◌, ◌-◌, ◌≤◌, refl, arith, cond, Bool, true, false, ◌&&◌, List, length, eq-eqb}
 use Rattle.std.specs.Prelude.{◌==◌}
 use Rattle.aid_types.specs.declared.number.Key.{Key}
-use Rattle.work_filings.specs.declared.filing.DollarFacts.{DollarFacts}
-use Rattle.work_filings.specs.declared.filing.EarnFacts.{EarnFacts}
-use Rattle.work_filings.specs.declared.filing.FundFacts.{FundFacts}
-use Rattle.work_filings.specs.declared.filing.WorkFiling.{WorkFiling}
-use Rattle.work_filings.specs.declared.filing.WorkWhat.{WorkWhat}
-use Rattle.work_filings.specs.declared.filing.WorkWhat.TheVariants.{Fund, Award, Earn, Release}
+use Rattle.work_history.specs.declared.filing.DollarFacts.{DollarFacts}
+use Rattle.work_history.specs.declared.filing.EarnFacts.{EarnFacts}
+use Rattle.work_history.specs.declared.filing.FundFacts.{FundFacts}
+use Rattle.work_history.specs.declared.filing.WorkFiling.{WorkFiling}
+use Rattle.work_history.specs.declared.filing.WorkWhat.{WorkWhat}
+use Rattle.work_history.specs.declared.filing.WorkWhat.TheVariants.{Fund, Award, Earn, Release}
 use Rattle.work_history.specs.Funds.{Place, award_at, awarded, awarded_in, earlier_or, earned, earned_in, earning, first_at, fund, fund_at}
 use Rattle.work_history.specs.Funds.{if_passes, in_force, is_award, is_fund, place_at, released, released_in}
 use Rattle.work_history.specs.Rules.{AreAllowed}

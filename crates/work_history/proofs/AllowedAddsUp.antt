@@ -1,6 +1,6 @@
 -- In a list of which each filing breaks no rule on those before it, each fund adds up.
 use Rattle.std.proofs.Common.{◌≡◌, ℕ, ◌+◌, ◌-◌, ◌*◌, ◌≤◌, arith, List}
-use Rattle.work_filings.specs.declared.filing.WorkFiling.{WorkFiling}
+use Rattle.work_history.specs.declared.filing.WorkFiling.{WorkFiling}
 use Rattle.work_history.specs.AddsUp.{AddsUp, holders, sum_over}
 use Rattle.work_history.specs.Funds.{awarded, earned, fund, in_fund, of_student, released, rest, unearned}
 use Rattle.work_history.specs.Rules.{AreAllowed}

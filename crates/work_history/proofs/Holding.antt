@@ -3,12 +3,12 @@ use Rattle.std.proofs.Common.{◌≡◌, ℕ, ◌+◌, ◌-◌, ◌*◌, ◌≤�
 use Rattle.std.specs.Prelude.{◌||◌}
 use Rattle.aid_types.specs.declared.number.Key.{Key}
 use Rattle.rule_lines.proofs.Holds.{all_hold, lacks_holds, over_holds, stands_holds}
-use Rattle.work_filings.specs.declared.filing.DollarFacts.{DollarFacts}
-use Rattle.work_filings.specs.declared.filing.EarnFacts.{EarnFacts}
-use Rattle.work_filings.specs.declared.filing.FundFacts.{FundFacts}
-use Rattle.work_filings.specs.declared.filing.WorkFiling.{WorkFiling}
-use Rattle.work_filings.specs.declared.filing.WorkWhat.{WorkWhat}
-use Rattle.work_filings.specs.declared.filing.WorkWhat.TheVariants.{Fund, Award, Earn, Release}
+use Rattle.work_history.specs.declared.filing.DollarFacts.{DollarFacts}
+use Rattle.work_history.specs.declared.filing.EarnFacts.{EarnFacts}
+use Rattle.work_history.specs.declared.filing.FundFacts.{FundFacts}
+use Rattle.work_history.specs.declared.filing.WorkFiling.{WorkFiling}
+use Rattle.work_history.specs.declared.filing.WorkWhat.{WorkWhat}
+use Rattle.work_history.specs.declared.filing.WorkWhat.TheVariants.{Fund, Award, Earn, Release}
 use Rattle.work_history.specs.Funds.{award_at, earned, earning, fund, fund_at, in_force, in_fund, of_student}
 use Rattle.work_history.specs.Rules.{breaks, facts_of, lines_of}
 

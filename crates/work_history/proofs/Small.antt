@@ -1,6 +1,6 @@
 -- How large what is on file is.
 use Rattle.std.proofs.Common.{ℕ, ◌*◌, ◌≤◌, ◌<◌, arith, List, [], ◌∷◌, length, zero-le}
-use Rattle.work_filings.specs.declared.filing.WorkFiling.{WorkFiling}
+use Rattle.work_history.specs.declared.filing.WorkFiling.{WorkFiling}
 use Rattle.work_history.specs.Funds.{earned, fund, in_force, in_fund, of_student}
 use Rattle.work_history.specs.Rules.{AreAllowed, AreSmall, facts_on}
 use Rattle.work_history.proofs.Holding.{has_room}

@@ -1,10 +1,10 @@
 -- In a list that breaks no rule, awards, releases and earnings of a fund are those of its holders.
 use Rattle.std.proofs.Common.{◌≡◌, ℕ, ◌+◌, ◌-◌, ◌*◌, ◌≤◌, ◌<◌, refl, sym, ◌∙◌, arith, subst, cond, Bool, true, false, List, [], ◌∷◌}
 use Rattle.aid_types.specs.declared.number.Key.{Key}
-use Rattle.work_filings.specs.declared.filing.DollarFacts.{DollarFacts}
-use Rattle.work_filings.specs.declared.filing.WorkFiling.{WorkFiling}
-use Rattle.work_filings.specs.declared.filing.WorkWhat.{WorkWhat}
-use Rattle.work_filings.specs.declared.filing.WorkWhat.TheVariants.{Fund, Award, Earn, Release}
+use Rattle.work_history.specs.declared.filing.DollarFacts.{DollarFacts}
+use Rattle.work_history.specs.declared.filing.WorkFiling.{WorkFiling}
+use Rattle.work_history.specs.declared.filing.WorkWhat.{WorkWhat}
+use Rattle.work_history.specs.declared.filing.WorkWhat.TheVariants.{Fund, Award, Earn, Release}
 use Rattle.work_history.specs.AddsUp.{holders}
 use Rattle.work_history.specs.Funds.{Place, award_at, awarded, earned, earning, in_fund, of_student, place_at, released}
 use Rattle.work_history.specs.Rules.{AreAllowed}

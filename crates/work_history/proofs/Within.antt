@@ -3,12 +3,12 @@ use Rattle.std.proofs.Common.{◌≡◌, ℕ, ◌+◌, ◌-◌, ◌*◌, ◌≤�
 use Rattle.std.specs.Prelude.{◌==◌}
 use Rattle.std.proofs.lemmas.Bool.{and_parts}
 use Rattle.aid_types.specs.declared.number.Key.{Key}
-use Rattle.work_filings.specs.declared.filing.DollarFacts.{DollarFacts}
-use Rattle.work_filings.specs.declared.filing.EarnFacts.{EarnFacts}
-use Rattle.work_filings.specs.declared.filing.FundFacts.{FundFacts}
-use Rattle.work_filings.specs.declared.filing.WorkFiling.{WorkFiling}
-use Rattle.work_filings.specs.declared.filing.WorkWhat.{WorkWhat}
-use Rattle.work_filings.specs.declared.filing.WorkWhat.TheVariants.{Fund, Award, Earn, Release}
+use Rattle.work_history.specs.declared.filing.DollarFacts.{DollarFacts}
+use Rattle.work_history.specs.declared.filing.EarnFacts.{EarnFacts}
+use Rattle.work_history.specs.declared.filing.FundFacts.{FundFacts}
+use Rattle.work_history.specs.declared.filing.WorkFiling.{WorkFiling}
+use Rattle.work_history.specs.declared.filing.WorkWhat.{WorkWhat}
+use Rattle.work_history.specs.declared.filing.WorkWhat.TheVariants.{Fund, Award, Earn, Release}
 use Rattle.work_history.specs.Funds.{awarded, earned, earning, fund, if_passes, in_force, in_fund, of_student, place_at, released}
 use Rattle.work_history.specs.Rules.{AreAllowed}
 use Rattle.work_history.proofs.Holding.{IsAllowed, after, award_holds, earn_holds, fund_holds, release_holds}

@@ -3,9 +3,9 @@ use Rattle.std.specs.Prelude.{◌≡◌, ◌≤◌, ℕ, ◌+◌, ◌-◌, ◌*�
 use Rattle.aid_types.specs.declared.award.Refusal.{Refusal}
 use Rattle.rule_lines.specs.RuleLines.{first_broken, lacks, over, stands, where_true}
 use Rattle.rule_lines.specs.declared.line.RuleLine.{RuleLine}
-use Rattle.work_filings.specs.declared.filing.WorkFiling.{WorkFiling}
-use Rattle.work_filings.specs.declared.filing.WorkWhat.{WorkWhat}
-use Rattle.work_filings.specs.declared.filing.WorkWhat.TheVariants.{Fund, Award, Earn, Release}
+use Rattle.work_history.specs.declared.filing.WorkFiling.{WorkFiling}
+use Rattle.work_history.specs.declared.filing.WorkWhat.{WorkWhat}
+use Rattle.work_history.specs.declared.filing.WorkWhat.TheVariants.{Fund, Award, Earn, Release}
 use Rattle.work_history.specs.Funds.{award_at, earned, earning, fund, fund_at, in_force, in_fund, of_student}
 use Rattle.work_history.specs.declared.facts.WorkFacts.{WorkFacts}
 use Rattle.work_history.specs.declared.facts.WorkOutcome.{WorkOutcome}

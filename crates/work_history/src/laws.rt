@@ -1,7 +1,7 @@
 //! Laws of lists of work-study filings, each as the contract of a function that computes nothing. A list has its newest filing
 //! first.
 ghost use Rattle.std.specs.Prelude.{◌≡◌, ◌≤◌, ◌<◌, ℕ, List, None, length};
-ghost use Rattle.work_filings.specs.declared.filing.WorkFiling.{WorkFiling};
+ghost use Rattle.work_history.specs.declared.filing.WorkFiling.{WorkFiling};
 ghost use Rattle.work_history.specs.AddsUp.{AddsUp};
 ghost use Rattle.work_history.specs.Rules.{AreAllowed, AreSmall, breaks, facts_on};
 

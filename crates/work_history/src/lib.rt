@@ -2,9 +2,11 @@
 #![tactic(auto)]
 
 mod facts;
+mod filing;
 mod laws;
 mod rules;
 
 pub use facts::{WorkFacts, WorkOutcome};
+pub use filing::{DollarFacts, EarnFacts, FundFacts, WorkFiling, WorkWhat};
 pub use laws::{allowed_adds_up, allowed_length, allowed_small, room_left};
 pub use rules::{MOST_WORK_FILINGS, broken, earning, outcome};

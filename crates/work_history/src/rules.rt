@@ -1,7 +1,7 @@
 //! The rules of Federal Work-Study on what is on file (HEA 443; 34 CFR 675).
 ghost use Rattle.std.specs.Prelude.{◌≡◌, ◌+◌, ◌-◌, ◌*◌, ◌≤◌, ◌==◌, ◌∷◌};
 ghost use Rattle.rule_lines.specs.RuleLines.{first_broken as first_broken_of, lacks as lacks_of, where_true as where_true_of};
-ghost use Rattle.work_filings.specs.declared.filing.WorkWhat.TheVariants.{Award, Earn, Fund, Release};
+ghost use Rattle.work_history.specs.declared.filing.WorkWhat.TheVariants.{Award, Earn, Fund, Release};
 ghost use Rattle.work_history.specs.Funds.{earning as earning_of};
 ghost use Rattle.work_history.specs.Rules.{AreSmall, kind_lines, lines_of, outcome_by, rule_210 as rule_210_of};
 
@@ -9,7 +9,7 @@ use crate::facts::{WorkFacts, WorkOutcome};
 use aid_num::nearest_whole;
 use aid_types::{Refusal, School, Student, Year};
 use rule_lines::{RuleLine, first_broken, lacks, over, stands, where_true};
-use work_filings::{DollarFacts, EarnFacts, FundFacts, WorkFiling, WorkWhat};
+use crate::filing::{DollarFacts, EarnFacts, FundFacts, WorkFiling, WorkWhat};
 
 /// The most filings that a work-study office keeps.
 pub const MOST_WORK_FILINGS: u32 = 200_000;

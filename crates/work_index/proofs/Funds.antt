@@ -3,9 +3,9 @@ use Rattle.std.proofs.Common.{◌≡◌, ◌+◌, List, ◌∷◌, length, arith
 use Rattle.std.specs.Prelude.{◌==◌, ◌&&◌, if◌then◌else◌}
 use Rattle.aid_types.specs.declared.number.Key.{Key}
 use Rattle.sorted_rows.specs.Places.{IsWritten}
-use Rattle.work_filings.specs.declared.filing.WorkFiling.{WorkFiling}
-use Rattle.work_filings.specs.declared.filing.WorkWhat.{WorkWhat}
-use Rattle.work_filings.specs.declared.filing.WorkWhat.TheVariants.{Fund, Award, Earn, Release}
+use Rattle.work_history.specs.declared.filing.WorkFiling.{WorkFiling}
+use Rattle.work_history.specs.declared.filing.WorkWhat.{WorkWhat}
+use Rattle.work_history.specs.declared.filing.WorkWhat.TheVariants.{Fund, Award, Earn, Release}
 use Rattle.work_history.specs.Funds.{in_fund}
 use Rattle.work_history.specs.Rules.{year_of}
 use Rattle.work_history.proofs.Standing.{no_fund}

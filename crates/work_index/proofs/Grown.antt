@@ -1,6 +1,6 @@
 -- The rows of an index with one filing more.
 use Rattle.std.proofs.Common.{◌≡◌, ℕ, ◌+◌, ◌-◌, ◌≤◌, List, ◌∷◌, None, subst, sym, arith}
-use Rattle.work_filings.specs.declared.filing.WorkFiling.{WorkFiling}
+use Rattle.work_history.specs.declared.filing.WorkFiling.{WorkFiling}
 use Rattle.work_history.specs.Rules.{breaks}
 use Rattle.work_index.specs.Rows.{AreAwards, AreFunds, AreIndexed}
 use Rattle.work_index.specs.declared.names.AwardName.{AwardName}

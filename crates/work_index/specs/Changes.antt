@@ -1,8 +1,8 @@
 -- What a filing makes of the rows that it is about.
 use Rattle.std.specs.Prelude.{ℕ, ◌+◌, ◌-◌, ◌==◌, ◌≤◌, if◌then◌else◌, Bool, List}
-use Rattle.work_filings.specs.declared.filing.WorkFiling.{WorkFiling}
-use Rattle.work_filings.specs.declared.filing.WorkWhat.{WorkWhat}
-use Rattle.work_filings.specs.declared.filing.WorkWhat.TheVariants.{Fund, Award, Earn, Release}
+use Rattle.work_history.specs.declared.filing.WorkFiling.{WorkFiling}
+use Rattle.work_history.specs.declared.filing.WorkWhat.{WorkWhat}
+use Rattle.work_history.specs.declared.filing.WorkWhat.TheVariants.{Fund, Award, Earn, Release}
 use Rattle.work_history.specs.Funds.{Place, awarded, earlier_or, earning, released}
 use Rattle.work_index.specs.declared.rows.AwardRow.{AwardRow}
 use Rattle.work_index.specs.declared.rows.FundRow.{FundRow}

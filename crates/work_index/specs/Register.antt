@@ -1,6 +1,6 @@
 -- An index as its callers see it.
 use Rattle.std.specs.Prelude.{ℕ, List}
-use Rattle.work_filings.specs.declared.filing.WorkFiling.{WorkFiling}
+use Rattle.work_history.specs.declared.filing.WorkFiling.{WorkFiling}
 
 -- its filings, the newest first, and how many more it takes without asking for memory
 pub record OnFile : Type 0 where

@@ -3,7 +3,7 @@ use Rattle.std.specs.Prelude.{◌≡◌, ◌≤◌, List, length, Option, Some, 
 use Rattle.std.specs.Ordering.{nat_cmp, ordering_then}
 use Rattle.std.specs.declared.cmp.Ordering.{Ordering}
 use Rattle.sorted_rows.specs.Places.{value_at}
-use Rattle.work_filings.specs.declared.filing.WorkFiling.{WorkFiling}
+use Rattle.work_history.specs.declared.filing.WorkFiling.{WorkFiling}
 use Rattle.work_history.specs.Funds.{award_at, earned, fund, fund_at, in_force, in_fund, of_student}
 use Rattle.work_history.specs.Rules.{AreAllowed, most_work_filings, student_of, year_of}
 use Rattle.work_index.specs.declared.names.AwardName.{AwardName}

@@ -11,8 +11,7 @@ use aid_types::{School, Student, Year};
 use sorted_rows::Table;
 use std::alloc::{AllocError, Global};
 use std::marker::Model;
-use work_filings::WorkFiling;
-use work_history::WorkFacts;
+use work_history::{WorkFacts, WorkFiling};
 
 /// The filings of a work-study office with sorted rows that tell what is on file, and room for more. A contract sees the filings, the
 /// newest first, and the room. Each filing breaks no rule on those before it.

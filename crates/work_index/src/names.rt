@@ -3,7 +3,7 @@ ghost use Rattle.std.specs.Prelude.{◌≡◌};
 ghost use Rattle.work_history.specs.Rules.{student_of, year_of};
 ghost use Rattle.work_index.specs.Rows.{award_name, fund_name};
 
-use work_filings::{WorkFiling, WorkWhat};
+use work_history::{WorkFiling, WorkWhat};
 
 /// What names a fund: its school and its award year.
 #[derive(Clone, Copy, PartialEq, Eq, PartialOrd, Ord, Debug)]

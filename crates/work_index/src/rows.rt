@@ -4,8 +4,7 @@ ghost use Rattle.work_history.specs.Funds.{earlier_or as earlier_of};
 ghost use Rattle.work_index.specs.Changes.{award_after, fund_after};
 ghost use Rattle.work_index.specs.Rows.{AreSmallAwards, AreSmallFunds, award_or, fund_or};
 
-use work_filings::WorkWhat;
-use work_history::earning;
+use work_history::{WorkWhat, earning};
 
 /// A school's fund of an award year: its position, 0 where there is none, its dollars, and the dollars of its awards in force.
 #[derive(Clone, Copy, Debug)]

@@ -1,13 +1,13 @@
 //! Rows of the index after one filing more.
 ghost use Rattle.std.specs.Prelude.{◌≡◌, ◌+◌, ◌≤◌, ◌∷◌, List, length};
-ghost use Rattle.work_filings.specs.declared.filing.WorkFiling.{WorkFiling as Filed};
+ghost use Rattle.work_history.specs.declared.filing.WorkFiling.{WorkFiling as Filed};
 ghost use Rattle.work_index.specs.Changes.{HasReleases, award_after, fund_after};
 ghost use Rattle.work_index.specs.Rows.{AreAwards, AreFunds, award_name, award_row, fund_name, fund_row};
 
 use crate::names::{AwardName, FundName};
 use crate::rows::{AwardRow, FundRow};
 use sorted_rows::Table;
-use work_filings::{WorkFiling, WorkWhat};
+use work_history::{WorkFiling, WorkWhat};
 
 /// Writes the row of the fund that a filing is about, where the filing changes it.
 #[tactic(auto, using(crate::proofs::Funds::fund_filed))]

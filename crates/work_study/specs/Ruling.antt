@@ -5,7 +5,7 @@ use Rattle.ruled_list.specs.Rows.{SpellsRows, ruling_by}
 use Rattle.ruled_list.specs.Ruled.{IsLegal}
 use Rattle.ruled_list.specs.Ruling.{Ruling}
 use Rattle.ruled_list.specs.RowLaws.{rows_by}
-use Rattle.work_filings.specs.declared.filing.WorkFiling.{WorkFiling}
+use Rattle.work_history.specs.declared.filing.WorkFiling.{WorkFiling}
 use Rattle.work_history.specs.AddsUp.{AddsUp}
 use Rattle.work_history.specs.Rules.{AreAllowed, breaks, outcome_of}
 use Rattle.work_history.specs.declared.facts.WorkOutcome.{WorkOutcome}

@@ -1,6 +1,6 @@
 //! What a round asks of a desk.
 ghost use Rattle.std.specs.Prelude.{◌≡◌, List, nat_lt};
-ghost use Rattle.work_filings.specs.declared.filing.WorkFiling.{WorkFiling};
+ghost use Rattle.work_history.specs.declared.filing.WorkFiling.{WorkFiling};
 ghost use Rattle.work_history.specs.Funds.{award_at, rest as rest_of};
 
 use crate::table::WorkStudy;

@@ -7,7 +7,7 @@ ghost use Rattle.work_study.specs.Same.{same_work};
 use crate::table::WorkStudy;
 use aid_types::{Key, School, Student, Year};
 use field_table::{Entries, Numbers, add_numbers};
-use work_filings::{DollarFacts, EarnFacts, FundFacts, WorkFiling, WorkWhat};
+use work_history::{DollarFacts, EarnFacts, FundFacts, WorkFiling, WorkWhat};
 
 // The numbers of a key, and those behind them.
 macro_rules! numbers_of {

@@ -5,12 +5,11 @@ ghost use Rattle.work_study.specs.Ruling.{legal_work_adds_up, spells_work, work_
 use crate::table::WorkStudy;
 use aid_types::{Key, Refusal};
 use arrayvec::ArrayString;
-use field_lines::push_cents;
+use field_rows::push_cents;
 use ruled_forms::OutcomeText;
 use ruled_list::Rules;
 use std::alloc::{AllocError, Global};
-use work_filings::WorkFiling;
-use work_history::{WorkOutcome, broken, outcome};
+use work_history::{WorkFiling, WorkOutcome, broken, outcome};
 use work_index::WorkIndex;
 
 impl Rules for WorkStudy {

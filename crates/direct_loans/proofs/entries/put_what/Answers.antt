@@ -1,4 +1,4 @@
-use Rattle.loan_filings.specs.declared.filing.LoanWhat.TheVariants.{Limits, Borrower, Before, Lend, Cancel}
+use Rattle.loan_history.specs.declared.filing.LoanWhat.TheVariants.{Limits, Borrower, Before, Lend, Cancel}
 use Rattle.direct_loans.proofs.Fit.{what_fits}
 use Rattle.direct_loans.proofs.entries.put_what.Goals as goal
 

@@ -1,6 +1,6 @@
 use Rattle.std.proofs.Common.{◌≡◌, ℕ, ◌+◌, ◌≤◌, List, [], ◌∷◌, ap, length, reverse, subst, sym, ◌∙◌}
 use Rattle.std.proofs.lemmas.List.{reverse-append}
-use Rattle.loan_filings.specs.declared.filing.LoanFiling.{LoanFiling}
+use Rattle.loan_history.specs.declared.filing.LoanFiling.{LoanFiling}
 use Rattle.loan_index.specs.Register.{OnFile}
 use Rattle.loan_index.specs.Rows.{AreIndexed}
 use Rattle.loan_index.proofs.Bounds.{students_below, years_below}

@@ -1,5 +1,5 @@
 use Rattle.std.proofs.Common.{List, ap, reverse, ◌∙◌}
-use Rattle.loan_filings.specs.declared.filing.LoanFiling.{LoanFiling}
+use Rattle.loan_history.specs.declared.filing.LoanFiling.{LoanFiling}
 use Rattle.loan_index.specs.Register.{OnFile}
 use Rattle.loan_index.specs.Rows.{limits_or, limits_row, student_or, student_row, year_or, year_row}
 use Rattle.loan_index.specs.declared.names.StudentYear.{StudentYear}

@@ -1,5 +1,0 @@
-//! Tests of the office: a full one. This library has tests alone.
-#![tactic(auto)]
-
-#[cfg(test)]
-mod full;
