@@ -1,6 +1,6 @@
 //! The file of a journal, the folder in which it stands, and the files of desks.
-use crate::streams::say;
 use crate::host::ReadEdge;
+use crate::streams::say;
 use std::fs::{File, OpenOptions, TryLockError};
 use std::io::ErrorKind;
 use std::os::unix::fs::FileExt;

@@ -1,7 +1,10 @@
 //! The program of a federal student aid office: its words, its journal, what it reads and what it writes.
 #![tactic(auto)]
 
-use aid_edges::{FreeGate, ReadEdge, Sink, WriteEdge, fill_streams, hold, is_born, keep_in_folder, open_input, open_journal, say, words_of};
+use aid_edges::{
+    FreeGate, ReadEdge, Sink, WriteEdge, fill_streams, hold, is_born, keep_in_folder, open_input,
+    open_journal, say, words_of,
+};
 use disk_model::HostDisk;
 use filing_journal::OpenError;
 use fund_policy::{Rule, level, quarter, standard};

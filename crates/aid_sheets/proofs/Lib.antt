@@ -1,9 +1,6 @@
 pub mod Ahead
 pub mod LedgerPass
 pub mod ListLemmas
-pub mod NeedFound
-pub mod NeedPieces
-pub mod NeedSame
 pub mod Passed
 pub mod QuoteLines
 pub mod Returned

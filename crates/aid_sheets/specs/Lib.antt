@@ -1,10 +1,5 @@
 pub mod LedgerLines
 pub mod Ledgers
 pub mod Lists
-pub mod Need
-pub mod NeedEntries
-pub mod NeedLines
-pub mod NeedSheet
-pub mod NeedWords
 pub mod Quotes
 pub mod Takings

@@ -2,10 +2,10 @@
 ghost use Rattle.std.specs.Prelude.{◌≡◌, ◌+◌, ◌≤◌, ◌++◌, IsOk, OnErr, OnOk, vec_capacity, vec_len};
 ghost use Rattle.field_rows.specs.Lines.{error_line, fine_line, refused_text, tally_line};
 
+use crate::error::RowError;
 use crate::numbers::{push_count, push_number};
 use aid_types::Refusal;
 use arrayvec::ArrayString;
-use crate::error::RowError;
 use std::alloc::AllocError;
 
 /// Appends the line of a row that is no filing. Where the vector has room for 160 more bytes no memory is taken.

@@ -2,9 +2,9 @@
 ghost use Rattle.std.specs.Prelude.{◌≡◌, Ok};
 
 use crate::reading::take;
+use crate::table::Entries;
 use crate::writing::put;
 use aid_edges::Room;
-use crate::table::Entries;
 
 /// The entry that the bytes of an entry spell is that entry.
 pub fn put_and_take<T: Entries>(entry: &T::Entry, room: &mut Room) -> Result<T::Entry, u64>

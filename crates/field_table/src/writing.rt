@@ -5,10 +5,10 @@ ghost use Rattle.field_table.specs.Forms.{most_numbers};
 ghost use Rattle.field_table.specs.Parts.{slots_of};
 ghost use Rattle.field_table.specs.Tables.{IsRow, are_plain};
 
-use aid_edges::{CAPACITY, Room};
 use crate::field::{Form, Part};
 use crate::layout::Layout;
 use crate::table::Entries;
+use aid_edges::{CAPACITY, Room};
 
 /// Puts the one spelling of an entry into the room, in place of what the room held. It takes no memory.
 pub fn put<T: Entries>(entry: &T::Entry, room: &mut Room)

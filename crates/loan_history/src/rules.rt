@@ -18,9 +18,9 @@ ghost use Rattle.rule_lines.specs.RuleLines.{first_broken as first_broken_of, ov
 
 use crate::bounds::{Bounds, bounds_of, last_bounds, own_bounds};
 use crate::facts::{LoanFacts, LoanNets, LoanOutcome, Tries};
+use crate::filing::{BeforeFacts, BorrowerFacts, LimitFacts, LoanAmount, LoanFiling, LoanWhat};
 use crate::nets::{is_sub, of_all, of_program, of_year, with_loan};
 use aid_types::{Refusal, School};
-use crate::filing::{BeforeFacts, BorrowerFacts, LimitFacts, LoanAmount, LoanFiling, LoanWhat};
 use rule_lines::{RuleLine, first_broken, lacks, over, stands, where_true};
 
 /// The most filings that a loan office keeps.

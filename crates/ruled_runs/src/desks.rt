@@ -8,11 +8,11 @@ ghost use Rattle.ruled_list.specs.Ruled.{scheme_of};
 ghost use Rattle.ruled_runs.specs.Desks.{RanRuledDesks, reads_of};
 ghost use Rattle.ruled_runs.specs.Runs.{table_rows};
 
+use crate::copies::FilingCopies;
 use aid_edges::{Gate, Sink, Source};
 use disk_model::Disk;
 use kept_crews::{CrewInput, run_crew};
 use kept_session::{ReadStop, read_rows};
-use crate::copies::FilingCopies;
 use ruled_forms::{OutcomeText, TableForms, TableRows};
 use ruled_list::RuledList;
 use std::alloc::Global;

@@ -4,7 +4,7 @@ use Rattle.aid_filings.specs.declared.filing.Filing.{Filing}
 use Rattle.aid_reports.specs.Reports.{award_report, lifetime_report, return_report, stamp_report, standing_report}
 use Rattle.aid_sheets.specs.Ledgers.{student_sheet}
 use Rattle.aid_sheets.specs.Lists.{list_sheet}
-use Rattle.aid_sheets.specs.Need.{need_sheet}
+use Rattle.need_worksheet.specs.Need.{need_sheet}
 use Rattle.aid_sheets.specs.Quotes.{quotes_sheet}
 use Rattle.export_lines.specs.Exports.{export_text}
 use Rattle.run_words.specs.declared.command.ReportRequest.{ReportRequest}

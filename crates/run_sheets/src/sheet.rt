@@ -4,9 +4,10 @@ ghost use Rattle.run_sheets.specs.Texts.{report_on, sheet_on};
 
 use crate::request::{SheetRequest, SheetRow};
 use aid_reports::{awards, export, lifetimes, returns, stamp_lines, standings};
-use aid_sheets::{front_of, list, need, quotes, student};
+use aid_sheets::{front_of, list, quotes, student};
 use kept_office::StampedOffice;
 use kept_session::Report;
+use need_worksheet::need;
 use office_core::Office;
 use run_words::ReportRequest;
 use stamps::Stamp;

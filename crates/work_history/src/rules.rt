@@ -6,10 +6,10 @@ ghost use Rattle.work_history.specs.Funds.{earning as earning_of};
 ghost use Rattle.work_history.specs.Rules.{AreSmall, kind_lines, lines_of, outcome_by, rule_210 as rule_210_of};
 
 use crate::facts::{WorkFacts, WorkOutcome};
+use crate::filing::{DollarFacts, EarnFacts, FundFacts, WorkFiling, WorkWhat};
 use aid_num::nearest_whole;
 use aid_types::{Refusal, School, Student, Year};
 use rule_lines::{RuleLine, first_broken, lacks, over, stands, where_true};
-use crate::filing::{DollarFacts, EarnFacts, FundFacts, WorkFiling, WorkWhat};
 
 /// The most filings that a work-study office keeps.
 pub const MOST_WORK_FILINGS: u32 = 200_000;

@@ -1,0 +1,3 @@
+pub mod NeedFound
+pub mod NeedPieces
+pub mod NeedSame

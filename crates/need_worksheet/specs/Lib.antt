@@ -1,0 +1,5 @@
+pub mod Need
+pub mod NeedEntries
+pub mod NeedLines
+pub mod NeedSheet
+pub mod NeedWords
