@@ -9,7 +9,7 @@ ghost use Rattle.filing_journal.specs.Founded.{UnbornOrEmpty};
 use crate::reading::read_opening;
 use crate::writing::lengthen_and_put;
 use crate::{Added, Docket, Judged, ListReply};
-use aid_edges::Room;
+use aid_edges::{CAPACITY, Room};
 use disk_model::Disk;
 use filing_journal::{FoundError, Journal, OpenError, PutError};
 use std::alloc::{AllocError, Global};
@@ -230,7 +230,8 @@ impl<D: Disk, R: Docket> KeptList<D, R> {
         ensures cause { IsTrue (is_fault result) → Rose (D.faults self.old.disk) (D.faults self.new.disk) }
         ensures unmoved { is_fault result ≡ false → D.faults self.new.disk ≡ D.faults self.old.disk }
     {
-        self.turn_ahead(ask, None)
+        self.ahead.clear();
+        self.prepared_turn(ask)
     }
 
     /// The same turn. Where the ask that will likely follow is known, what it may add is written ahead by this turn's last
@@ -253,6 +254,42 @@ impl<D: Disk, R: Docket> KeptList<D, R> {
         ensures unmoved { is_fault result ≡ false → D.faults self.new.disk ≡ D.faults self.old.disk }
     {
         self.look_ahead(next);
+        self.prepared_turn(ask)
+    }
+
+    /// The same turn. Where somebody waits with an entry that will likely follow, its spelling is written ahead by this turn's
+    /// last sync, as `turn_ahead` does it. Any bytes may be given: they count for nothing until a turn adds their entry.
+    pub fn turn_guessing(&mut self, ask: R::Ask, guess: &[u8]) -> ListReply<R::Verdict>
+        ensures turn { Turns R.judging self.old.history self.old.pending ask result self.new.history self.new.pending }
+        ensures honest { (D.tells self.new.disk).honest ≡ (D.tells self.old.disk).honest }
+        ensures sound { IsHonest (D.tells self.old.disk) → IsSound R.scheme (D.tells self.new.disk) self.new.history self.new.pending }
+        ensures moments { IsHonest (D.tells self.old.disk) → EachMoment (D.tells self.old.disk) (D.tells self.new.disk)
+            (MayRecover R.scheme R.judging self.old.history self.old.pending ask) }
+        ensures no_memory { result ≡ ListReply.NoMemory → self.new ≡ self.old }
+        ensures memory { result ≡ ListReply.NoMemory → self.old.room ≡ 0 }
+        ensures room { self.old.room ≤ self.new.room + 1 }
+        ensures later { D.faults self.old.disk ≤ D.faults self.new.disk }
+        ensures cause { IsTrue (is_fault result) → Rose (D.faults self.old.disk) (D.faults self.new.disk) }
+        ensures unmoved { is_fault result ≡ false → D.faults self.new.disk ≡ D.faults self.old.disk }
+    {
+        self.take_guess(guess);
+        self.prepared_turn(ask)
+    }
+
+    // The turn, once what may be written ahead is in its room.
+    fn prepared_turn(&mut self, ask: R::Ask) -> ListReply<R::Verdict>
+        ensures turn { Turns R.judging self.old.history self.old.pending ask result self.new.history self.new.pending }
+        ensures honest { (D.tells self.new.disk).honest ≡ (D.tells self.old.disk).honest }
+        ensures sound { IsHonest (D.tells self.old.disk) → IsSound R.scheme (D.tells self.new.disk) self.new.history self.new.pending }
+        ensures moments { IsHonest (D.tells self.old.disk) → EachMoment (D.tells self.old.disk) (D.tells self.new.disk)
+            (MayRecover R.scheme R.judging self.old.history self.old.pending ask) }
+        ensures no_memory { result ≡ ListReply.NoMemory → self.new ≡ self.old }
+        ensures memory { result ≡ ListReply.NoMemory → self.old.room ≡ 0 }
+        ensures room { self.old.room ≤ self.new.room + 1 }
+        ensures later { D.faults self.old.disk ≤ D.faults self.new.disk }
+        ensures cause { IsTrue (is_fault result) → Rose (D.faults self.old.disk) (D.faults self.new.disk) }
+        ensures unmoved { is_fault result ≡ false → D.faults self.new.disk ≡ D.faults self.old.disk }
+    {
         if self.reserve(1).is_err() {
             return ListReply::NoMemory;
         }
@@ -270,6 +307,16 @@ impl<D: Disk, R: Docket> KeptList<D, R> {
         ensures { self.new ≡ self.old }
     {
         self.journal.allow_lengthening();
+    }
+
+    // Puts a guess into the room of what is written ahead, where it fits.
+    fn take_guess(&mut self, guess: &[u8])
+        ensures { self.new ≡ self.old }
+    {
+        self.ahead.clear();
+        if guess.len() <= CAPACITY {
+            self.ahead.append(guess);
+        }
     }
 
     // Puts what the next ask may add into its room, or empties that room.

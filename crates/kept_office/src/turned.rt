@@ -15,6 +15,8 @@ impl<D: Disk> Turned for KeptOffice<D> {
 
     type Entry = StampedFiling;
 
+    type Note = ();
+
     ghost stand = { λ k. stand_of (kept_history k) (kept_pending k) (D.faults (kept_disk k)) (D.tells (kept_disk k)).honest };
 
     ghost own = { asked };
@@ -26,4 +28,6 @@ impl<D: Disk> Turned for KeptOffice<D> {
     fn turn(&mut self, ask: Stamped) -> Reply {
         KeptOffice::turn(self, ask)
     }
+
+    fn hear(&mut self, _note: ()) {}
 }

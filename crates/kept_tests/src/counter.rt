@@ -43,6 +43,8 @@ impl<D: Device> Turned for Counter<D> {
 
     type Entry = u64;
 
+    type Note = ();
+
     ghost stand = { λ s. record { list = reverse s.log.items; pending = s.waiting; faults = D.faults s.device; fixed = D.honest s.device } };
 
     ghost own = { λ ask. Some ask };
@@ -69,4 +71,6 @@ impl<D: Device> Turned for Counter<D> {
         self.log.push_reserved(ask);
         Answer::Accepted(self.log.len() as u64)
     }
+
+    fn hear(&mut self, _note: ()) {}
 }

@@ -2,6 +2,7 @@
 //! admitted, settled and left undecided. Joined into one, the passes tell what the state's list has.
 #![tactic(auto)]
 
+mod board;
 mod seats;
 mod sleepers;
 mod turned;

@@ -5,15 +5,18 @@ ghost use Rattle.office_lock.specs.Passes.{IsOlder, TakesTurn};
 ghost use Rattle.office_lock.specs.Views.{newcomer, bringer, begun, known, with_less, with_part, with_other, with_longer};
 ghost use Rattle.office_lock.specs.Rule.{IsIdle, IsDone, IsServedAfter, IsWaiting, HasEnded, HasGone};
 
+use crate::board::MOST_NOTES;
 use crate::view::{Bring, Cut, Draw, End, Ending, Glue, Learn, Look, SeatOf, Sharing, TakeEmpty};
 use crate::{Turned, Turns};
 use std::marker::Brand;
 use std::sync::Wait;
 use std::thread::yield_now;
 
-// How often a seat looks whether the lock is free before it draws a number: so often in all, and so often at first without leaving
-// the processor to others.
+// How often a seat looks whether the lock is free before it draws a number: so often in all, so often where no turn ends meanwhile,
+// and so often at first without leaving the processor to others.
 const LOOKS_BEFORE_DRAWING: u32 = 200;
+
+const LOOKS_AT_ONE_TURN: u32 = 40;
 
 const LOOKS_AT_FIRST: u32 = 20;
 
@@ -49,11 +52,23 @@ impl<T: Turned> Turns<T> {
         self.table.shared.load::<Bring<T>>(seat, 0);
     }
 
-    // Waits a while for the lock to be free. A number that a seat has drawn whose thread doesn't run holds up all behind it, so
-    // where threads are more than processors few numbers should be out. The wait ends, so each seat draws in the end.
-    fn approach(&self) {
+    /// Waits a while for the lock to be free: to be called before a turn, and before what is posted for the turns before it. A
+    /// number that a seat has drawn whose thread doesn't run holds up all behind it, so where threads are more than processors
+    /// few numbers should be out; and where a turn is long, as over a disk, who waits should have drawn one, so that the turn
+    /// may go by its note. The wait ends, so each seat draws in the end.
+    pub fn approach(&self) {
+        let mut seen = self.table.shared.peek(1);
+        let mut since = 0;
         for looks in 0..LOOKS_BEFORE_DRAWING {
-            if self.table.shared.peek(0) == self.table.shared.peek(1) {
+            let served = self.table.shared.peek(1);
+            if served == self.table.shared.peek(0) {
+                break;
+            }
+            if served != seen {
+                seen = served;
+                since = looks;
+            }
+            if looks - since >= LOOKS_AT_ONE_TURN {
                 break;
             }
             if looks >= LOOKS_AT_FIRST {
@@ -124,8 +139,20 @@ impl<T: Turned> Turns<T> {
         }
     }
 
-    // Takes the state out of the seat's slot, has it take its turn, and puts it back.
-    fn serve(&self, seat: &mut SeatOf<T>, ask: T::Ask) -> T::Reply
+    // Tells the state what was left on the board, as far as a full board goes.
+    fn tell<R: Wait>(&self, rt: &R, state: &mut T)
+        ensures { T.stand state.new ≡ T.stand state.old }
+    {
+        for _ in 0..MOST_NOTES {
+            let Some(note) = self.board.next(rt) else {
+                break;
+            };
+            state.hear(note);
+        }
+    }
+
+    // Takes the state out of the seat's slot, tells it what was left on the board, has it take its turn, and puts it back.
+    fn serve<R: Wait>(&self, rt: &R, seat: &mut SeatOf<T>, ask: T::Ask) -> T::Reply
         requires lock { seat.old.table_id ≡ self.now.id }
         requires served { (x : T) × (seat.old.me.1 ≡ (0, Some x) ∷ []) }
         ensures lock { seat.new.table_id ≡ seat.old.table_id }
@@ -137,6 +164,7 @@ impl<T: Turned> Turns<T> {
         let Some(mut state) = taken else {
             unreachable!()
         };
+        self.tell(rt, &mut state);
         let reply = state.turn(ask);
         let before = self.table.shared.exchange(seat, 0, Some(state));
         let None = before else { unreachable!() };
@@ -166,10 +194,9 @@ impl<T: Turned> Turns<T> {
         ensures share { seat.new.me.0.allowance ≡ seat.old.me.0.allowance }
         ensures turned { TakesTurn (T.own ask) (T.says result) (λ before after. T.meets before ask result after) (known self.now.id seat.old.me.0) (known self.now.id seat.new.me.0) }
     {
-        self.approach();
         let number = self.draw(seat);
         self.wait(rt, seat, number);
-        let reply = self.serve(seat, ask);
+        let reply = self.serve(rt, seat, ask);
         self.end::<Brand>(seat, &reply);
         reply
     }

@@ -28,6 +28,9 @@ pub trait Turned {
     /// What the state has a list of.
     type Entry;
 
+    /// What who waits may leave for the turns before its own.
+    type Note: Drop;
+
     /// How the state stands.
     ghost stand: { Self → Stand Self.Entry };
 
@@ -47,4 +50,8 @@ pub trait Turned {
         ensures later { (stand self.old).faults ≤ (stand self.new).faults }
         ensures rose { RoseBy (faults_in (says result)) (stand self.old).faults (stand self.new).faults }
         ensures fixed { (stand self.new).fixed ≡ (stand self.old).fixed };
+
+    /// Takes a note that was left. It changes nothing of how the state stands, so nothing that is promised rests on it.
+    fn hear(&mut self, note: Self::Note)
+        ensures { stand self.new ≡ stand self.old };
 }

@@ -3,6 +3,7 @@ ghost use Rattle.std.specs.Prelude.{◌≡◌, ◌⊎◌, ◌<◌, ◌≤◌, �
 ghost use Rattle.office_lock.specs.Passes.{IsOlder, TakesTurn, Closes};
 
 use crate::Turned;
+use crate::board::Board;
 use crate::sleepers::Sleepers;
 use crate::view::{Ticketed, View};
 use atomic_table::{Badge, Table};
@@ -34,6 +35,7 @@ impl<E> Model for Pass<E> {
 pub struct Turns<T: Turned> {
     pub(crate) table: Table<Option<T>, View<T::Entry>, u32, Ticketed<T>, Global>,
     pub(crate) sleepers: Sleepers,
+    pub(crate) board: Board<T::Note>,
 }
 
 impl<T: Turned> Model for Turns<T> {
@@ -73,10 +75,17 @@ impl<T: Turned> Turns<T> {
         let Ok(sleepers) = Sleepers::new(alloc) else {
             return Err((AllocError, state));
         };
+        let Ok(board) = Board::new(alloc) else {
+            return Err((AllocError, state));
+        };
         match Table::vacant(alloc, &[0, 0], 1, &passes) {
             Err(error) => Err((error, state)),
             Ok((table, mut seat)) => {
-                let turns = Turns { table, sleepers };
+                let turns = Turns {
+                    table,
+                    sleepers,
+                    board,
+                };
                 turns.bring(&mut seat, state);
                 Ok((
                     turns,
@@ -86,6 +95,12 @@ impl<T: Turned> Turns<T> {
                 ))
             }
         }
+    }
+
+    /// Leaves a note for the turns to come: each is told what was left before it, in the order in which it was left, and no
+    /// later turn is told it again. Where the board is full the note is dropped. Nothing that is promised rests on notes.
+    pub fn post<R: Wait>(&self, rt: &R, note: T::Note) {
+        self.board.leave(rt, note);
     }
 
     /// One turn of the state, once the pass is served. Its reply is the state's own, on a list whose older part is what
@@ -167,7 +182,11 @@ impl<T: Turned> Turns<T> {
         requires all { pass.allowance ≡ self.passes }
         ensures { Closes pass (T.stand result) }
     {
-        let Turns { table, sleepers: _ } = self;
+        let Turns {
+            table,
+            sleepers: _,
+            board: _,
+        } = self;
         let Pass { badge } = pass;
         let mut closed = table.close_with(badge.into_seat());
         let state = closed.take(0);
