@@ -7,6 +7,7 @@ use std::sync::Wait;
 pub(crate) const MOST_NOTES: usize = 128;
 
 // The board of a lock. Nothing that is proved rests on it.
+#[derive(Drop)]
 pub(crate) struct Board<N: Drop> {
     notes: ArrayQueue<N>,
 }
