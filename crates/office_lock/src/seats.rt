@@ -58,19 +58,21 @@ impl<T: Turned> Turns<T> {
     /// may go by its note. The wait ends, so each seat draws in the end.
     pub fn approach(&self) {
         let mut seen = self.table.shared.peek(1);
-        let mut since = 0;
+        let mut unchanged: u32 = 0;
         for looks in 0..LOOKS_BEFORE_DRAWING {
             let served = self.table.shared.peek(1);
             if served == self.table.shared.peek(0) {
                 break;
             }
-            if served != seen {
-                seen = served;
-                since = looks;
-            }
-            if looks - since >= LOOKS_AT_ONE_TURN {
+            unchanged = if served == seen {
+                unchanged.saturating_add(1)
+            } else {
+                0
+            };
+            if unchanged > LOOKS_AT_ONE_TURN {
                 break;
             }
+            seen = served;
             if looks >= LOOKS_AT_FIRST {
                 yield_now();
             }
