@@ -55,7 +55,7 @@ pub(crate) fn words_before(label: Label) -> &'static str
         Label::Index => "Student Aid Index, -1500 to 999999",
         Label::Ceiling => "ceiling: no award from this index on",
         Label::MustFile => "required to file a tax return",
-        Label::Barred => "a graduate, or has a bachelor's degree",
+        Label::Barred => "graduate student, or has a bachelor's degree",
         Label::AgiAndForeign => "adjusted gross income and foreign income",
         Label::Guideline => "poverty guideline, family of ",
         Label::MaximumUpTo => "maximum award up to ",

@@ -193,7 +193,7 @@ award\n\
 \x20= sum of the contributions                            5104\n\
 \x20  Student Aid Index, -1500 to 999999                  5104\n\
 \x20  required to file a tax return                        yes\n\
-\x20  a graduate, or has a bachelor's degree                no\n\
+\x20  graduate student, or has a bachelor's degree          no\n\
 \x20  adjusted gross income                              85000\n\
 \x20  poverty guideline, family of 4                     30000\n\
 \x20  maximum award up to 175 percent                    52500\n\
@@ -226,7 +226,7 @@ award\n\
 \x20= sum of the contributions                             -20\n\
 \x20  Student Aid Index, -1500 to 999999                   -20\n\
 \x20  required to file a tax return                        yes\n\
-\x20  a graduate, or has a bachelor's degree                no\n\
+\x20  graduate student, or has a bachelor's degree          no\n\
 \x20  adjusted gross income                              20000\n\
 \x20  poverty guideline, family of 1                     14580\n\
 \x20  maximum award up to 175 percent                    25515\n\
@@ -260,7 +260,7 @@ award\n\
 \x20= sum of the contributions                            -707\n\
 \x20  Student Aid Index, -1500 to 999999                  -707\n\
 \x20  required to file a tax return                        yes\n\
-\x20  a graduate, or has a bachelor's degree                no\n\
+\x20  graduate student, or has a bachelor's degree          no\n\
 \x20  adjusted gross income                              60000\n\
 \x20  poverty guideline, family of 2                     19720\n\
 \x20  maximum award up to 225 percent                    44370\n\
