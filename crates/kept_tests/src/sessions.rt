@@ -3,32 +3,57 @@ use crate::{AllNumbers, ByteForms, Rising, file_numbers};
 use aid_edges::{MemorySink, SteadySource};
 use disk_model::MemoryDisk;
 use kept_session::{CheckTally, check, found, write_report};
+use std::alloc::{AllocError, Global};
 use std::test::Fail;
 
 #[test]
 fn numbers_are_kept(rt: HostRuntime) -> Result<(), Fail> {
     let alloc = rt.alloc();
+    let (ended, disk) = founded(alloc)?;
+    assert!(rt; ended);
+    let (ended, sink, disk) = filed(alloc, disk, b"\x05\x05\x00\x09")?;
+    assert!(rt; ended);
+    let lines: &[u8] = b"kept\nrefused\nno number\nkept\n";
+    assert_eq!(rt; sink.text(), lines);
+    let (ended, sink, disk) = filed(alloc, disk, b"\x09\x0a")?;
+    assert!(rt; ended);
+    let lines: &[u8] = b"refused\nkept\n";
+    assert_eq!(rt; sink.text(), lines);
+    let (ended, sink, disk) = reported(alloc, disk);
+    assert!(rt; ended);
+    let numbers: &[u8] = b"\x05\x09\x0a";
+    assert_eq!(rt; sink.text(), numbers);
+    assert_eq!(rt; disk.image().len(), 17 + 3 * 6);
+    Ok(())
+}
+
+// A list of numbers in a new file, and whether it was founded.
+fn founded(alloc: Global) -> Result<(bool, MemoryDisk), AllocError> {
     let disk = MemoryDisk::new(alloc, Vec::new(alloc), Vec::new(alloc), None)?;
     let mut sink = MemorySink::new(alloc, Vec::new(alloc));
-    let (ended, mut disk) = found::<MemoryDisk, MemorySink, Rising>(
+    let (ended, disk) = found::<MemoryDisk, MemorySink, Rising>(
         alloc,
         disk,
         b"founded\n",
         &mut sink,
     );
-    assert!(rt; ended.is_ok());
-    let rows: [(&[u8], &[u8]); 2] = [
-        (b"\x05\x05\x00\x09", b"kept\nrefused\nno number\nkept\n"),
-        (b"\x09\x0a", b"refused\nkept\n"),
-    ];
-    for (input, text) in rows {
-        let mut source = SteadySource::new(input.to_vec(alloc)?);
-        let mut sink = MemorySink::new(alloc, Vec::new(alloc));
-        let (ended, next) = file_numbers(alloc, disk, &mut source, &mut sink);
-        assert!(rt; ended.is_ok());
-        assert_eq!(rt; sink.text(), text);
-        disk = next;
-    }
+    Ok((ended.is_ok(), disk))
+}
+
+// Files the numbers of an input: whether that ended well, and the lines.
+fn filed(
+    alloc: Global,
+    disk: MemoryDisk,
+    input: &[u8],
+) -> Result<(bool, MemorySink, MemoryDisk), AllocError> {
+    let mut source = SteadySource::new(input.to_vec(alloc)?);
+    let mut sink = MemorySink::new(alloc, Vec::new(alloc));
+    let (ended, disk) = file_numbers(alloc, disk, &mut source, &mut sink);
+    Ok((ended.is_ok(), sink, disk))
+}
+
+// Reports all numbers: whether that ended well, and the report.
+fn reported(alloc: Global, disk: MemoryDisk) -> (bool, MemorySink, MemoryDisk) {
     let mut sink = MemorySink::new(alloc, Vec::new(alloc));
     let (ended, disk) = write_report::<MemoryDisk, MemorySink, Rising, AllNumbers>(
         alloc,
@@ -36,11 +61,7 @@ fn numbers_are_kept(rt: HostRuntime) -> Result<(), Fail> {
         &AllNumbers,
         &mut sink,
     );
-    assert!(rt; ended.is_ok());
-    let numbers: &[u8] = b"\x05\x09\x0a";
-    assert_eq!(rt; sink.text(), numbers);
-    assert_eq!(rt; disk.image().len(), 17 + 3 * 6);
-    Ok(())
+    (ended.is_ok(), sink, disk)
 }
 
 #[test]
