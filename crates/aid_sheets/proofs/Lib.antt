@@ -1,4 +1,5 @@
 pub mod Ahead
+pub mod LedgerLaws
 pub mod LedgerPass
 pub mod ListLemmas
 pub mod Passed

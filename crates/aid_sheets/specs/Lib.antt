@@ -1,4 +1,5 @@
 pub mod LedgerLines
+pub mod LedgerOf
 pub mod Ledgers
 pub mod Lists
 pub mod Quotes
