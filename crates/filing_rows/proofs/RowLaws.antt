@@ -1,9 +1,9 @@
 -- The row of a filing, and the text of many, mean these filings.
-use Rattle.std.proofs.Common.{◌≡◌, ℕ, zero, suc, ◌≤◌, ℤ, Bool, true, List, [], ◌∷◌, ◌++◌, All, length, map, get_or, refl, sym, ap, ◌∙◌, append_assoc, arith}
+use Rattle.std.proofs.Common.{◌≡◌, ℕ, zero, suc, ◌≤◌, ℤ, pos, nat_le, Bool, true, List, [], ◌∷◌, ◌++◌, All, length, map, get_or, refl, sym, ap, ◌∙◌, append_assoc, arith}
 use Rattle.std.specs.Prelude.{codes, unsigned_abs, Some, Ok}
 use Rattle.std.specs.List.{list_all}
-use Rattle.std.proofs.lemmas.Bool.{and_from, and_parts}
-use Rattle.std.proofs.lemmas.List.Folds.{flat_map-map}
+use Rattle.std.proofs.lemmas.Bool.{and_from, and_parts, le-leb, leb-true}
+use Rattle.std.proofs.lemmas.List.Folds.{flat_map-map, list_all-append}
 use Rattle.csv.specs.Reading.{default_config, records, strip_bom}
 use Rattle.csv.specs.Records.{field_at}
 use Rattle.aid_books.specs.declared.book.Book.{Book as YearBook}
@@ -21,7 +21,8 @@ use Rattle.filing_kinds.proofs.Laws.{are_sound-kind, few_numbers, narrow_numbers
 use Rattle.filing_kinds.specs.Kinds.{kind_named, name_of, slots_of_kind, table_row_of, words_of_programs}
 use Rattle.filing_kinds.specs.declared.kind.Kind.{Kind}
 use Rattle.filing_kinds.specs.declared.kind.Kind.TheVariants.{Book, School, Calendar, Prior, Apply, Enrol, Originate, Pay, Withdraw, Repay, Adjust}
-use Rattle.filing_numbers.specs.Numbers.{IsFiling, kind_of, numbers_of}
+use Rattle.aid_num.specs.Whole.{whole_text}
+use Rattle.filing_numbers.specs.Numbers.{IsFiling, key_numbers, kind_of, numbers_of}
 use Rattle.filing_rows.proofs.Kept.{kept-kind, numbers_spelled}
 use Rattle.filing_rows.proofs.Plain.{cents_plain, day_plain, is_plain, whole_plain}
 use Rattle.filing_rows.proofs.ReadAgain.{as_many, is_even, numbers_again}
@@ -152,6 +153,47 @@ is_filing_row f has =
     let kind = kind_of f.what in
     ap (λ (ts : List (List ℕ)). is_row (name_of kind ∷ ts)) (texts_are f f.what has)
     ∙ is_row_of (name_of kind) (texts_of words_of_programs (slots_of_kind kind) (numbers_of f)) (name_plain kind) (numbers_plain (slots_of_kind kind) (numbers_of f)) (omega arith)
+
+-- ---- no byte of a row comes before the comma
+abbrev are_from_comma : List ℕ → Bool
+are_from_comma text = list_all (λ b. nat_le 44 b) text
+
+from_hyphen : (text : List ℕ) → is_plain text ≡ true → are_from_comma text ≡ true
+from_hyphen [] h = refl
+from_hyphen (b ∷ text) h =
+    let x = and_parts (nat_le 45 b) (is_plain text) h in
+    and_from (nat_le 44 b) (are_from_comma text) (le-leb 44 b (omega (arith, leb-true 45 b x.0))) (from_hyphen text x.1)
+
+both_from_comma : (xs ys : List ℕ) → are_from_comma xs ≡ true → are_from_comma ys ≡ true → are_from_comma (xs ++ ys) ≡ true
+both_from_comma xs ys h k = list_all-append (λ b. nat_le 44 b) xs ys ∙ and_from (are_from_comma xs) (are_from_comma ys) h k
+
+commas_from_comma : (texts : List (List ℕ)) → are_plain texts ≡ true → are_from_comma (behind_commas texts) ≡ true
+commas_from_comma [] h = refl
+commas_from_comma (text ∷ texts) h =
+    let x = and_parts (is_plain text) (are_plain texts) h in
+    both_from_comma text (behind_commas texts) (from_hyphen text x.0) (commas_from_comma texts x.1)
+
+wholes_plain : (zs : List ℤ) → are_plain (map whole_text zs) ≡ true
+wholes_plain [] = refl
+wholes_plain (z ∷ zs) = and_from (is_plain (whole_text z)) (are_plain (map whole_text zs)) (whole_plain z) (wholes_plain zs)
+
+behind_plain : (f : Filing) (what : What) → are_plain (texts_behind f what) ≡ true
+behind_plain f (what_is.Book b) = wholes_plain (key_numbers f.key ++ pos b.year ∷ [])
+behind_plain f (what_is.School x) = numbers_plain (slots_of_kind (kind_of (what_is.School x))) (numbers_of f)
+behind_plain f (what_is.Calendar x) = numbers_plain (slots_of_kind (kind_of (what_is.Calendar x))) (numbers_of f)
+behind_plain f (what_is.Prior x) = numbers_plain (slots_of_kind (kind_of (what_is.Prior x))) (numbers_of f)
+behind_plain f (what_is.Apply x) = numbers_plain (slots_of_kind (kind_of (what_is.Apply x))) (numbers_of f)
+behind_plain f (what_is.Enrol x) = numbers_plain (slots_of_kind (kind_of (what_is.Enrol x))) (numbers_of f)
+behind_plain f (what_is.Originate x) = numbers_plain (slots_of_kind (kind_of (what_is.Originate x))) (numbers_of f)
+behind_plain f (what_is.Pay x) = numbers_plain (slots_of_kind (kind_of (what_is.Pay x))) (numbers_of f)
+behind_plain f (what_is.Withdraw x) = numbers_plain (slots_of_kind (kind_of (what_is.Withdraw x))) (numbers_of f)
+behind_plain f (what_is.Repay x) = numbers_plain (slots_of_kind (kind_of (what_is.Repay x))) (numbers_of f)
+behind_plain f (what_is.Adjust x) = numbers_plain (slots_of_kind (kind_of (what_is.Adjust x))) (numbers_of f)
+
+pub row_from_comma : (f : Filing) → list_all (λ b. nat_le 44 b) (row_text f) ≡ true
+row_from_comma f =
+    both_from_comma (name_of (kind_of f.what)) (behind_commas (texts_behind f f.what)) (from_hyphen (name_of (kind_of f.what)) (name_plain (kind_of f.what)))
+    (commas_from_comma (texts_behind f f.what) (behind_plain f f.what))
 
 -- ---- the text of rows
 abbrev pub has_row : Filing → Bool

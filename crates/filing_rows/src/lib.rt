@@ -5,5 +5,5 @@ mod field;
 mod laws;
 mod row;
 
-pub use laws::rows_read_back;
+pub use laws::{rows_are_words, rows_read_back};
 pub use row::put_row;
