@@ -7,14 +7,15 @@ use Rattle.aid_types.specs.Ranges.{IsBetween}
 use Rattle.run_words.specs.Words.{ReadsReport}
 use Rattle.run_words.specs.declared.command.ReportRequest.{ReportRequest}
 use Rattle.run_words.proofs.WordsLemmas.{same_report}
-use Rattle.run_sheets.specs.Words.{ReadsPosition, ReadsRequest, ReadsRow, request_words, sheet_words, upto_words}
+use Rattle.run_sheets.specs.Words.{ReadsPosition, ReadsRequest, ReadsRow, ReadsTerm, request_words, sheet_words, term_words, upto_words}
 use Rattle.run_sheets.specs.declared.request.NeedRequest.{NeedRequest}
 use Rattle.run_sheets.specs.declared.request.Position.{Position}
-use Rattle.run_sheets.specs.declared.request.QuotesRequest.{QuotesRequest}
 use Rattle.run_sheets.specs.declared.request.SheetRequest.{SheetRequest}
 use Rattle.run_sheets.specs.declared.request.SheetRequest.TheVariants as sheets
 use Rattle.run_sheets.specs.declared.request.SheetRow.{SheetRow}
 use Rattle.run_sheets.specs.declared.request.StudentRequest.{StudentRequest}
+use Rattle.run_sheets.specs.declared.request.TermRequest.{TermRequest}
+use Rattle.run_sheets.specs.declared.request.WithdrawalRequest.{WithdrawalRequest}
 
 -- a word spells one number at most
 same_number : (m n : ℕ) → m ≤ 999999999999 → n ≤ 999999999999 → decimal m ≡ decimal n → m ≡ n
@@ -34,14 +35,25 @@ same_need x y student year =
     let years = same_number x.year y.year (omega (arith, x.in_range)) (omega (arith, y.in_range)) year in
     same_with_fact P make (λ b. hlevel (le_prop)) (x.student, x.year) (y.student, y.year) x.in_range y.in_range (λ i. (students i, years i))
 
-same_quotes : (x y : QuotesRequest) → decimal x.school ≡ decimal y.school → decimal x.year ≡ decimal y.year → decimal x.term ≡ decimal y.term → x ≡ y
-same_quotes x y school year term =
+same_term : (x y : TermRequest) → decimal x.school ≡ decimal y.school → decimal x.year ≡ decimal y.year → decimal x.term ≡ decimal y.term → x ≡ y
+same_term x y school year term =
     let P : ℕ × (ℕ × ℕ) → Type 0 = λ b. IsBetween 1 999999 b.0 × IsBetween 2000 2099 b.1.0 × IsBetween 1 8 b.1.1 in
-    let make : (b : ℕ × (ℕ × ℕ)) → P b → QuotesRequest = λ b p. record { school = b.0; year = b.1.0; term = b.1.1; in_range = p } in
+    let make : (b : ℕ × (ℕ × ℕ)) → P b → TermRequest = λ b p. record { school = b.0; year = b.1.0; term = b.1.1; in_range = p } in
     let schools = same_number x.school y.school (omega (arith, x.in_range)) (omega (arith, y.in_range)) school in
     let years = same_number x.year y.year (omega (arith, x.in_range)) (omega (arith, y.in_range)) year in
     let terms = same_number x.term y.term (omega (arith, x.in_range)) (omega (arith, y.in_range)) term in
     same_with_fact P make (λ b. hlevel (le_prop)) (x.school, (x.year, x.term)) (y.school, (y.year, y.term)) x.in_range y.in_range (λ i. (schools i, (years i, terms i)))
+
+same_withdrawal : (x y : WithdrawalRequest) → decimal x.school ≡ decimal y.school → decimal x.student ≡ decimal y.student → decimal x.year ≡ decimal y.year → decimal x.term ≡ decimal y.term → x ≡ y
+same_withdrawal x y school student year term =
+    let P : (ℕ × ℕ) × (ℕ × ℕ) → Type 0 = λ b. (IsBetween 1 999999 b.0.0 × IsBetween 1 999999999999 b.0.1) × (IsBetween 2000 2099 b.1.0 × IsBetween 1 8 b.1.1) in
+    let make : (b : (ℕ × ℕ) × (ℕ × ℕ)) → P b → WithdrawalRequest = λ b p. record { school = b.0.0; student = b.0.1; year = b.1.0; term = b.1.1; in_range = p } in
+    let schools = same_number x.school y.school (omega (arith, x.in_range)) (omega (arith, y.in_range)) school in
+    let students = same_number x.student y.student (omega (arith, x.in_range)) (omega (arith, y.in_range)) student in
+    let years = same_number x.year y.year (omega (arith, x.in_range)) (omega (arith, y.in_range)) year in
+    let terms = same_number x.term y.term (omega (arith, x.in_range)) (omega (arith, y.in_range)) term in
+    same_with_fact P make (λ b. hlevel (le_prop)) ((x.school, x.student), (x.year, x.term)) ((y.school, y.student), (y.year, y.term)) x.in_range y.in_range
+    (λ i. ((schools i, students i), (years i, terms i)))
 
 -- words that begin with other letters are others
 abbrev first_letter : List (List ℕ) → ℕ
@@ -49,6 +61,14 @@ first_letter words = get_or (get_or words 0 []) 0 0
 
 apart : {A : Type 0} (one other : List (List ℕ)) → one ≡ other → (first_letter one ≡ first_letter other → ⊥) → A
 apart one other e differ = absurd (differ (ap first_letter e))
+
+-- words of a term are those of one at most
+same_terms : (x y : TermRequest) → term_words x ≡ term_words y → x ≡ y
+same_terms x y e =
+    let school : decimal x.school ≡ decimal y.school = cc in
+    let year : decimal x.year ≡ decimal y.year = cc in
+    let term : decimal x.term ≡ decimal y.term = cc in
+    same_term x y school year term
 
 -- words are those of one request at most
 same_request : (x y : SheetRequest) → request_words x ≡ request_words y → x ≡ y
@@ -58,36 +78,97 @@ same_request (sheets.Need x) (sheets.Need y) e =
     let student : decimal x.student ≡ decimal y.student = cc in
     let year : decimal x.year ≡ decimal y.year = cc in
     ap sheets.Need (same_need x y student year)
-same_request (sheets.Quotes x) (sheets.Quotes y) e =
+same_request (sheets.Quotes x) (sheets.Quotes y) e = ap sheets.Quotes (same_terms x y cc)
+same_request (sheets.Payments x) (sheets.Payments y) e = ap sheets.Payments (same_terms x y cc)
+same_request (sheets.Withdrawal x) (sheets.Withdrawal y) e =
     let school : decimal x.school ≡ decimal y.school = cc in
+    let student : decimal x.student ≡ decimal y.student = cc in
     let year : decimal x.year ≡ decimal y.year = cc in
     let term : decimal x.term ≡ decimal y.term = cc in
-    ap sheets.Quotes (same_quotes x y school year term)
+    ap sheets.Withdrawal (same_withdrawal x y school student year term)
 same_request (sheets.Report x) (sheets.Report y) e = ap sheets.Report (same_report x y cc)
 same_request sheets.List (sheets.Student y) e = apart (request_words sheets.List) (request_words (sheets.Student y)) e (λ is. omega (arith, is))
 same_request sheets.List (sheets.Need y) e = apart (request_words sheets.List) (request_words (sheets.Need y)) e (λ is. omega (arith, is))
 same_request sheets.List (sheets.Quotes y) e = apart (request_words sheets.List) (request_words (sheets.Quotes y)) e (λ is. omega (arith, is))
+same_request sheets.List (sheets.Payments y) e = apart (request_words sheets.List) (request_words (sheets.Payments y)) e (λ is. omega (arith, is))
+same_request sheets.List (sheets.Withdrawal y) e = apart (request_words sheets.List) (request_words (sheets.Withdrawal y)) e (λ is. omega (arith, is))
 same_request sheets.List (sheets.Report y) e = apart (request_words sheets.List) (request_words (sheets.Report y)) e (λ is. omega (arith, is))
 same_request (sheets.Student x) sheets.List e = apart (request_words (sheets.Student x)) (request_words sheets.List) e (λ is. omega (arith, is))
 same_request (sheets.Student x) (sheets.Need y) e = apart (request_words (sheets.Student x)) (request_words (sheets.Need y)) e (λ is. omega (arith, is))
 same_request (sheets.Student x) (sheets.Quotes y) e = apart (request_words (sheets.Student x)) (request_words (sheets.Quotes y)) e (λ is. omega (arith, is))
+same_request (sheets.Student x) (sheets.Payments y) e = apart (request_words (sheets.Student x)) (request_words (sheets.Payments y)) e (λ is. omega (arith, is))
+same_request (sheets.Student x) (sheets.Withdrawal y) e = apart (request_words (sheets.Student x)) (request_words (sheets.Withdrawal y)) e (λ is. omega (arith, is))
 same_request (sheets.Student x) (sheets.Report y) e = apart (request_words (sheets.Student x)) (request_words (sheets.Report y)) e (λ is. omega (arith, is))
 same_request (sheets.Need x) sheets.List e = apart (request_words (sheets.Need x)) (request_words sheets.List) e (λ is. omega (arith, is))
 same_request (sheets.Need x) (sheets.Student y) e = apart (request_words (sheets.Need x)) (request_words (sheets.Student y)) e (λ is. omega (arith, is))
 same_request (sheets.Need x) (sheets.Quotes y) e = apart (request_words (sheets.Need x)) (request_words (sheets.Quotes y)) e (λ is. omega (arith, is))
+same_request (sheets.Need x) (sheets.Payments y) e = apart (request_words (sheets.Need x)) (request_words (sheets.Payments y)) e (λ is. omega (arith, is))
+same_request (sheets.Need x) (sheets.Withdrawal y) e = apart (request_words (sheets.Need x)) (request_words (sheets.Withdrawal y)) e (λ is. omega (arith, is))
 same_request (sheets.Need x) (sheets.Report y) e = apart (request_words (sheets.Need x)) (request_words (sheets.Report y)) e (λ is. omega (arith, is))
 same_request (sheets.Quotes x) sheets.List e = apart (request_words (sheets.Quotes x)) (request_words sheets.List) e (λ is. omega (arith, is))
 same_request (sheets.Quotes x) (sheets.Student y) e = apart (request_words (sheets.Quotes x)) (request_words (sheets.Student y)) e (λ is. omega (arith, is))
 same_request (sheets.Quotes x) (sheets.Need y) e = apart (request_words (sheets.Quotes x)) (request_words (sheets.Need y)) e (λ is. omega (arith, is))
+same_request (sheets.Quotes x) (sheets.Payments y) e = apart (request_words (sheets.Quotes x)) (request_words (sheets.Payments y)) e (λ is. omega (arith, is))
+same_request (sheets.Quotes x) (sheets.Withdrawal y) e = apart (request_words (sheets.Quotes x)) (request_words (sheets.Withdrawal y)) e (λ is. omega (arith, is))
 same_request (sheets.Quotes x) (sheets.Report y) e = apart (request_words (sheets.Quotes x)) (request_words (sheets.Report y)) e (λ is. omega (arith, is))
+same_request (sheets.Payments x) sheets.List e = apart (request_words (sheets.Payments x)) (request_words sheets.List) e (λ is. omega (arith, is))
+same_request (sheets.Payments x) (sheets.Student y) e = apart (request_words (sheets.Payments x)) (request_words (sheets.Student y)) e (λ is. omega (arith, is))
+same_request (sheets.Payments x) (sheets.Need y) e = apart (request_words (sheets.Payments x)) (request_words (sheets.Need y)) e (λ is. omega (arith, is))
+same_request (sheets.Payments x) (sheets.Quotes y) e = apart (request_words (sheets.Payments x)) (request_words (sheets.Quotes y)) e (λ is. omega (arith, is))
+same_request (sheets.Payments x) (sheets.Withdrawal y) e = apart (request_words (sheets.Payments x)) (request_words (sheets.Withdrawal y)) e (λ is. omega (arith, is))
+same_request (sheets.Payments x) (sheets.Report y) e = apart (request_words (sheets.Payments x)) (request_words (sheets.Report y)) e (λ is. omega (arith, is))
+same_request (sheets.Withdrawal x) sheets.List e = apart (request_words (sheets.Withdrawal x)) (request_words sheets.List) e (λ is. omega (arith, is))
+same_request (sheets.Withdrawal x) (sheets.Student y) e = apart (request_words (sheets.Withdrawal x)) (request_words (sheets.Student y)) e (λ is. omega (arith, is))
+same_request (sheets.Withdrawal x) (sheets.Need y) e = apart (request_words (sheets.Withdrawal x)) (request_words (sheets.Need y)) e (λ is. omega (arith, is))
+same_request (sheets.Withdrawal x) (sheets.Quotes y) e = apart (request_words (sheets.Withdrawal x)) (request_words (sheets.Quotes y)) e (λ is. omega (arith, is))
+same_request (sheets.Withdrawal x) (sheets.Payments y) e = apart (request_words (sheets.Withdrawal x)) (request_words (sheets.Payments y)) e (λ is. omega (arith, is))
+same_request (sheets.Withdrawal x) (sheets.Report y) e = apart (request_words (sheets.Withdrawal x)) (request_words (sheets.Report y)) e (λ is. omega (arith, is))
 same_request (sheets.Report x) sheets.List e = apart (request_words (sheets.Report x)) (request_words sheets.List) e (λ is. omega (arith, is))
 same_request (sheets.Report x) (sheets.Student y) e = apart (request_words (sheets.Report x)) (request_words (sheets.Student y)) e (λ is. omega (arith, is))
 same_request (sheets.Report x) (sheets.Need y) e = apart (request_words (sheets.Report x)) (request_words (sheets.Need y)) e (λ is. omega (arith, is))
 same_request (sheets.Report x) (sheets.Quotes y) e = apart (request_words (sheets.Report x)) (request_words (sheets.Quotes y)) e (λ is. omega (arith, is))
+same_request (sheets.Report x) (sheets.Payments y) e = apart (request_words (sheets.Report x)) (request_words (sheets.Payments y)) e (λ is. omega (arith, is))
+same_request (sheets.Report x) (sheets.Withdrawal y) e = apart (request_words (sheets.Report x)) (request_words (sheets.Withdrawal y)) e (λ is. omega (arith, is))
 
 -- the words of a request are read as it
 pub reads_request : (words : List (List ℕ)) (r : SheetRequest) → words ≡ request_words r → ReadsRequest words (Some r)
 reads_request words r is other = (λ same. let at : r ≡ other = cc in is ∙ ap request_words at, λ told. ap Some (same_request r other (sym is ∙ told)))
+
+-- the words of a term are read as it
+pub reads_term : (words : List (List ℕ)) (t : TermRequest) → words ≡ term_words t → ReadsTerm words (Some t)
+reads_term words t is other = (λ same. let at : t ≡ other = cc in is ∙ ap term_words at, λ told. ap Some (same_terms t other (sym is ∙ told)))
+
+-- quotes behind their name
+pub reads_quotes : (words : List (List ℕ)) (term : TermRequest) → ReadsTerm words (Some term) → ReadsRequest (codes "quotes" ∷ words) (Some (sheets.Quotes term))
+reads_quotes words term reads = reads_request (codes "quotes" ∷ words) (sheets.Quotes term) (ap (λ ws. codes "quotes" ∷ ws) ((reads term).0 refl))
+
+pub reads_no_quotes : (words : List (List ℕ)) → ReadsTerm words None → ReadsRequest (codes "quotes" ∷ words) None
+reads_no_quotes words reads r = (λ same. absurd cc, λ told. absurd (none r told))
+  where
+    none : (r : SheetRequest) → codes "quotes" ∷ words ≡ request_words r → ⊥
+    none sheets.List told = apart (codes "quotes" ∷ words) (request_words sheets.List) told (λ is. omega (arith, is))
+    none (sheets.Student of) told = apart (codes "quotes" ∷ words) (request_words (sheets.Student of)) told (λ is. omega (arith, is))
+    none (sheets.Need of) told = apart (codes "quotes" ∷ words) (request_words (sheets.Need of)) told (λ is. omega (arith, is))
+    none (sheets.Quotes of) told = let bad : None ≡ Some of = (reads of).1 cc in cc
+    none (sheets.Payments of) told = apart (codes "quotes" ∷ words) (request_words (sheets.Payments of)) told (λ is. omega (arith, is))
+    none (sheets.Withdrawal of) told = apart (codes "quotes" ∷ words) (request_words (sheets.Withdrawal of)) told (λ is. omega (arith, is))
+    none (sheets.Report of) told = apart (codes "quotes" ∷ words) (request_words (sheets.Report of)) told (λ is. omega (arith, is))
+
+-- payments behind theirs
+pub reads_payments : (words : List (List ℕ)) (term : TermRequest) → ReadsTerm words (Some term) → ReadsRequest (codes "payments" ∷ words) (Some (sheets.Payments term))
+reads_payments words term reads = reads_request (codes "payments" ∷ words) (sheets.Payments term) (ap (λ ws. codes "payments" ∷ ws) ((reads term).0 refl))
+
+pub reads_no_payments : (words : List (List ℕ)) → ReadsTerm words None → ReadsRequest (codes "payments" ∷ words) None
+reads_no_payments words reads r = (λ same. absurd cc, λ told. absurd (none r told))
+  where
+    none : (r : SheetRequest) → codes "payments" ∷ words ≡ request_words r → ⊥
+    none sheets.List told = apart (codes "payments" ∷ words) (request_words sheets.List) told (λ is. omega (arith, is))
+    none (sheets.Student of) told = apart (codes "payments" ∷ words) (request_words (sheets.Student of)) told (λ is. omega (arith, is))
+    none (sheets.Need of) told = apart (codes "payments" ∷ words) (request_words (sheets.Need of)) told (λ is. omega (arith, is))
+    none (sheets.Quotes of) told = apart (codes "payments" ∷ words) (request_words (sheets.Quotes of)) told (λ is. omega (arith, is))
+    none (sheets.Payments of) told = let bad : None ≡ Some of = (reads of).1 cc in cc
+    none (sheets.Withdrawal of) told = apart (codes "payments" ∷ words) (request_words (sheets.Withdrawal of)) told (λ is. omega (arith, is))
+    none (sheets.Report of) told = apart (codes "payments" ∷ words) (request_words (sheets.Report of)) told (λ is. omega (arith, is))
 
 -- a report behind its name
 pub reads_report : (words : List (List ℕ)) (report : ReportRequest) → ReadsReport words (Some report) → ReadsRequest (codes "report" ∷ words) (Some (sheets.Report report))
@@ -101,7 +182,9 @@ reads_no_report words reads r = (λ same. absurd cc, λ told. absurd (none r tol
     none (sheets.Student of) told = apart (codes "report" ∷ words) (request_words (sheets.Student of)) told (λ is. omega (arith, is))
     none (sheets.Need of) told = apart (codes "report" ∷ words) (request_words (sheets.Need of)) told (λ is. omega (arith, is))
     none (sheets.Quotes of) told = apart (codes "report" ∷ words) (request_words (sheets.Quotes of)) told (λ is. omega (arith, is))
-    none (sheets.Report report) told = let bad : None ≡ Some report = (reads report).1 cc in cc
+    none (sheets.Payments of) told = apart (codes "report" ∷ words) (request_words (sheets.Payments of)) told (λ is. omega (arith, is))
+    none (sheets.Withdrawal of) told = apart (codes "report" ∷ words) (request_words (sheets.Withdrawal of)) told (λ is. omega (arith, is))
+    none (sheets.Report of) told = let bad : None ≡ Some of = (reads of).1 cc in cc
 
 -- ---- rows
 abbrev row_of : Option Position → SheetRequest → SheetRow
@@ -116,6 +199,8 @@ not_upto r rest e = letters r (ap (λ (words : List (List ℕ)). get_or (get_or 
     letters (sheets.Student of) is = omega (arith, is)
     letters (sheets.Need of) is = omega (arith, is)
     letters (sheets.Quotes of) is = omega (arith, is)
+    letters (sheets.Payments of) is = omega (arith, is)
+    letters (sheets.Withdrawal of) is = omega (arith, is)
     letters (sheets.Report report) is = omega (arith, is)
 
 -- words are those of one position at most
@@ -163,6 +248,8 @@ no_words = no_row [] none
     none None (sheets.Student of) told = cc
     none None (sheets.Need of) told = cc
     none None (sheets.Quotes of) told = cc
+    none None (sheets.Payments of) told = cc
+    none None (sheets.Withdrawal of) told = cc
     none None (sheets.Report report) told = cc
     none (Some n) r told = cc
 

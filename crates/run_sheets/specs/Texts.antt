@@ -5,8 +5,10 @@ use Rattle.aid_reports.specs.Reports.{award_report, lifetime_report, return_repo
 use Rattle.aid_sheets.specs.Ledgers.{student_sheet}
 use Rattle.aid_sheets.specs.Lists.{list_sheet}
 use Rattle.need_worksheet.specs.Need.{need_sheet}
+use Rattle.aid_sheets.specs.Payments.{payments_sheet}
 use Rattle.aid_sheets.specs.Quotes.{quotes_sheet}
 use Rattle.export_lines.specs.Exports.{export_text}
+use Rattle.return_worksheet.specs.ReturnSheet.{return_sheet}
 use Rattle.run_words.specs.declared.command.ReportRequest.{ReportRequest}
 use Rattle.run_words.specs.declared.command.ReportRequest.TheVariants as reports
 use Rattle.stamped_list.specs.Entries.{entries, stamps_of}
@@ -32,6 +34,8 @@ sheet_on sheets.List past stamps = list_sheet past stamps
 sheet_on (sheets.Student of) past stamps = student_sheet of.student past stamps
 sheet_on (sheets.Need of) past stamps = need_sheet past of.student of.year
 sheet_on (sheets.Quotes of) past stamps = quotes_sheet past of.school of.year of.term
+sheet_on (sheets.Payments of) past stamps = payments_sheet of.school of.year of.term past stamps
+sheet_on (sheets.Withdrawal of) past stamps = return_sheet past of.school of.student of.year of.term
 sheet_on (sheets.Report report) past stamps = report_on report past stamps
 
 -- the text of a request on a list

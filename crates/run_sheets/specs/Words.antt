@@ -5,14 +5,21 @@ use Rattle.run_sheets.specs.declared.request.Position.{Position}
 use Rattle.run_sheets.specs.declared.request.SheetRequest.{SheetRequest}
 use Rattle.run_sheets.specs.declared.request.SheetRequest.TheVariants as sheets
 use Rattle.run_sheets.specs.declared.request.SheetRow.{SheetRow}
+use Rattle.run_sheets.specs.declared.request.TermRequest.{TermRequest}
 
--- the words of a request: `list`, `student STUDENT`, `need STUDENT YEAR`, `quotes SCHOOL YEAR TERM`, or a report as the aid office has
--- it
+-- the words of a term of a school: `SCHOOL YEAR TERM`
+abbrev pub term_words : TermRequest → List (List ℕ)
+term_words of = decimal of.school ∷ decimal of.year ∷ decimal of.term ∷ []
+
+-- the words of a request: `list`, `student STUDENT`, `need STUDENT YEAR`, `quotes SCHOOL YEAR TERM`, `payments SCHOOL YEAR TERM`,
+-- `withdrawal SCHOOL STUDENT YEAR TERM`, or a report as the aid office has it
 abbrev pub request_words : SheetRequest → List (List ℕ)
 request_words sheets.List = codes "list" ∷ []
 request_words (sheets.Student of) = codes "student" ∷ decimal of.student ∷ []
 request_words (sheets.Need of) = codes "need" ∷ decimal of.student ∷ decimal of.year ∷ []
-request_words (sheets.Quotes of) = codes "quotes" ∷ decimal of.school ∷ decimal of.year ∷ decimal of.term ∷ []
+request_words (sheets.Quotes of) = codes "quotes" ∷ term_words of
+request_words (sheets.Payments of) = codes "payments" ∷ term_words of
+request_words (sheets.Withdrawal of) = codes "withdrawal" ∷ decimal of.school ∷ decimal of.student ∷ decimal of.year ∷ decimal of.term ∷ []
 request_words (sheets.Report report) = codes "report" ∷ report_words report
 
 -- the words in front of it, where the list is taken up to a position: `upto POSITION`
@@ -28,7 +35,11 @@ sheet_words row = upto_words row.upto ++ request_words row.request
 abbrev pub ReadsRequest : List (List ℕ) → Option SheetRequest → Type 0
 ReadsRequest words read = (request : SheetRequest) → (read ≡ Some request) ↔ (words ≡ request_words request)
 
--- the same of a position
+-- the same of a term
+abbrev pub ReadsTerm : List (List ℕ) → Option TermRequest → Type 0
+ReadsTerm words read = (term : TermRequest) → (read ≡ Some term) ↔ (words ≡ term_words term)
+
+-- of a position
 abbrev pub ReadsPosition : List ℕ → Option Position → Type 0
 ReadsPosition word read = (position : Position) → (read ≡ Some position) ↔ (word ≡ decimal position.number)
 

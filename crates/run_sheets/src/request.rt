@@ -19,13 +19,23 @@ pub struct NeedRequest {
     pub ghost in_range: { IsBetween 1 999999999999 student × IsBetween 2000 2099 year },
 }
 
-/// The term of a school whose quotes are asked for: the school is 1 to 999,999, the year 2000 to 2099, the term 1 to 8.
+/// The term of a school whose quotes or payments are asked for: the school is 1 to 999,999, the year 2000 to 2099, the term 1 to 8.
 #[derive(Clone, Copy)]
-pub struct QuotesRequest {
+pub struct TermRequest {
     pub school: School,
     pub year: Year,
     pub term: u8,
     pub ghost in_range: { IsBetween 1 999999 school × IsBetween 2000 2099 year × IsBetween 1 8 term },
+}
+
+/// The student's term whose withdrawal is asked for, in the ranges of the others.
+#[derive(Clone, Copy)]
+pub struct WithdrawalRequest {
+    pub school: School,
+    pub student: Student,
+    pub year: Year,
+    pub term: u8,
+    pub ghost in_range: { (IsBetween 1 999999 school × IsBetween 1 999999999999 student) × (IsBetween 2000 2099 year × IsBetween 1 8 term) },
 }
 
 /// The sheet that is asked for.
@@ -38,7 +48,11 @@ pub enum SheetRequest {
     /// `need STUDENT YEAR`: how the index and the award of a student in a year came about.
     Need(NeedRequest),
     /// `quotes SCHOOL YEAR TERM`: what the students of a term could be paid of Pell.
-    Quotes(QuotesRequest),
+    Quotes(TermRequest),
+    /// `payments SCHOOL YEAR TERM`: what moved of each program in a term, with running totals.
+    Payments(TermRequest),
+    /// `withdrawal SCHOOL STUDENT YEAR TERM`: the worksheet of a return of funds.
+    Withdrawal(WithdrawalRequest),
     /// `report standing YEAR`, and the other reports of the aid office.
     Report(ReportRequest),
 }

@@ -4,11 +4,12 @@ ghost use Rattle.run_sheets.specs.Texts.{report_on, sheet_on};
 
 use crate::request::{SheetRequest, SheetRow};
 use aid_reports::{awards, export, lifetimes, returns, stamp_lines, standings};
-use aid_sheets::{front_of, list, quotes, student};
+use aid_sheets::{front_of, list, payments, quotes, student};
 use kept_office::StampedOffice;
 use kept_session::Report;
 use need_worksheet::need;
 use office_core::Office;
+use return_worksheet::withdrawal;
 use run_words::ReportRequest;
 use stamps::Stamp;
 use std::alloc::{AllocError, Global};
@@ -81,6 +82,10 @@ fn sheet(
         SheetRequest::Student(of) => student(alloc, office, stamps, of.student),
         SheetRequest::Need(of) => need(alloc, office, of.student, of.year),
         SheetRequest::Quotes(of) => quotes(alloc, office, of.school, of.year, of.term),
+        SheetRequest::Payments(of) => payments(alloc, office, stamps, of.school, of.year, of.term),
+        SheetRequest::Withdrawal(of) => {
+            withdrawal(alloc, office, of.school, of.student, of.year, of.term)
+        }
         SheetRequest::Report(request) => report(alloc, request, office, stamps),
     }
 }

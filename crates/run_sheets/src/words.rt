@@ -1,10 +1,10 @@
 //! The row that words are. It takes no memory.
 ghost use Rattle.std.specs.Prelude.{◌≡◌, ◌≢◌, ◌↔◌, ◌∷◌, [], IsTrue, MatchOption, codes, decimal, length, map, string_bytes};
 ghost use Rattle.run_words.specs.Words.{ReadsReport};
-ghost use Rattle.run_sheets.specs.Words.{ReadsPosition, ReadsRequest, ReadsRow};
+ghost use Rattle.run_sheets.specs.Words.{ReadsPosition, ReadsRequest, ReadsRow, ReadsTerm};
 
 use crate::request::{
-    NeedRequest, Position, QuotesRequest, SheetRequest, SheetRow, StudentRequest,
+    NeedRequest, Position, SheetRequest, SheetRow, StudentRequest, TermRequest, WithdrawalRequest,
 };
 use aid_types::{School, Student, Year};
 use run_words::{ReportRequest, number_in, report_request};
@@ -120,6 +120,24 @@ fn other_request(name: &str, behind: &[String]) -> Option<SheetRequest>
 {
     if is_same_word(name, "quotes") {
         read_quotes(behind)
+    } else if is_same_word(name, "payments") {
+        read_payments(behind)
+    } else {
+        last_request(name, behind)
+    }
+}
+
+// And of those that are left then.
+fn last_request(name: &str, behind: &[String]) -> Option<SheetRequest>
+    requires not_list { name.now ≢ codes "list" }
+    requires not_student { name.now ≢ codes "student" }
+    requires not_need { name.now ≢ codes "need" }
+    requires not_quotes { name.now ≢ codes "quotes" }
+    requires not_payments { name.now ≢ codes "payments" }
+    ensures { ReadsRequest (name.now ∷ map string_bytes behind.now) result }
+{
+    if is_same_word(name, "withdrawal") {
+        read_withdrawal(behind)
     } else if is_same_word(name, "report") {
         read_report(behind)
     } else {
@@ -160,6 +178,18 @@ fn three_words(words: &[String]) -> Option<(&str, &str, &str)>
 {
     match words {
         [one, two, three] => Some((one.as_str(), two.as_str(), three.as_str())),
+        _ => None,
+    }
+}
+
+// The words, where there are four.
+fn four_words(words: &[String]) -> Option<(&str, &str, &str, &str)>
+    ensures { MatchOption result (length (map string_bytes words.now) ≢ 4) (λ r. map string_bytes words.now ≡ r.0.now ∷ r.1.now ∷ r.2.now ∷ r.3.now ∷ []) }
+{
+    match words {
+        [one, two, three, four] => {
+            Some((one.as_str(), two.as_str(), three.as_str(), four.as_str()))
+        }
         _ => None,
     }
 }
@@ -211,15 +241,54 @@ fn need_request(student: &str, year: &str) -> Option<SheetRequest>
 fn read_quotes(behind: &[String]) -> Option<SheetRequest>
     ensures { ReadsRequest (codes "quotes" ∷ map string_bytes behind.now) result }
 {
-    let (school, year, term) = three_words(behind)?;
-    quotes_request(school, year, term)
+    match term_of(behind) {
+        Some(term) => Some(SheetRequest::Quotes(term)),
+        None => None,
+    }
 }
 
-fn quotes_request(school: &str, year: &str, term: &str) -> Option<SheetRequest>
-    ensures { ReadsRequest (codes "quotes" ∷ school.now ∷ year.now ∷ term.now ∷ []) result }
+// Its payments.
+fn read_payments(behind: &[String]) -> Option<SheetRequest>
+    ensures { ReadsRequest (codes "payments" ∷ map string_bytes behind.now) result }
 {
-    Some(SheetRequest::Quotes(QuotesRequest {
+    match term_of(behind) {
+        Some(term) => Some(SheetRequest::Payments(term)),
+        None => None,
+    }
+}
+
+// The term of a school that the words are.
+fn term_of(words: &[String]) -> Option<TermRequest>
+    ensures { ReadsTerm (map string_bytes words.now) result }
+{
+    let (school, year, term) = three_words(words)?;
+    term_request(school, year, term)
+}
+
+fn term_request(school: &str, year: &str, term: &str) -> Option<TermRequest>
+    ensures { ReadsTerm (school.now ∷ year.now ∷ term.now ∷ []) result }
+{
+    Some(TermRequest {
         school: School(number_in(school, 1, 999_999)? as u32),
+        year: Year(number_in(year, 2000, 2099)? as u16),
+        term: number_in(term, 1, 8)? as u8,
+    })
+}
+
+// The withdrawal of a student from a term of a school.
+fn read_withdrawal(behind: &[String]) -> Option<SheetRequest>
+    ensures { ReadsRequest (codes "withdrawal" ∷ map string_bytes behind.now) result }
+{
+    let (school, student, year, term) = four_words(behind)?;
+    withdrawal_request(school, student, year, term)
+}
+
+fn withdrawal_request(school: &str, student: &str, year: &str, term: &str) -> Option<SheetRequest>
+    ensures { ReadsRequest (codes "withdrawal" ∷ school.now ∷ student.now ∷ year.now ∷ term.now ∷ []) result }
+{
+    Some(SheetRequest::Withdrawal(WithdrawalRequest {
+        school: School(number_in(school, 1, 999_999)? as u32),
+        student: Student(number_in(student, 1, 999_999_999_999)?),
         year: Year(number_in(year, 2000, 2099)? as u16),
         term: number_in(term, 1, 8)? as u8,
     }))
