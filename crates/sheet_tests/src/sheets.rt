@@ -54,6 +54,25 @@ fn a_worked_year(rt: HostRuntime) -> Result<(), Fail> {
         "upto 10 quotes 110 2025 1",
         0,
         FIRST_QUOTES,
+    )?;
+    assert_sheet(&rt, alloc, image, "payments 120 2025 2", 0, PAYMENTS)?;
+    assert_sheet(&rt, alloc, image, "withdrawal 120 5001 2025 2", 0, RETURN)
+}
+
+// A term in which money of each kind moves, and what is still owed before a student repays.
+#[test]
+fn a_term_of_every_kind(rt: HostRuntime) -> Result<(), Fail> {
+    let alloc = rt.alloc();
+    let year = office(&rt, alloc, &[(YEAR_ROWS, YEAR_LINES), (ADJUSTED, NOTED)])?;
+    let image = year.image();
+    assert_sheet(&rt, alloc, image, "payments 110 2025 1", 0, FIRST_PAYMENTS)?;
+    assert_sheet(
+        &rt,
+        alloc,
+        image,
+        "upto 17 withdrawal 120 5001 2025 2",
+        0,
+        OWED_RETURN,
     )
 }
 
@@ -74,6 +93,12 @@ fn names_that_are_on_no_file(rt: HostRuntime) -> Result<(), Fail> {
         "need 77 2025",
         "need 5001 2026",
         "quotes 110 2025 3",
+        "payments 110 2025 2",
+        "payments 120 2026 2",
+        "upto 15 payments 120 2025 2",
+        "withdrawal 110 5001 2025 1",
+        "withdrawal 120 5001 2025 1",
+        "upto 16 withdrawal 120 5001 2025 2",
         "upto 7 need 5001 2025",
         "upto 19 list",
         "upto 4294967295 list",
@@ -96,6 +121,12 @@ fn words_and_files_that_are_none(rt: HostRuntime) -> Result<(), Fail> {
         "upto 0 list",
         "upto 1 upto 1 list",
         "quotes 110 2025 9",
+        "payments 0 2025 1",
+        "payments 110 2025",
+        "payments 110 2025 1 1",
+        "withdrawal 120 2025 2",
+        "withdrawal 120 5001 2025 2 2",
+        "withdrawal 5001 1000000000000 2025 2",
         "found",
     ] {
         assert_sheet(&rt, alloc, EMPTY, line, 2, "fault usage\n")?;
@@ -111,6 +142,75 @@ apply,110,51,5003,2025,1,1990,0,2,0,0,0,0,1,0,0,0,0,0,1,60000,0,0,0,0,0,0,0,0,30
 const ANSWERED: &str = "\
 1 18 accepted 19 index B -20 maximum 7395\n\
 2 19 accepted 20 index C -707 calculated 7395\n";
+
+// An adjustment of a loan.
+const ADJUSTED: &str = "adjust,110,8,5001,2025,1,unsub,250.00\n";
+
+const NOTED: &str = "1 18 accepted 19 noted\n";
+
+// What moved in a term, with the totals of each program.
+const PAYMENTS: &str = "\
+position,school,number,kind,student,year,term,program,amount,total,day,clerk\n\
+16,120,7,pay,5001,2025,2,pell,763.00,763.00,1970-01-01,-\n\
+17,120,8,return,5001,2025,2,pell,-65.30,697.70,1970-01-01,-\n\
+18,120,9,repay,5001,2025,2,pell,-51.44,646.26,1970-01-01,-\n";
+
+const FIRST_PAYMENTS: &str = "\
+position,school,number,kind,student,year,term,program,amount,total,day,clerk\n\
+11,110,6,pay,5001,2025,1,pell,1145.00,1145.00,1970-01-01,-\n\
+12,110,7,pay,5001,2025,1,unsub,1000.00,1000.00,1970-01-01,-\n\
+19,110,8,adjust,5001,2025,1,unsub,-250.00,750.00,1970-01-01,-\n";
+
+// The worksheet of a withdrawal, after the student repaid and before.
+const RETURN: &str = "\
+Return of funds: student 5001, school 120, award year 2025, term 2\n\
+withdrawal at 17, number 8: last day 2026-01-30, determined 2026-02-05, return due 2026-03-22\n\
+\x20                                   unsub        sub       plus       pell      fseog      teach        all\n\
+E disbursed, net                     0.00       0.00       0.00     763.00       0.00       0.00     763.00\n\
+\x20 could have been disbursed          0.00       0.00       0.00       0.00       0.00       0.00       0.00\n\
+G both                               0.00       0.00       0.00     763.00       0.00       0.00     763.00\n\
+\x20 days of the term                                                                                       75\n\
+\x20 days completed                                                                                         26\n\
+H percent earned                                                                                       34.7\n\
+I earned                                                                                             264.76\n\
+J post-withdrawal amount                                                                               0.00\n\
+K unearned                                                                                           498.24\n\
+L institutional charges                                                                              100.00\n\
+M percent unearned                                                                                     65.3\n\
+N unearned part of the charges                                                                        65.30\n\
+O the school returns                 0.00       0.00       0.00      65.30       0.00       0.00      65.30\n\
+Q laid on the student                0.00       0.00       0.00     432.94       0.00       0.00     432.94\n\
+\x20 half of both, of grants            0.00       0.00       0.00     381.50       0.00       0.00     381.50\n\
+\x20 the student owes                   0.00       0.00       0.00      51.44       0.00       0.00      51.44\n\
+\x20 repaid since                       0.00       0.00       0.00      51.44       0.00       0.00      51.44\n\
+\x20 still owed                         0.00       0.00       0.00       0.00       0.00       0.00       0.00\n\
+\x20 paid since                         0.00       0.00       0.00       0.00       0.00       0.00       0.00\n\
+\x20 net now                            0.00       0.00       0.00     646.26       0.00       0.00     646.26\n";
+
+const OWED_RETURN: &str = "\
+Return of funds: student 5001, school 120, award year 2025, term 2\n\
+withdrawal at 17, number 8: last day 2026-01-30, determined 2026-02-05, return due 2026-03-22\n\
+\x20                                   unsub        sub       plus       pell      fseog      teach        all\n\
+E disbursed, net                     0.00       0.00       0.00     763.00       0.00       0.00     763.00\n\
+\x20 could have been disbursed          0.00       0.00       0.00       0.00       0.00       0.00       0.00\n\
+G both                               0.00       0.00       0.00     763.00       0.00       0.00     763.00\n\
+\x20 days of the term                                                                                       75\n\
+\x20 days completed                                                                                         26\n\
+H percent earned                                                                                       34.7\n\
+I earned                                                                                             264.76\n\
+J post-withdrawal amount                                                                               0.00\n\
+K unearned                                                                                           498.24\n\
+L institutional charges                                                                              100.00\n\
+M percent unearned                                                                                     65.3\n\
+N unearned part of the charges                                                                        65.30\n\
+O the school returns                 0.00       0.00       0.00      65.30       0.00       0.00      65.30\n\
+Q laid on the student                0.00       0.00       0.00     432.94       0.00       0.00     432.94\n\
+\x20 half of both, of grants            0.00       0.00       0.00     381.50       0.00       0.00     381.50\n\
+\x20 the student owes                   0.00       0.00       0.00      51.44       0.00       0.00      51.44\n\
+\x20 repaid since                       0.00       0.00       0.00       0.00       0.00       0.00       0.00\n\
+\x20 still owed                         0.00       0.00       0.00      51.44       0.00       0.00      51.44\n\
+\x20 paid since                         0.00       0.00       0.00       0.00       0.00       0.00       0.00\n\
+\x20 net now                            0.00       0.00       0.00     697.70       0.00       0.00     697.70\n";
 
 // All filings as rows, each with its outcome.
 const LIST: &str = "\
