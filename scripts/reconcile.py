@@ -61,13 +61,14 @@ def ledger_of(path):
 def office_of(data):
     """What the office has, by the names of its columns, and whether it is what is left. `none` is a term in which nothing moved."""
     text = sheet.text_of(data)
-    rows = [(at, cells) for at, cells in enumerate(csv.reader(io.StringIO(text, newline="")), 1) if cells not in ([], ["none"])]
+    every = [(at, cells) for at, cells in enumerate(csv.reader(io.StringIO(text, newline="")), 1) if cells]
+    rows = [(at, cells) for at, cells in every if cells != ["none"]]
     names = rows[0][1] if rows else []
-    if not text or rows and not ({"student", "program"} <= set(names) and {"amount", "net"} & set(names)):
+    if not every or rows and not ({"student", "program"} <= set(names) and {"amount", "net"} & set(names)):
         refuse("standard input has no columns student, program and amount or net")
     if not text.endswith("\n"):
         refuse("standard input was cut short: its last line has no end")
-    lines = []
+    lines, column = [], "net" if "net" in names else "amount"
     for at, cells in rows:
         if cells == names:
             continue
@@ -75,17 +76,17 @@ def office_of(data):
             if len(cells) != len(names):
                 raise Bad("has other columns than the first one")
             line = dict(zip(names, cells))
-            lines.append(line | {"amount": cents(line["amount" if "amount" in names else "net"])})
+            lines.append(line | {"amount": cents(line[column])})
         except Bad as bad:
             refuse(f"standard input, line {at}: it {bad}")
-    return lines, "net" in names
+    return lines, column == "net"
 
 
 def summed(lines, names):
     """A line for each student and program, by these columns, with what the lines come to, where that isn't nothing."""
     sums = Counter()
     for line in lines:
-        sums[tuple(line[name] for name in names)] += line["amount"]
+        sums[tuple(line.get(name, "") for name in names)] += line["amount"]
     return [dict(zip(names, key)) | {"amount": amount} for key, amount in sums.items() if amount]
 
 
