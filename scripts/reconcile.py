@@ -3,11 +3,14 @@
 
 usage: reconcile.py LEDGER.csv < OFFICE.csv
 
-OFFICE.csv has either each movement, in a column `amount`: then by the number of the filing where the ledger has one, else by
-student, program and amount; or what is left of each program, in a column `net`, as `office JOURNAL csv awards YEAR` prints it:
-then the ledger is summed by student and program, and by school, year and term where it has these columns.
+OFFICE.csv has either each movement, in a column `amount`, as `office JOURNAL payments SCHOOL YEAR TERM` prints it: then a line of the
+ledger is compared by the number of the filing where it has one, else by student, program and amount. Texts of several terms may stand
+behind one another. Or it has what is left of each program, in a column `net`, as `office JOURNAL csv awards YEAR` prints it: then the
+ledger is summed by student and program. Either way school, year and term are compared where the ledger has these columns.
 """
 import csv
+import io
+import re
 import signal
 import sys
 from collections import Counter, defaultdict
@@ -22,13 +25,15 @@ NAMES = {
 }
 ALSO = {word: name for name, words in NAMES.items() for word in words.split()}
 READS = {"student": sheet.whole, "program": sheet.program, "school": sheet.whole, "year": sheet.award_year, "term": sheet.whole, "number": sheet.whole}
+PLACE = ["school", "year", "term"]
 
 
 def cents(text):
-    """Cents of an amount, below zero with a minus or in brackets."""
-    bare = text.strip()
-    below = bare.startswith("-") or bare.startswith("(") and bare.endswith(")")
-    return (-1 if below else 1) * int(sheet.amount(bare.strip("-()")).replace(".", ""))
+    """Cents of an amount, below zero with a minus before or behind it, or in brackets."""
+    bare = text.replace(" ", "").replace("$", "", 1)
+    below = re.fullmatch(r"\(([^-]*)\)|-([^-]*)|([^-]*)-", bare)
+    amount = sheet.amount("".join(part or "" for part in below.groups()) if below else bare)
+    return (-1 if below else 1) * int(amount.replace(".", ""))
 
 
 def money(amount):
@@ -53,36 +58,72 @@ def ledger_of(path):
     return lines
 
 
-def office_of(text):
-    """What the office has, by the names of its columns."""
-    rows = list(csv.DictReader(text))
-    if rows and not ({"student", "program"} <= set(rows[0]) and {"amount", "net"} & set(rows[0])):
+def office_of(data):
+    """What the office has, by the names of its columns, and whether it is what is left. `none` is a term in which nothing moved."""
+    text = sheet.text_of(data)
+    every = [(at, cells) for at, cells in enumerate(csv.reader(io.StringIO(text, newline="")), 1) if cells]
+    rows = [(at, cells) for at, cells in every if cells != ["none"]]
+    names = rows[0][1] if rows else []
+    if not every or rows and not ({"student", "program"} <= set(names) and {"amount", "net"} & set(names)):
         refuse("standard input has no columns student, program and amount or net")
-    return [row | {"amount": cents(row.get("amount") or row["net"])} for row in rows], bool(rows) and "net" in rows[0]
+    if not text.endswith("\n"):
+        refuse("standard input was cut short: its last line has no end")
+    lines, column = [], "net" if "net" in names else "amount"
+    for at, cells in rows:
+        if cells == names:
+            continue
+        try:
+            if len(cells) != len(names):
+                raise Bad("has other columns than the first one")
+            line = dict(zip(names, cells))
+            lines.append(line | {"amount": cents(line[column])})
+        except Bad as bad:
+            refuse(f"standard input, line {at}: it {bad}")
+    return lines, column == "net"
 
 
 def summed(lines, names):
-    """The amounts of lines by these columns, without those that come to nothing."""
+    """A line for each student and program, by these columns, with what the lines come to, where that isn't nothing."""
     sums = Counter()
     for line in lines:
         sums[tuple(line.get(name, "") for name in names)] += line["amount"]
-    return Counter({(*key, amount): 1 for key, amount in sums.items() if amount})
+    return [dict(zip(names, key)) | {"amount": amount} for key, amount in sums.items() if amount]
 
 
-def counted(lines, names):
-    """How often each line stands, by these columns and its amount."""
-    return Counter((*(line.get(name, "") for name in names), line["amount"]) for line in lines)
+def left(lines, others, names):
+    """The lines without one that is like them among others, by these columns and the amount. Of some alike the last ones are left."""
+    def key(line):
+        return *(line.get(name, "") for name in names), line["amount"]
+
+    waiting, found = Counter(map(key, others)), []
+    for line in lines:
+        if waiting[key(line)]:
+            waiting[key(line)] -= 1
+        else:
+            found.append(line)
+    return found
+
+
+def alone(office, ledger, names):
+    """What each has alone, where lines of the ledger with a number are compared by it."""
+    numbered, plain = ([line for line in ledger if ("number" in line) == is_so] for is_so in (True, False))
+    rest = left(office, numbered, [*names, "number"])
+    return left(rest, plain, names), left(numbered, office, [*names, "number"]) + left(plain, rest, names)
+
+
+def told(line, names):
+    """A line in words: where it stands, the number and the kind of a filing, the student, and the program with its amount."""
+    where = "".join(f"{name} {line[name]}, " for name in [*names, "number"] if line.get(name))
+    kind = f"{line['kind']}, " if line.get("kind") else ""
+    return f"{where}{kind}student {line['student']}, {line['program']} {money(line['amount'])}"
 
 
 def main(path):
-    office, is_net = office_of(sys.stdin)
+    office, is_left = office_of(sys.stdin.buffer.read())
     try:
         ledger = ledger_of(path)
     except (OSError, Bad) as error:
         refuse(f"{path} can't be read: {error.strerror if isinstance(error, OSError) else error}")
-    wanted = ["school", "year", "term"] if is_net else ["number"]
-    names = [name for name in wanted if any(name in line for line in ledger)] + ["student", "program"]
-    ours, theirs = (summed(lines, names) if is_net else counted(lines, names) for lines in (office, ledger))
     sums = defaultdict(lambda: [0, 0])
     for side, lines in enumerate((office, ledger)):
         for line in lines:
@@ -91,12 +132,15 @@ def main(path):
     for program in (name for name in sheet.PROGRAMS if name in sums):
         has, wants = sums[program]
         print(f"{program} {money(has)} {money(wants)} {money(wants - has)}")
-    for side, counts in (("office", ours - theirs), ("ledger", theirs - ours)):
-        for key in sorted(counts.elements(), key=lambda key: [(len(str(part)), str(part)) for part in key]):
-            *where, student, program, amount = key
-            told = "".join(f"{name} {part}, " for name, part in zip(names, where) if part)
-            print(f"in the {side} alone: {told}student {student}, {program} {money(amount)}")
-    return 1 if ours != theirs else 0
+    place = [name for name in PLACE if any(name in line for line in ledger)]
+    names = [*place, "student", "program"]
+    if is_left:
+        office, ledger = summed(office, names), summed(ledger, names)
+    both = alone(office, ledger, names)
+    for side, lines in zip(("office", "ledger"), both):
+        for line in lines:
+            print(f"in the {side} alone: {told(line, place)}")
+    return 1 if any(both) else 0
 
 
 if __name__ == "__main__":

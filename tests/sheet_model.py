@@ -128,6 +128,115 @@ def quotes_sheet(history, school, year, term):
     return "".join(["student,credits,scheduled,pell,quote\n", *lines]) if lines else "none\n"
 
 
+# The movements of a term
+
+def movements(history, position):
+    """What the filing at a position moves, by program: the word, the program and the cents, below 0 where they are taken back."""
+    filing = history[position - 1]
+    if isinstance(filing, model.Withdrawal):
+        returned = model.sheet_at(history, position).returned
+        return [("return", program, -cents) for program, cents in enumerate(returned) if cents]
+    return [(KINDS[type(filing)], filing.program, filing.cents if isinstance(filing, model.Payment) else -filing.cents)]
+
+
+def moving(history, school, year, term):
+    """The positions of the filings that move money in a term of a school, of whichever student."""
+    return [
+        position for position, filing in enumerate(history, 1)
+        if isinstance(filing, (model.Amount, model.Withdrawal)) and (filing.school, filing.year, filing.term) == (school, year, term)
+    ]
+
+
+def total_of(history, program, *place):
+    """What all students of a term have of a program."""
+    return sum(model.moved(history, position, program) for position in moving(history, *place))
+
+
+def signed(cents):
+    """Cents behind a minus where they are below 0."""
+    return f"{'-' if cents < 0 else ''}{desk.money(abs(cents))}"
+
+
+def payments_sheet(history, stamps, *place):
+    """What `payments SCHOOL YEAR TERM` prints."""
+    lines = []
+    for position in moving(history, *place):
+        filing, stamp = history[position - 1], stamps[position - 1]
+        for word, program, cents in movements(history, position):
+            total = total_of(history[:position], program, *place)
+            lines.append(",".join(map(str, [
+                position, filing.school, filing.number, word, filing.student, filing.year, filing.term, desk.PROGRAM_WORDS[program],
+                signed(cents), signed(total), stamp.day.isoformat(), clerk(stamp),
+            ])) + "\n")
+    return "".join(["position,school,number,kind,student,year,term,program,amount,total,day,clerk\n", *lines]) if lines else "none\n"
+
+
+# The worksheet of a withdrawal
+
+def figure(letter, words, text):
+    """A line of one figure below the column of all programs."""
+    return f"{letter:2}{words:28}{text:>77}\n"
+
+
+def by_program(letter, words, figures):
+    """A line of an amount of each program, and of all."""
+    return f"{letter:2}{words:28}" + "".join(f"{desk.money(cents):>11}" for cents in [*figures, sum(figures)]) + "\n"
+
+
+def since(history, kind, place):
+    """What the filings of a kind come to in a student's term, by program."""
+    filed = [filing for _, filing in model.filings_of(history, kind) if model.place_of(filing) == place]
+    return [sum(filing.cents for filing in filed if filing.program == program) for program in model.PROGRAMS]
+
+
+def return_lines(history, position):
+    """The lines of the withdrawal at a position: the worksheet on the filings before it, and what came of it on all."""
+    past, withdrawal, after = history[:position - 1], history[position - 1], history[position:]
+    place, lines, could = model.place_of(withdrawal), model.sheet_at(history, position), withdrawal.could
+    _, term = model.term_at(past, withdrawal.school, withdrawal.year, withdrawal.term)
+    before, now = ([model.net(filed, program=program, **place) for program in model.PROGRAMS] for filed in (past, history))
+    repaid, unearned = since(history, model.Repayment, place), 1_000 - lines.percent
+    return [
+        by_program("E", "disbursed, net", before),
+        by_program("", "could have been disbursed", could),
+        by_program("G", "both", [one + other for one, other in zip(before, could)]),
+        figure("", "days of the term", model.days_up_to(term, term.last)),
+        figure("", "days completed", model.days_up_to(term, withdrawal.last)),
+        figure("H", "percent earned", desk.percent_text(lines.percent)),
+        figure("I", "earned", desk.money(lines.earned)),
+        figure("J", "post-withdrawal amount", desk.money(lines.post)),
+        figure("K", "unearned", desk.money(lines.unearned)),
+        figure("L", "institutional charges", desk.money(withdrawal.charges)),
+        figure("M", "percent unearned", desk.percent_text(unearned)),
+        figure("N", "unearned part of the charges", desk.money(model.nearest(withdrawal.charges * unearned, 1_000))),
+        by_program("O", "the school returns", lines.returned),
+        by_program("Q", "laid on the student", lines.laid),
+        by_program("", "half of both, of grants", [
+            model.nearest(before[program] + could[program], 2) if program in model.GRANTS else 0 for program in model.PROGRAMS
+        ]),
+        by_program("", "the student owes", lines.owed),
+        by_program("", "repaid since", repaid),
+        by_program("", "still owed", [max(0, owed - paid) for owed, paid in zip(lines.owed, repaid)]),
+        by_program("", "paid since", since(after, model.Payment, place)),
+        by_program("", "net now", now),
+    ]
+
+
+def withdrawal_sheet(history, school, student, year, term):
+    """What `withdrawal SCHOOL STUDENT YEAR TERM` prints."""
+    position, found = model.earliest(history, model.Withdrawal, school=school, student=student, year=year, term=term)
+    if found is None:
+        return "none\n"
+    due = model.due_day(found)
+    return "".join([
+        f"Return of funds: student {student}, school {school}, award year {year}, term {term}\n",
+        f"withdrawal at {position}, number {found.number}: last day {found.last.isoformat()}, determined {found.determined.isoformat()}, "
+        f"return due {due.isoformat() if due else 'none'}\n",
+        " " * 30 + "".join(f"{word:>11}" for word in [*desk.PROGRAM_WORDS, "all"]) + "\n",
+        *return_lines(history, position),
+    ])
+
+
 # The worksheet of an index and an award
 
 def line(mark, words, told):
@@ -263,7 +372,7 @@ def award_lines(book, application, raw):
         line("=", "sum of the contributions", raw), line(" ", "Student Aid Index, -1500 to 999999", found),
         amounts((" ", "ceiling: no award from this index on", ceiling)),
         line(" ", "required to file a tax return", "yes" if must_file else "no"),
-        line(" ", "a graduate, or has a bachelor's degree", "yes" if barred else "no"),
+        line(" ", "graduate student, or has a bachelor's degree", "yes" if barred else "no"),
         line(" ", words, income), line(" ", f"poverty guideline, family of {application.family}", guideline),
         line(" ", f"maximum award up to {most} percent", most * guideline // 100),
         line(" ", f"minimum award up to {least} percent", least * guideline // 100),
