@@ -12,6 +12,8 @@ usage: sheet_desk JOURNAL list
        sheet_desk JOURNAL student STUDENT
        sheet_desk JOURNAL need STUDENT YEAR
        sheet_desk JOURNAL quotes SCHOOL YEAR TERM
+       sheet_desk JOURNAL payments SCHOOL YEAR TERM
+       sheet_desk JOURNAL withdrawal SCHOOL STUDENT YEAR TERM
        sheet_desk JOURNAL report .. (the reports of aid_office)
        sheet_desk JOURNAL upto POSITION .. (any of these, of the first so many filings)";
 
