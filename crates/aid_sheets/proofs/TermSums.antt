@@ -79,7 +79,7 @@ module _ (past : List Filing) (f : Filing) (p : Place) (own : own_place f.key f.
       let cells = of_program p.school p.year p.term in
       fits cells (takings_in past (net_at past) f.key f.what) (λ r. taken past (cells r)) _ (λ r. taken-most (f ∷ past) legal (cells r)) taken_here
 
-  place_of : Option Place → Place
+  abbrev place_of : Option Place → Place
   place_of None = p
   place_of (Some q) = q
 
@@ -105,6 +105,18 @@ module _ (past : List Filing) (f : Filing) (p : Place) (own : own_place f.key f.
   pub told_by : (now : List Filing) (stamp : Stamp)
       → payments_told now stamp f (rest (place_sums (f ∷ past) p) (place_sums past p)).taken f.what ≡ payments_told now stamp f (returned_by past f.key f.what) f.what
   told_by now stamp = told now stamp f.what own
+
+-- what the account of a student's term has more with a filing
+pub more_is : (past now : List Filing) (f : Filing) (p : Place) (before after more : Sums) → now ≡ f ∷ past → before ≡ place_sums past p → after ≡ place_sums now p
+    → more ≡ rest after before → more ≡ rest (place_sums (f ∷ past) p) (place_sums past p)
+more_is past now f p before after more of_now was is e =
+    let with_it = is ∙ ap (λ (h : List Filing). place_sums h p) of_now in e ∙ (λ i. rest (with_it i) (was i))
+
+-- so the sums of the term are those with it
+pub sums_then : (past now : List Filing) (f : Filing) (p : Place) → own_place f.key f.what ≡ Some p → (sums more new : Sums) → now ≡ f ∷ past
+    → sums ≡ term_sums past p.school p.year p.term → more ≡ rest (place_sums (f ∷ past) p) (place_sums past p) → new ≡ both sums more → new ≡ term_sums now p.school p.year p.term
+sums_then past now f p own sums more new of_now was is e =
+    e ∙ (λ i. both (was i) (is i)) ∙ sums_more past f p own ∙ ap (λ (h : List Filing). term_sums h p.school p.year p.term) (sym of_now)
 
 -- a filing that moves nothing in the term leaves its sums
 off : (a b c d : Bool) → (a && (b && c)) ≡ false → (a && (b && (c && d))) ≡ false

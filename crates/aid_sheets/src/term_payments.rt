@@ -216,12 +216,66 @@ fn put_returns(
     requires { let p = place.now in sums.now ≡ term_sums now.now.history p.school p.year p.term }
     ensures { OnOk result (rows.new.items ≡ rows.old.items ++ return_payments now.now.history stamp.now filing.now place.now returned.now) }
 {
-    put_return(now, filing, stamp, place, Program::Unsub, returned, sums, rows)?;
-    put_return(now, filing, stamp, place, Program::Sub, returned, sums, rows)?;
-    put_return(now, filing, stamp, place, Program::Plus, returned, sums, rows)?;
-    put_return(now, filing, stamp, place, Program::Pell, returned, sums, rows)?;
-    put_return(now, filing, stamp, place, Program::Fseog, returned, sums, rows)?;
-    put_return(now, filing, stamp, place, Program::Teach, returned, sums, rows)
+    put_return(
+        now,
+        filing,
+        stamp,
+        place,
+        Program::Unsub,
+        returned,
+        sums,
+        rows,
+    )?;
+    put_return(
+        now,
+        filing,
+        stamp,
+        place,
+        Program::Sub,
+        returned,
+        sums,
+        rows,
+    )?;
+    put_return(
+        now,
+        filing,
+        stamp,
+        place,
+        Program::Plus,
+        returned,
+        sums,
+        rows,
+    )?;
+    put_return(
+        now,
+        filing,
+        stamp,
+        place,
+        Program::Pell,
+        returned,
+        sums,
+        rows,
+    )?;
+    put_return(
+        now,
+        filing,
+        stamp,
+        place,
+        Program::Fseog,
+        returned,
+        sums,
+        rows,
+    )?;
+    put_return(
+        now,
+        filing,
+        stamp,
+        place,
+        Program::Teach,
+        returned,
+        sums,
+        rows,
+    )
 }
 
 // Appends the row of what a school returns of a program, where it returns something.
