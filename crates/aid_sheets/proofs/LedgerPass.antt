@@ -9,7 +9,7 @@ use Rattle.stamps.specs.declared.stamp.Stamp.{Stamp}
 use Rattle.office_history.specs.Answer.{outcome_of}
 use Rattle.aid_reports.specs.Columns.{table}
 use Rattle.aid_sheets.specs.LedgerLines.{ledger_line, text_of}
-use Rattle.aid_sheets.specs.Ledgers.{is_student, ledger_rows, returned_by, rows_about, rows_told}
+use Rattle.aid_sheets.specs.Ledgers.{is_student, returned_by, rows_about, rows_told}
 use Rattle.aid_sheets.specs.Takings.{taken_by}
 use Rattle.aid_sheets.specs.declared.ledger_rows.LedgerRow.{LedgerRow}
 use Rattle.aid_sheets.proofs.Returned.{added_by}
@@ -25,23 +25,26 @@ one_newer {X} h i x lt at =
 pub passed_more : (fs passed now : List Filing) (i : ℕ) (f : Filing) → i < length fs → f ≡ get_or fs i f → passed ≡ reverse (take i fs) → now ≡ f ∷ passed → now ≡ reverse (take (i + 1) fs)
 passed_more fs passed now i f lt at is more = more ∙ ap (λ (past : List Filing). f ∷ past) is ∙ sym (one_newer fs i f lt at)
 
--- its rows join theirs
-pub rows_more : (student : ℕ) (fs passed : List Filing) (ss : List Stamp) (i : ℕ) (f : Filing) (s : Stamp) → i < length fs → i < length ss → f ≡ get_or fs i f → s ≡ get_or ss i s
-    → passed ≡ reverse (take i fs) → (rows new : List LedgerRow) → rows ≡ ledger_rows student (reverse (take i fs)) (reverse (take i ss))
-    → new ≡ rows ++ rows_about student passed s f → new ≡ ledger_rows student (reverse (take (i + 1) fs)) (reverse (take (i + 1) ss))
-rows_more student fs passed ss i f s lt few at at_stamp is rows new so_far more =
-    more ∙ ap (λ (r : List LedgerRow). r ++ rows_about student passed s f) so_far
-    ∙ ap (λ (past : List Filing). ledger_rows student (reverse (take i fs)) (reverse (take i ss)) ++ rows_about student past s f) is
-    ∙ ap (λ (past : List Filing). ledger_rows student past (s ∷ reverse (take i ss))) (sym (one_newer fs i f lt at))
-    ∙ ap (λ (stamps : List Stamp). ledger_rows student (reverse (take (i + 1) fs)) stamps) (sym (one_newer ss i s few at_stamp))
+-- its rows join theirs, whatever they tell
+pub rows_more : {R : Type 0} (all : List Filing → List Stamp → List R) (by : List Filing → Stamp → Filing → List R)
+    → ((past : List Filing) (f : Filing) (s : Stamp) (stamps : List Stamp) → all (f ∷ past) (s ∷ stamps) ≡ all past stamps ++ by past s f)
+    → (fs passed : List Filing) (ss : List Stamp) (i : ℕ) (f : Filing) (s : Stamp) → i < length fs → i < length ss → f ≡ get_or fs i f → s ≡ get_or ss i s
+    → passed ≡ reverse (take i fs) → (rows new : List R) → rows ≡ all (reverse (take i fs)) (reverse (take i ss))
+    → new ≡ rows ++ by passed s f → new ≡ all (reverse (take (i + 1) fs)) (reverse (take (i + 1) ss))
+rows_more {R} all by step fs passed ss i f s lt few at at_stamp is rows new so_far more =
+    more ∙ ap (λ (r : List R). r ++ by passed s f) so_far
+    ∙ ap (λ (past : List Filing). all (reverse (take i fs)) (reverse (take i ss)) ++ by past s f) is
+    ∙ sym (step (reverse (take i fs)) f s (reverse (take i ss)))
+    ∙ ap (λ (past : List Filing). all past (s ∷ reverse (take i ss))) (sym (one_newer fs i f lt at))
+    ∙ ap (λ (stamps : List Stamp). all (reverse (take (i + 1) fs)) stamps) (sym (one_newer ss i s few at_stamp))
 
--- all rows are the ledger's
-pub rows_whole : (student : ℕ) (fs past : List Filing) (ss : List Stamp) (i : ℕ) → reverse fs ≡ past → length fs ≤ i → length ss ≤ i → (rows : List LedgerRow)
-    → rows ≡ ledger_rows student (reverse (take i fs)) (reverse (take i ss)) → rows ≡ ledger_rows student past (reverse ss)
-rows_whole student fs past ss i of_past all enough rows is =
-    is ∙ ap (λ (l : List Filing). ledger_rows student (reverse l) (reverse (take i ss))) (take_all i fs all)
-    ∙ ap (λ (l : List Stamp). ledger_rows student (reverse fs) (reverse l)) (take_all i ss enough)
-    ∙ ap (λ (l : List Filing). ledger_rows student l (reverse ss)) of_past
+-- all rows are those of the whole
+pub rows_whole : {R : Type 0} (all : List Filing → List Stamp → List R) (fs past : List Filing) (ss : List Stamp) (i : ℕ) → reverse fs ≡ past → length fs ≤ i → length ss ≤ i
+    → (rows : List R) → rows ≡ all (reverse (take i fs)) (reverse (take i ss)) → rows ≡ all past (reverse ss)
+rows_whole {R} all fs past ss i of_past whole enough rows is =
+    is ∙ ap (λ (l : List Filing). all (reverse l) (reverse (take i ss))) (take_all i fs whole)
+    ∙ ap (λ (l : List Stamp). all (reverse fs) (reverse l)) (take_all i ss enough)
+    ∙ ap (λ (l : List Filing). all l (reverse ss)) of_past
 
 -- the rows of a filing that is about the student, and of one that isn't
 pub rows_then : (student : ℕ) (past now : List Filing) (stamp : Stamp) (f : Filing) (outcome : Outcome) (before after returned : List ℕ) (old new : List LedgerRow)

@@ -5,3 +5,4 @@ pub mod ListLemmas
 pub mod Passed
 pub mod QuoteLines
 pub mod Returned
+pub mod TermSums

@@ -2,5 +2,8 @@ pub mod LedgerLines
 pub mod LedgerOf
 pub mod Ledgers
 pub mod Lists
+pub mod PaymentLines
+pub mod Payments
 pub mod Quotes
 pub mod Takings
+pub mod TermSums

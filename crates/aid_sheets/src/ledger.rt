@@ -261,11 +261,7 @@ fn put_amount(
         year: amount.year,
         term: amount.term,
     };
-    let moved = Moved {
-        movement,
-        program: amount.program,
-        cents: amount.cents,
-    };
+    let moved = Moved::filed(movement, amount);
     put_moved(now, filing, stamp, &place, moved, rows)
 }
 
@@ -343,10 +339,6 @@ fn put_return(
     if cents == 0 {
         return Ok(());
     }
-    let moved = Moved {
-        movement: Movement::Return,
-        program,
-        cents,
-    };
+    let moved = Moved::back(program, cents);
     put_moved(now, filing, stamp, place, moved, rows)
 }

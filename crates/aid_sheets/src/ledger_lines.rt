@@ -136,8 +136,8 @@ fn put_moved(moved: &Moved, out: &mut Vec<u8>) -> Result<(), AllocError>
     put_right(12, text.as_str().as_bytes(), b' ', out)
 }
 
-// Cents, with a minus where they are taken back.
-fn moved_line(movement: Movement, cents: u64) -> ArrayString<160>
+/// Cents, with a minus where they are taken back.
+pub(crate) fn moved_line(movement: Movement, cents: u64) -> ArrayString<160>
     ensures { result.bytes ≡ moved_text movement cents }
 {
     let mut line = ArrayString::<160>::new();

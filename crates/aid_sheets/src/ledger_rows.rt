@@ -1,8 +1,9 @@
 //! What the lines of a student's ledger tell.
 ghost use Rattle.std.specs.Prelude.{◌≡◌};
 ghost use Rattle.aid_sheets.specs.LedgerLines.{movement_text, word_text};
+ghost use Rattle.aid_sheets.specs.declared.ledger_rows.Movement.TheVariants.{Return};
 
-use aid_filings::Outcome;
+use aid_filings::{Amount, Outcome};
 use aid_types::{Key, Program, Year};
 use stamps::Stamp;
 
@@ -25,6 +26,30 @@ pub struct Moved {
     pub movement: Movement,
     pub program: Program,
     pub cents: u64,
+}
+
+impl Moved {
+    /// An amount that was filed.
+    pub(crate) fn filed(movement: Movement, amount: &Amount) -> Moved
+        ensures { result ≡ record { movement = movement; program = amount.now.program; cents = amount.now.cents } }
+    {
+        Moved {
+            movement,
+            program: amount.program,
+            cents: amount.cents,
+        }
+    }
+
+    /// What a school returns of a program.
+    pub(crate) fn back(program: Program, cents: u64) -> Moved
+        ensures { result ≡ record { movement = Return; program = program; cents = cents } }
+    {
+        Moved {
+            movement: Movement::Return,
+            program,
+            cents,
+        }
+    }
 }
 
 /// What a line tells: units used before this office, the outcome of an application or of a withdrawal, credits, a cost of
@@ -66,8 +91,8 @@ pub(crate) fn word(told: &Told) -> &'static str
     }
 }
 
-// The word of how money moved.
-fn movement_word(movement: Movement) -> &'static str
+/// The word of how money moved.
+pub(crate) fn movement_word(movement: Movement) -> &'static str
     ensures { result.now ≡ movement_text movement }
 {
     match movement {

@@ -8,10 +8,15 @@ mod ledger;
 mod ledger_lines;
 mod ledger_rows;
 mod lists;
+mod payment_lines;
+mod payment_rows;
+mod term_payments;
 mod term_quotes;
+mod term_sums;
 
 pub use front::front_of;
 pub use laws::rows_of_student;
 pub use ledger::student;
 pub use lists::list;
+pub use term_payments::payments;
 pub use term_quotes::quotes;

@@ -87,8 +87,8 @@ fn put_clerk(clerk: &ClerkName, out: &mut Vec<u8>) -> Result<(), AllocError>
     put_text(clerk_or_hyphen(clerk.as_bytes()), out)
 }
 
-// A name, or a hyphen in its place where it is empty.
-fn clerk_or_hyphen(name: &[u8]) -> &[u8]
+/// A name, or a hyphen in its place where it is empty.
+pub(crate) fn clerk_or_hyphen(name: &[u8]) -> &[u8]
     ensures { result.now ≡ clerk_text name.now }
 {
     match name {

@@ -147,8 +147,8 @@ fn put_quote(row: &QuoteOf, out: &mut Vec<u8>) -> Result<(), AllocError>
     put_number(row.quote / 100, b'\n', out)
 }
 
-// Appends a number and a byte behind it.
-fn put_number(number: u64, end: u8, out: &mut Vec<u8>) -> Result<(), AllocError>
+/// Appends a number and a byte behind it.
+pub(crate) fn put_number(number: u64, end: u8, out: &mut Vec<u8>) -> Result<(), AllocError>
     ensures { OnOk result (out.new.items ≡ out.old.items ++ decimal number ++ end ∷ []) }
 {
     let mut digits = Buffer::new();
@@ -157,8 +157,8 @@ fn put_number(number: u64, end: u8, out: &mut Vec<u8>) -> Result<(), AllocError>
     Ok(())
 }
 
-// Appends cents as dollars, and a comma.
-fn put_dollars(cents: u64, out: &mut Vec<u8>) -> Result<(), AllocError>
+/// Appends cents as dollars, and a comma.
+pub(crate) fn put_dollars(cents: u64, out: &mut Vec<u8>) -> Result<(), AllocError>
     ensures { OnOk result (out.new.items ≡ out.old.items ++ cents_text cents ++ codes ",") }
 {
     put_cents(cents, out)?;

@@ -1,5 +1,6 @@
-use Rattle.std.proofs.Common.{◌≡◌, ◌≤◌, ◌<◌, ap, arith, length, ◌∙◌}
+use Rattle.std.proofs.Common.{◌≡◌, ◌≤◌, ◌<◌, refl, ap, arith, length, ◌∙◌}
 use Rattle.std.proofs.lemmas.List.{length-reverse}
+use Rattle.aid_sheets.specs.Ledgers.{ledger_rows, rows_about}
 use Rattle.aid_sheets.proofs.LedgerPass.{passed_more, rows_more, rows_whole}
 use Rattle.aid_sheets.proofs.Passed.{may_follow, stands_inside}
 use Rattle.aid_sheets.proofs.ledger.ledger_rows.Goals as goal
@@ -34,7 +35,7 @@ loop-index-preserved c =
       history = passed_more c.filings-filings.result.now c.loop-index.past.history c.pass.new.past.history c.loop-index.index c.index-filings-index.result
           inside c.index-filings-index.is c.loop-index.invariant.history c.in_ok-pass.ensures.history;
       room = omega (arith, c.in_ok-pass.ensures.spare, c.loop-index.invariant.room);
-      rows = rows_more c.args.student c.filings-filings.result.now c.loop-index.past.history c.args.stamps.now c.loop-index.index c.index-filings-index.result c.index-stamps-index.result
+      rows = rows_more (ledger_rows c.args.student) (rows_about c.args.student) (λ past f s stamps. refl) c.filings-filings.result.now c.loop-index.past.history c.args.stamps.now c.loop-index.index c.index-filings-index.result c.index-stamps-index.result
           inside stamped c.index-filings-index.is c.index-stamps-index.is c.loop-index.invariant.history _ _ c.loop-index.invariant.rows c.in_ok-pass.ensures.rows;
     }
 
@@ -43,4 +44,4 @@ returns c =
     let fs = c.filings-filings.result.now in
     let all : length fs ≤ c.loop-index.index = omega (arith, length-reverse fs, ap length c.filings-filings.ensures, c.front-front.ensures.value, c.loop-index-test.false) in
     let enough : length c.args.stamps.now ≤ c.loop-index.index = omega (arith, c.requires, c.front-front.ensures.value, c.loop-index-test.false) in
-    rows_whole c.args.student fs c.args.office.now.history c.args.stamps.now c.loop-index.index c.filings-filings.ensures all enough _ c.loop-index.invariant.rows
+    rows_whole (ledger_rows c.args.student) fs c.args.office.now.history c.args.stamps.now c.loop-index.index c.filings-filings.ensures all enough _ c.loop-index.invariant.rows
