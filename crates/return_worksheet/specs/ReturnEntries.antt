@@ -25,7 +25,7 @@ entry label figure = record { label = label; figure = figure }
 abbrev pub nets_of : List Filing → Key → WithdrawFacts → List ℕ
 nets_of past key w = six (λ p. net_at past (withdrawn_cell key w p))
 
--- what was disbursed, what else could have been, and both (34 CFR 668.22(l)(1), (2))
+-- what was disbursed, what else could have been, and both (34 CFR 668.22(e)(1)(ii), (l)(1))
 abbrev pub disbursed_entries : List ℕ → List ℕ → List Entry
 disbursed_entries net could =
     entry Disbursed (ByProgram net) ∷ entry CouldHaveBeen (ByProgram could) ∷ entry Both (ByProgram (plus net could)) ∷ []
@@ -40,13 +40,13 @@ earned_entries l =
     entry PercentEarned (Percent l.percent) ∷ entry Earned (Cents l.earned) ∷ entry PostWithdrawal (Cents l.post)
     ∷ entry Unearned (Cents l.unearned) ∷ []
 
--- the part of the institutional charges that wasn't earned (34 CFR 668.22(g)(1)(ii))
+-- the institutional charges, the percent that wasn't earned, and its part of the charges (34 CFR 668.22(g)(1)(ii))
 abbrev pub charges_entries : ℕ → ℕ → List Entry
 charges_entries charges percent =
     entry Charges (Cents charges) ∷ entry PercentUnearned (Percent (1000 - percent))
     ∷ entry UnearnedCharges (Cents (half_up (charges * (1000 - percent)) 1000)) ∷ []
 
--- half of all of a grant that was or could have been disbursed (34 CFR 668.22(h)(3)(ii))
+-- half of all of a grant that was or could have been disbursed (34 CFR 668.22(h)(3)(ii)(A))
 abbrev pub half_of : List ℕ → List ℕ → Program → ℕ
 half_of net could program = half_up (slice_index net (rank program) + slice_index could (rank program)) 2
 

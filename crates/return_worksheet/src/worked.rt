@@ -2,6 +2,7 @@
 ghost use Rattle.std.specs.Prelude.{◌≡◌, ◌<◌, ◌≤◌, Some};
 ghost use Rattle.aid_types.specs.Ranges.{EachIsCents};
 ghost use Rattle.enrolment.specs.Terms.{IsLawful};
+ghost use Rattle.office_history.specs.Accounts.{IsAccount};
 ghost use Rattle.office_history.specs.Net.{sheet as sheet_after};
 ghost use Rattle.office_history.specs.Past.{the_term};
 ghost use Rattle.office_history.specs.Sheets.{CanBeWorkedOut};
@@ -10,7 +11,7 @@ ghost use Rattle.return_worksheet.specs.ReturnEntries.{nets_of};
 use aid_filings::WithdrawFacts;
 use aid_types::{ByProgram, Key, Term};
 use office_answers::sheet;
-use office_history::OnFile;
+use office_history::{Account, OnFile};
 use plain_list::Plain;
 use sorted_rows::Steps;
 use std::marker::Brand;
@@ -36,41 +37,10 @@ pub(crate) fn worked_out(past: &Plain<'_>, key: &Key, withdrawal: &WithdrawFacts
     ensures cents { EachIsCents result.net }
     ensures lines { result.lines ≡ sheet_after past.now key.now withdrawal.now }
 {
-    worked_out_counted::<Brand>(past, key, withdrawal, Blank::new(1))
-}
-
-fn worked_out_counted<L: Ledger>(
-    past: &Plain<'_>,
-    key: &Key,
-    withdrawal: &WithdrawFacts,
-    blank: Blank,
-) -> WorkedOut
-    requires worked_out { CanBeWorkedOut past.now key.now withdrawal.now }
-    requires name { blank.name ≡ L.name }
-    requires parts { blank.parts ≡ L.parts }
-    requires some { 0 < blank.parts }
-    ensures term { Some result.term ≡ the_term past.now key.now.school withdrawal.now.year withdrawal.now.term }
-    ensures lawful { IsLawful result.term }
-    ensures begun { result.term.first ≤ withdrawal.now.last }
-    ensures inside { withdrawal.now.last ≤ result.term.last }
-    ensures net { result.net ≡ nets_of past.now key.now withdrawal.now }
-    ensures cents { EachIsCents result.net }
-    ensures lines { result.lines ≡ sheet_after past.now key.now withdrawal.now }
-{
     // The front tells that the list is legal.
     let _front = past.front();
-    let WithdrawFacts {
-        student,
-        year,
-        term,
-        ..
-    } = *withdrawal;
-    let mut steps = Steps::<L>::new(blank);
-    let so_far = past
-        .place(key.school, student, year, term, &mut steps)
-        .account;
-    let (_, row) = past.term(key.school, year, term, &mut steps);
-    match row.term {
+    let (term, so_far) = on_file::<Brand>(past, key, withdrawal, Blank::new(1));
+    match term {
         Some(term) => WorkedOut {
             term,
             net: so_far.paid.minus(&so_far.taken),
@@ -78,4 +48,29 @@ fn worked_out_counted<L: Ledger>(
         },
         None => unreachable!(),
     }
+}
+
+// What is on file of a withdrawal: its term, and what moved in the student's term.
+fn on_file<L: Ledger>(
+    past: &Plain<'_>,
+    key: &Key,
+    withdrawal: &WithdrawFacts,
+    blank: Blank,
+) -> (Option<Term>, Account)
+    requires name { blank.name ≡ L.name }
+    requires parts { blank.parts ≡ L.parts }
+    requires some { 0 < blank.parts }
+    ensures term { result.0 ≡ the_term past.now key.now.school withdrawal.now.year withdrawal.now.term }
+    ensures account { IsAccount past.now key.now.school withdrawal.now.student withdrawal.now.year withdrawal.now.term result.1 }
+{
+    let WithdrawFacts {
+        student,
+        year,
+        term,
+        ..
+    } = *withdrawal;
+    let mut steps = Steps::<L>::new(blank);
+    let place = past.place(key.school, student, year, term, &mut steps);
+    let (_, row) = past.term(key.school, year, term, &mut steps);
+    (row.term, place.account)
 }
