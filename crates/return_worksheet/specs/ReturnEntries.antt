@@ -1,6 +1,6 @@
 -- The lines of a worksheet of a withdrawal, part by part (HEA 484B; 34 CFR 668.22(e) to (i)). `past` are the filings before the
 -- withdrawal, `now` all of them. Amounts by program are in the order of returns.
-use Rattle.std.specs.Prelude.{ℕ, ◌+◌, ◌-◌, ◌*◌, List, [], ◌∷◌, ◌++◌, Option, slice_index}
+use Rattle.std.specs.Prelude.{ℕ, ◌+◌, ◌-◌, ◌*◌, Bool, List, [], ◌∷◌, ◌++◌, Option, slice_index}
 use Rattle.aid_num.specs.Nearest.{half_up}
 use Rattle.aid_types.specs.Programs.{minus, plus, rank, six}
 use Rattle.aid_types.specs.declared.number.Key.{Key}
@@ -9,7 +9,7 @@ use Rattle.aid_types.specs.declared.number.Program.TheVariants.{Pell, Fseog, Tea
 use Rattle.aid_types.specs.declared.term.Term.{Term}
 use Rattle.aid_filings.specs.declared.filing.Filing.{Filing}
 use Rattle.aid_filings.specs.declared.filing.WithdrawFacts.{WithdrawFacts}
-use Rattle.office_history.specs.Net.{days_of, is_cell, last_of, net_at, owed, paid_after, repaid, withdrawn_cell}
+use Rattle.office_history.specs.Net.{Cell, days_of, is_cell, last_of, net_at, owed, paid_after, repaid, withdrawn_cell}
 use Rattle.office_history.specs.Past.{the_term}
 use Rattle.withdrawal_returns.specs.declared.Lines.{Lines}
 use Rattle.return_worksheet.specs.declared.entry.Entry.{Entry}
@@ -18,10 +18,14 @@ use Rattle.return_worksheet.specs.declared.entry.Figure.TheVariants.{ByProgram, 
 use Rattle.return_worksheet.specs.declared.entry.Label.{Label}
 use Rattle.return_worksheet.specs.declared.entry.Label.TheVariants.{Disbursed, CouldHaveBeen, Both, TermDays, CompletedDays, PercentEarned, Earned, PostWithdrawal, Unearned, Charges, PercentUnearned, UnearnedCharges, SchoolReturns, LaidOnStudent, HalfOfGrants, StudentOwes, RepaidSince, StillOwed, PaidSince, NetNow}
 
+-- a line. Own format
 abbrev pub entry : Label → Figure → Entry
 entry label figure = record { label = label; figure = figure }
 
--- by program the net at the cells of a withdrawal
+-- by program what a sum over a history holds at the cells of a withdrawal, and the net there. Own
+abbrev pub at_cells : ((Cell → Bool) → ℕ) → Key → WithdrawFacts → List ℕ
+at_cells held key w = six (λ p. held (is_cell (withdrawn_cell key w p)))
+
 abbrev pub nets_of : List Filing → Key → WithdrawFacts → List ℕ
 nets_of past key w = six (λ p. net_at past (withdrawn_cell key w p))
 
@@ -50,6 +54,7 @@ charges_entries charges percent =
 abbrev pub half_of : List ℕ → List ℕ → Program → ℕ
 half_of net could program = half_up (slice_index net (rank program) + slice_index could (rank program)) 2
 
+-- the same by program, 0 of each loan (34 CFR 668.22(h)(3)(ii)(A))
 abbrev pub halves : List ℕ → List ℕ → List ℕ
 halves net could = 0 ∷ 0 ∷ 0 ∷ half_of net could Pell ∷ half_of net could Fseog ∷ half_of net could Teach ∷ []
 
@@ -62,12 +67,11 @@ returned_entries net could l =
 -- what came of it since: what was repaid, what is still owed, what was paid, and the net now. Own
 abbrev pub since_entries : List Filing → Key → WithdrawFacts → List Entry
 since_entries now key w =
-    entry RepaidSince (ByProgram (six (λ p. repaid now (is_cell (withdrawn_cell key w p)))))
-    ∷ entry StillOwed (ByProgram (minus (six (λ p. owed now (is_cell (withdrawn_cell key w p)))) (six (λ p. repaid now (is_cell (withdrawn_cell key w p))))))
-    ∷ entry PaidSince (ByProgram (six (λ p. paid_after now (is_cell (withdrawn_cell key w p)))))
-    ∷ entry NetNow (ByProgram (nets_of now key w)) ∷ []
+    entry RepaidSince (ByProgram (at_cells (repaid now) key w))
+    ∷ entry StillOwed (ByProgram (minus (at_cells (owed now) key w) (at_cells (repaid now) key w)))
+    ∷ entry PaidSince (ByProgram (at_cells (paid_after now) key w)) ∷ entry NetNow (ByProgram (nets_of now key w)) ∷ []
 
--- all lines of a worksheet
+-- all lines of a worksheet. Own format
 abbrev pub return_entries : List Filing → List Filing → Key → WithdrawFacts → Lines → List Entry
 return_entries past now key w l =
     disbursed_entries (nets_of past key w) w.could ++ days_entries (the_term past key.school w.year w.term) w.last ++ earned_entries l

@@ -20,8 +20,10 @@ figure_text (Cents cents) = right 77 (cents_text cents)
 figure_text (Days days) = right 77 (decimal days)
 figure_text (Percent tenths) = right 77 (percent_text tenths)
 
+-- a line: its letter, its words to the left, and what it tells
 abbrev pub line_text : Entry → List ℕ
 line_text e = letter_text e.label ++ left 28 (words_text e.label) ++ figure_text e.figure ++ codes "\n"
 
+-- lines
 unfoldable pub lines_text : List Entry → List ℕ
 lines_text es = flat_map line_text es

@@ -17,7 +17,7 @@ use Rattle.aid_reports.specs.Rows.{all_programs, due_day}
 use Rattle.return_worksheet.specs.ReturnEntries.{return_entries}
 use Rattle.return_worksheet.specs.ReturnLines.{lines_text}
 
--- the filings before a position
+-- the filings before a position, which counts from 1 at the oldest
 abbrev pub before : List Filing → ℕ → List Filing
 before past position = drop (length past - (position - 1)) past
 
@@ -47,6 +47,7 @@ abbrev pub sheet_of : List Filing → ℕ → Key → What → List ℕ
 sheet_of past position key (Withdraw w) = return_text (before past position) past position key w
 sheet_of past position key _ = codes "none\n"
 
+-- that of what stands at a position, `none` where nothing does
 abbrev pub sheet_at : List Filing → ℕ → Option Filing → List ℕ
 sheet_at past position None = codes "none\n"
 sheet_at past position (Some f) = sheet_of past position f.key f.what
