@@ -1,0 +1,2 @@
+pub mod ReturnPieces
+pub mod ReturnPlaces

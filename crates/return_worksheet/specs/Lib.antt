@@ -1,0 +1,4 @@
+pub mod ReturnEntries
+pub mod ReturnLines
+pub mod ReturnSheet
+pub mod ReturnWords

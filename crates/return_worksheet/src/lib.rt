@@ -1,0 +1,12 @@
+//! The worksheet of a student's withdrawal from a term, line by line.
+#![tactic(auto)]
+
+mod entries;
+mod entry;
+mod lines;
+mod on_file;
+mod sheet;
+mod words;
+mod worked;
+
+pub use on_file::withdrawal;
