@@ -15,21 +15,21 @@ use Rattle.need_worksheet.specs.declared.entry.Label.TheVariants.{Agi, Ira, Inte
 use Rattle.need_worksheet.specs.declared.entry.Mark.{Mark}
 use Rattle.need_worksheet.specs.declared.entry.Mark.TheVariants.{Blank, Equals, Plus, Minus}
 use Rattle.need_worksheet.specs.declared.entry.Part.{Part}
-use Rattle.need_worksheet.specs.declared.entry.Part.TheVariants.{Empty, Number, Rate, Taken}
-use Rattle.need_worksheet.specs.declared.entry.Told.TheVariants.{Worked, Dollars, Answer}
+use Rattle.need_worksheet.specs.declared.entry.Part.TheVariants.{Empty, Number, Rate, WayTaken}
+use Rattle.need_worksheet.specs.declared.entry.Figure.TheVariants.{Worked, Dollars, Answer}
 
 -- an amount, a worked line, one with something within its words, and an answer
 abbrev pub amount : Mark → Label → ℤ → Entry
-amount mark label dollars = record { mark = mark; label = label; part = Empty; told = Dollars dollars }
+amount mark label dollars = record { mark = mark; label = label; part = Empty; figure = Dollars dollars }
 
 abbrev pub worked : Mark → Label → ℤ → Entry
-worked mark label n = record { mark = mark; label = label; part = Empty; told = Worked n }
+worked mark label n = record { mark = mark; label = label; part = Empty; figure = Worked n }
 
 abbrev pub worked_with : Mark → Label → Part → ℤ → Entry
-worked_with mark label part n = record { mark = mark; label = label; part = part; told = Worked n }
+worked_with mark label part n = record { mark = mark; label = label; part = part; figure = Worked n }
 
 abbrev pub answer : Label → Bool → Entry
-answer label b = record { mark = Blank; label = label; part = Empty; told = Answer b }
+answer label b = record { mark = Blank; label = label; part = Empty; figure = Answer b }
 
 -- the amounts of a household's income, and its total income
 abbrev pub income_entries : Side → ParentLines → List Entry
@@ -167,7 +167,7 @@ abbrev pub minimum_entry : Book → Entry
 minimum_entry book = worked Blank MinimumAward book.pell.minimum
 
 abbrev pub scheduled_entry : Decision → Entry
-scheduled_entry d = worked_with Equals Scheduled (Taken d.way) (pos d.scheduled)
+scheduled_entry d = worked_with Equals Scheduled (WayTaken d.way) (pos d.scheduled)
 
 abbrev pub final_entry : Decision → Entry
 final_entry d = worked Blank FinalIndex d.sai

@@ -8,7 +8,7 @@ use Rattle.need_worksheet.specs.declared.entry.Label.TheVariants.{Agi, Ira, Inte
 use Rattle.need_worksheet.specs.declared.entry.Mark.{Mark}
 use Rattle.need_worksheet.specs.declared.entry.Mark.TheVariants.{Blank, Equals, Plus, Minus}
 use Rattle.need_worksheet.specs.declared.entry.Part.{Part}
-use Rattle.need_worksheet.specs.declared.entry.Part.TheVariants.{Empty, Number, Rate, Taken}
+use Rattle.need_worksheet.specs.declared.entry.Part.TheVariants.{Empty, Number, Rate, WayTaken}
 
 abbrev pub mark_text : Mark → List ℕ
 mark_text Blank = codes "   "
@@ -76,7 +76,7 @@ abbrev pub part_text : Part → List ℕ
 part_text Empty = []
 part_text (Number n) = whole_text n
 part_text (Rate rate) = cents_text (unsigned_abs rate)
-part_text (Taken way) = way_text way
+part_text (WayTaken way) = way_text way
 
 abbrev pub words_text : Label → Part → List ℕ
 words_text label part = words_before label ++ part_text part ++ words_behind label

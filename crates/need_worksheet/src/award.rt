@@ -27,7 +27,7 @@ ghost use Rattle.need_worksheet.specs.NeedEntries.{
 };
 ghost use Rattle.need_worksheet.specs.NeedLines.{entries_text};
 
-use crate::entry::{Entry, Label, Mark, Part, Told};
+use crate::entry::{Entry, Figure, Label, Mark, Part};
 use crate::household::{worked, worked_with};
 use crate::lines::put_entries;
 use aid_books::Book;
@@ -91,7 +91,7 @@ fn ceiling_line(book: &Book) -> Entry
         mark: Mark::Blank,
         label: Label::Ceiling,
         part: Part::Empty,
-        told: Told::Dollars(i128::from(ceiling_bound(book))),
+        figure: Figure::Dollars(i128::from(ceiling_bound(book))),
     }
 }
 
@@ -193,7 +193,7 @@ fn minimum_line(book: &Book) -> Entry
 fn scheduled_line(decision: &Decision) -> Entry
     ensures { result ≡ scheduled_entry decision.now }
 {
-    let way = Part::Taken(decision.way);
+    let way = Part::WayTaken(decision.way);
     worked_with(
         Mark::Equals,
         Label::Scheduled,
@@ -228,7 +228,7 @@ fn percent_line(label: Label, percent: i64, guideline: i64) -> Entry
         mark: Mark::Blank,
         label,
         part: Part::Number(percent),
-        told: Told::Worked(most_within(percent, guideline)),
+        figure: Figure::Worked(most_within(percent, guideline)),
     }
 }
 
@@ -256,6 +256,6 @@ fn answer(label: Label, yes: bool) -> Entry
         mark: Mark::Blank,
         label,
         part: Part::Empty,
-        told: Told::Answer(yes),
+        figure: Figure::Answer(yes),
     }
 }

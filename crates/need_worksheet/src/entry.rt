@@ -65,13 +65,13 @@ pub enum Part {
     Empty,
     Number(i64),
     Rate(i64),
-    Taken(Way),
+    WayTaken(Way),
 }
 
-/// What a line tells: a worked number; dollars of the application or the book, the adjusted net worth of a business or
+/// The figure of a line: a worked number; dollars of the application or the book, the adjusted net worth of a business or
 /// the ceiling of the year, which have no line where they are 0; or an answer.
 #[derive(Clone, Copy)]
-pub enum Told {
+pub enum Figure {
     Worked(i128),
     Dollars(i128),
     Answer(bool),
@@ -83,5 +83,5 @@ pub struct Entry {
     pub mark: Mark,
     pub label: Label,
     pub part: Part,
-    pub told: Told,
+    pub figure: Figure,
 }

@@ -27,7 +27,7 @@ ghost use Rattle.need_worksheet.specs.NeedLines.{entries_text};
 ghost use Rattle.need_worksheet.specs.declared.entry.Label.TheVariants.{AdjustedBusiness};
 ghost use Rattle.need_worksheet.specs.declared.entry.Mark.TheVariants.{Plus};
 
-use crate::entry::{Entry, Label, Mark, Part, Told};
+use crate::entry::{Entry, Figure, Label, Mark, Part};
 use crate::lines::put_entries;
 use aid_books::Book;
 use aid_types::{Application, Side};
@@ -194,7 +194,7 @@ fn below_zero(parent: &ParentLines) -> Entry
         mark: Mark::Plus,
         label: Label::Shortfall,
         part: Part::Empty,
-        told: Told::Worked((-i128::from(parent.adjusted)).max(0)),
+        figure: Figure::Worked((-i128::from(parent.adjusted)).max(0)),
     }
 }
 
@@ -227,7 +227,7 @@ fn adjusted_business(lines: &ParentLines) -> Entry
         mark: Mark::Plus,
         label: Label::AdjustedBusiness,
         part: Part::Empty,
-        told: Told::Dollars(i128::from(lines.business)),
+        figure: Figure::Dollars(i128::from(lines.business)),
     }
 }
 
@@ -290,7 +290,7 @@ fn amount(mark: Mark, label: Label, dollars: i32) -> Entry
         mark,
         label,
         part: Part::Empty,
-        told: Told::Dollars(i128::from(dollars)),
+        figure: Figure::Dollars(i128::from(dollars)),
     }
 }
 
@@ -309,6 +309,6 @@ pub(crate) fn worked_with(mark: Mark, label: Label, part: Part, number: i64) -> 
         mark,
         label,
         part,
-        told: Told::Worked(i128::from(number)),
+        figure: Figure::Worked(i128::from(number)),
     }
 }

@@ -2,10 +2,10 @@
 ghost use Rattle.std.specs.Prelude.{◌≡◌, ◌≤◌, ◌++◌, OnOk, codes, decimal, replicate};
 ghost use Rattle.aid_num.specs.Whole.{whole_text};
 ghost use Rattle.aid_reports.specs.Columns.{right};
-ghost use Rattle.need_worksheet.specs.NeedLines.{entries_text, entry_text, is_shown as is_shown_of, line_text, told_text};
+ghost use Rattle.need_worksheet.specs.NeedLines.{entries_text, entry_text, is_shown as is_shown_of, line_text, figure_text};
 ghost use Rattle.need_worksheet.specs.NeedWords.{part_text, words_text};
 
-use crate::entry::{Entry, Part, Told};
+use crate::entry::{Entry, Figure, Part};
 use crate::words::{mark_word, words_before, words_behind};
 use aid_num::put_cents;
 use aid_reports::put_right;
@@ -46,23 +46,23 @@ pub(crate) fn put_entries(entries: &[Entry], out: &mut Vec<u8>) -> Result<(), Al
 fn put_entry(entry: &Entry, out: &mut Vec<u8>) -> Result<(), AllocError>
     ensures { OnOk result (out.new.items ≡ out.old.items ++ entry_text entry.now) }
 {
-    if is_shown(entry.told) {
+    if is_shown(entry.figure) {
         put_line(entry, out)?;
     }
     Ok(())
 }
 
-// Whether what is told has a line.
-fn is_shown(told: Told) -> bool
-    ensures { result ≡ is_shown_of told }
+// Whether a figure has a line.
+fn is_shown(figure: Figure) -> bool
+    ensures { result ≡ is_shown_of figure }
 {
-    match told {
-        Told::Dollars(dollars) => dollars != 0,
+    match figure {
+        Figure::Dollars(dollars) => dollars != 0,
         _ => true,
     }
 }
 
-// Appends a line: its mark, its words to the left, and what is told to the right.
+// Appends a line: its mark, its words to the left, and the figure to the right.
 fn put_line(entry: &Entry, out: &mut Vec<u8>) -> Result<(), AllocError>
     ensures { OnOk result (out.new.items ≡ out.old.items ++ line_text entry.now) }
 {
@@ -70,7 +70,7 @@ fn put_line(entry: &Entry, out: &mut Vec<u8>) -> Result<(), AllocError>
     let start = out.len();
     put_words(entry, out)?;
     put_blanks(44_usize.saturating_sub(out.len() - start), out)?;
-    put_told(entry.told, out)
+    put_figure(entry.figure, out)
 }
 
 // Appends the words of a line.
@@ -90,7 +90,7 @@ fn put_part(part: Part, out: &mut Vec<u8>) -> Result<(), AllocError>
         Part::Empty => Ok(()),
         Part::Number(number) => put_number(number, out),
         Part::Rate(rate) => put_cents(rate.unsigned_abs(), out),
-        Part::Taken(way) => out.extend_from_slice(way_name(way).as_bytes()),
+        Part::WayTaken(way) => out.extend_from_slice(way_name(way).as_bytes()),
     }
 }
 
@@ -102,15 +102,15 @@ fn put_number(number: i64, out: &mut Vec<u8>) -> Result<(), AllocError>
     out.extend_from_slice(digits.format(number).as_bytes())
 }
 
-// Appends what is told to the right of its column, and the end of the line.
-fn put_told(told: Told, out: &mut Vec<u8>) -> Result<(), AllocError>
-    ensures { OnOk result (out.new.items ≡ out.old.items ++ right 12 (told_text told) ++ codes "\n") }
+// Appends the figure to the right of its column, and the end of the line.
+fn put_figure(figure: Figure, out: &mut Vec<u8>) -> Result<(), AllocError>
+    ensures { OnOk result (out.new.items ≡ out.old.items ++ right 12 (figure_text figure) ++ codes "\n") }
 {
-    match told {
-        Told::Worked(number) => put_dollars(number, out),
-        Told::Dollars(number) => put_dollars(number, out),
-        Told::Answer(true) => put_right(12, b"yes", b'\n', out),
-        Told::Answer(false) => put_right(12, b"no", b'\n', out),
+    match figure {
+        Figure::Worked(number) => put_dollars(number, out),
+        Figure::Dollars(number) => put_dollars(number, out),
+        Figure::Answer(true) => put_right(12, b"yes", b'\n', out),
+        Figure::Answer(false) => put_right(12, b"no", b'\n', out),
     }
 }
 
