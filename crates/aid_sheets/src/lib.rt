@@ -9,6 +9,7 @@ mod ledger_rows;
 mod lists;
 mod payment_lines;
 mod payment_rows;
+mod pieces;
 mod term_payments;
 mod term_quotes;
 mod term_sums;

@@ -4,11 +4,11 @@ ghost use Rattle.std.specs.List.{concat};
 ghost use Rattle.aid_num.specs.Cents.{cents_text};
 ghost use Rattle.aid_sheets.specs.Quotes.{enrolled as enrolled_on, enrolled_by as enrolled_by_what, quote_line, quote_row, quote_rows as quote_rows_on, quotes_sheet, quotes_text};
 
+use crate::pieces::put_number;
 use aid_filings::{Filing, What};
 use aid_num::put_cents;
 use aid_reports::{push_told, sort_students};
 use aid_types::{Program, School, Student, Year};
-use itoa::Buffer;
 use office_core::Office;
 use std::alloc::{AllocError, Global};
 
@@ -145,16 +145,6 @@ fn put_quote(row: &QuoteOf, out: &mut Vec<u8>) -> Result<(), AllocError>
     put_number(u64::from(row.scheduled), b',', out)?;
     put_dollars(row.pell, out)?;
     put_number(row.quote / 100, b'\n', out)
-}
-
-/// Appends a number and a byte behind it.
-pub(crate) fn put_number(number: u64, end: u8, out: &mut Vec<u8>) -> Result<(), AllocError>
-    ensures { OnOk result (out.new.items ≡ out.old.items ++ decimal number ++ end ∷ []) }
-{
-    let mut digits = Buffer::new();
-    out.extend_from_slice(digits.format(number).as_bytes())?;
-    out.push(end)?;
-    Ok(())
 }
 
 /// Appends cents as dollars, and a comma.

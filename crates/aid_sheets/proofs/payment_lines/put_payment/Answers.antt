@@ -49,7 +49,7 @@ returns c =
                         c.in_ok-put_dollars.ensures,
                         (
                           _,
-                          c.in_ok-put_civil_day.ensures,
+                          c.in_ok-put_day_column.ensures,
                           last ∙ append_assoc _ (clerk_text r.stamp.clerk) (10 ∷ []),
                         ),
                       ),
