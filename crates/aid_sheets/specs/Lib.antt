@@ -1,6 +1,7 @@
 pub mod LedgerLines
 pub mod Ledgers
 pub mod Lists
+pub mod PaymentLaws
 pub mod PaymentLines
 pub mod Payments
 pub mod Quotes

@@ -1,8 +1,9 @@
-//! Sheets: texts of an office that people read.
+//! Sheets: texts of an office that people read; and laws of them, each as the contract of a function that computes nothing.
 #![tactic(auto)]
 
 mod copies;
 mod front;
+mod laws;
 mod ledger;
 mod ledger_lines;
 mod ledger_rows;
@@ -15,6 +16,7 @@ mod term_quotes;
 mod term_sums;
 
 pub use front::front_of;
+pub use laws::totals_of_payments;
 pub use ledger::student;
 pub use lists::list;
 pub use term_payments::payments;
