@@ -249,10 +249,11 @@ payment_has_row school year term [] older (s ∷ stamps) f a same pays is =
     let row = amount_payment (f ∷ older) s f Payment a in
     let own : payments_by school year term older s f ≡ row ∷ [] =
     ap (λ (b : Bool). cond b (payments_told (f ∷ older) s f (returned_by older f.key f.what) f.what) []) is
-    ∙ ap (λ (what : What). payments_told (f ∷ older) s f (returned_by older f.key what) what) pays in
-    (row,
-    Contains-append_right (payment_rows school year term older stamps) (payments_by school year term older s f) row (subst (λ (rows : List PaymentRow). Contains rows row) (sym own) (among_head row [])),
-    record { position = omega arith; key = refl; student = refl; kind = refl; program = refl; amount = refl })
+    ∙ ap (λ (what : What). payments_told (f ∷ older) s f (returned_by older f.key what) what) pays in (
+      row,
+      Contains-append_right (payment_rows school year term older stamps) (payments_by school year term older s f) row (subst (λ (rows : List PaymentRow). Contains rows row) (sym own) (among_head row [])),
+      record { position = omega arith; key = refl; student = refl; kind = refl; program = refl; amount = refl },
+    )
 payment_has_row school year term (g ∷ newer) older [] f a same pays is = absurd (omega (arith, same))
 payment_has_row school year term (g ∷ newer) older (s ∷ stamps) f a same pays is =
     let (row, found, tells) = payment_has_row school year term newer older stamps f a (omega (arith, same)) pays is in

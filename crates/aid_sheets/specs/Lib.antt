@@ -1,3 +1,4 @@
+pub mod Headed
 pub mod LedgerLines
 pub mod Ledgers
 pub mod Lists

@@ -3,6 +3,7 @@
 
 mod copies;
 mod front;
+mod headed;
 mod laws;
 mod ledger;
 mod ledger_lines;

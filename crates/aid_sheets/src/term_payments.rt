@@ -8,8 +8,8 @@ ghost use Rattle.aid_sheets.specs.Payments.{is_of_term, payment_row, payment_row
 ghost use Rattle.aid_sheets.specs.TermSums.{term_sums};
 
 use crate::front::grow;
+use crate::headed::headed_text;
 use crate::ledger_rows::{Moved, Movement};
-use crate::payment_lines::payment_lines;
 use crate::payment_rows::PaymentRow;
 use crate::term_sums::Sums;
 use aid_filings::{Filing, What};
@@ -36,7 +36,8 @@ pub fn payments(
 {
     let asked = SchoolTerm { school, year, term };
     let rows = payment_rows(alloc, office, stamps, &asked)?;
-    payment_lines(alloc, rows.as_slice())
+    let heading = b"position,school,number,kind,student,year,term,program,amount,total,day,clerk\n";
+    headed_text(alloc, heading, rows.as_slice())
 }
 
 /// A term of a school.
