@@ -1,8 +1,9 @@
 pub mod Ahead
 pub mod LedgerLaws
 pub mod LedgerPass
+pub mod LinesBehind
 pub mod ListLemmas
 pub mod Passed
-pub mod QuoteLines
+pub mod PaymentLaws
 pub mod Returned
 pub mod TermSums

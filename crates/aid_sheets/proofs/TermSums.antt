@@ -29,7 +29,7 @@ added : (sel : Cell → Bool) (ms : List Move) (n : ℕ) → onto sel ms n - n �
 added sel ms n = let e = onto_is sel ms n in omega (arith, e)
 
 -- a cell of a student's term is of a program in the term of the school where it is of that program
-own_program : (p : Place) (r q : ℕ) → of_program p.school p.year p.term r (at p q) ≡ (q == r)
+pub own_program : (p : Place) (r q : ℕ) → of_program p.school p.year p.term r (at p q) ≡ (q == r)
 own_program p r q = rw (eq-eqb p.school p.school refl, eq-eqb p.year p.year refl, eq-eqb p.term p.term refl) refl
 
 -- what moves in a student's term moves in the term of the school
@@ -45,7 +45,7 @@ module _ (past : List Filing) (f : Filing) (p : Place) (own : own_place f.key f.
   paid_here : (rest (place_sums (f ∷ past) p) (place_sums past p)).paid ≡ six (λ r. moved (of_program p.school p.year p.term r) (payments_in f.key f.what))
   paid_here = moved_here p (payments_in f.key f.what) (moves-in past f.key f.what p own).paid (λ r. paid past (is_cell (at p r)))
 
-  taken_here : (rest (place_sums (f ∷ past) p) (place_sums past p)).taken ≡ six (λ r. moved (of_program p.school p.year p.term r) (takings_in past (net_at past) f.key f.what))
+  pub taken_here : (rest (place_sums (f ∷ past) p) (place_sums past p)).taken ≡ six (λ r. moved (of_program p.school p.year p.term r) (takings_in past (net_at past) f.key f.what))
   taken_here = moved_here p (takings_in past (net_at past) f.key f.what) (moves-in past f.key f.what p own).taken (λ r. taken past (is_cell (at p r)))
 
   -- the sums with it

@@ -1,7 +1,9 @@
+pub mod Headed
 pub mod LedgerLines
 pub mod LedgerOf
 pub mod Ledgers
 pub mod Lists
+pub mod PaymentLaws
 pub mod PaymentLines
 pub mod Payments
 pub mod Quotes

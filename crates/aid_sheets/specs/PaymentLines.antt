@@ -1,10 +1,10 @@
 -- The lines of the payments of a term. Own format.
 use Rattle.std.specs.Prelude.{ℕ, List, [], ◌∷◌, ◌++◌, codes, decimal, map}
-use Rattle.std.specs.List.{concat}
 use Rattle.aid_num.specs.Cents.{cents_text}
 use Rattle.aid_types.specs.Words.{program_text}
 use Rattle.enrolment.specs.Days.{day_text}
 use Rattle.filing_rows.specs.Rows.{joined}
+use Rattle.aid_sheets.specs.Headed.{headed}
 use Rattle.aid_sheets.specs.LedgerLines.{moved_text, movement_text}
 use Rattle.aid_sheets.specs.Lists.{clerk_text}
 use Rattle.aid_sheets.specs.declared.payment_rows.PaymentRow.{PaymentRow}
@@ -20,6 +20,4 @@ payment_line r =
 
 -- the lines below their heading, or that nothing moved
 abbrev pub payments_text : List PaymentRow → List ℕ
-payments_text [] = codes "none\n"
-payments_text (row ∷ rows) =
-    codes "position,school,number,kind,student,year,term,program,amount,total,day,clerk\n" ++ concat (map payment_line (row ∷ rows))
+payments_text rows = headed (codes "position,school,number,kind,student,year,term,program,amount,total,day,clerk\n") (map payment_line rows)

@@ -1,6 +1,6 @@
 -- What the students of a term could be paid of Pell. Own format.
 use Rattle.std.specs.Prelude.{ℕ, ◌/◌, ◌==◌, ◌&&◌, nat_lt, List, [], ◌∷◌, ◌++◌, map, Option, None, codes, decimal, if◌then◌else◌}
-use Rattle.std.specs.List.{concat, flat_map}
+use Rattle.std.specs.List.{flat_map}
 use Rattle.std.specs.Ordering.{nat_cmp}
 use Rattle.aid_num.specs.Cents.{cents_text}
 use Rattle.aid_types.specs.declared.number.Key.{Key}
@@ -12,6 +12,7 @@ use Rattle.office_history.specs.Net.{pell_term}
 use Rattle.office_history.specs.Past.{credits, given}
 use Rattle.export_lines.specs.Applicants.{told_by}
 use Rattle.export_lines.specs.InOrder.{in_order}
+use Rattle.aid_sheets.specs.Headed.{headed}
 use Rattle.aid_sheets.specs.declared.term_quotes.QuoteOf.{QuoteOf}
 
 -- the student of an enrolment in the term
@@ -47,8 +48,7 @@ quote_line q =
 
 -- the lines below their heading, or that nobody is enrolled
 abbrev pub quotes_text : List QuoteOf → List ℕ
-quotes_text [] = codes "none\n"
-quotes_text (row ∷ rows) = codes "student,credits,scheduled,pell,quote\n" ++ concat (map quote_line (row ∷ rows))
+quotes_text rows = headed (codes "student,credits,scheduled,pell,quote\n") (map quote_line rows)
 
 abbrev pub quotes_sheet : List Filing → ℕ → ℕ → ℕ → List ℕ
 quotes_sheet past school year term = quotes_text (quote_rows past school year term)

@@ -1,5 +1,5 @@
 //! The ledger of a student.
-ghost use Rattle.std.specs.Prelude.{◌≡◌, ◌+◌, ◌≤◌, ◌∷◌, ◌++◌, [], Some, IfOk, OnOk, codes, length, reverse, slice_index};
+ghost use Rattle.std.specs.Prelude.{◌≡◌, ◌+◌, ◌≤◌, ◌∷◌, ◌++◌, [], Some, IfOk, OnOk, length, reverse, slice_index};
 ghost use Rattle.aid_types.specs.Programs.{rank};
 ghost use Rattle.aid_filings.specs.Students.{student_of};
 ghost use Rattle.office_history.specs.Answer.{IsLegal};
@@ -11,6 +11,7 @@ ghost use Rattle.aid_sheets.specs.declared.ledger_rows.Told.TheVariants.{Enrolme
 
 use crate::front::grow;
 use crate::ledger_rows::{LedgerRow, Moved, Movement, Told};
+use crate::pieces::none_text;
 use aid_filings::{Amount, EnrolFacts, Filing, Outcome, What, WithdrawFacts};
 use aid_reports::table_of;
 use aid_types::{ByProgram, Key, Program, Student, Year};
@@ -45,15 +46,6 @@ fn ledger_text(alloc: Global, rows: &[LedgerRow]) -> Result<Vec<u8>, AllocError>
     } else {
         table_of(alloc, rows)
     }
-}
-
-// The text that tells that there is no line.
-fn none_text(alloc: Global) -> Result<Vec<u8>, AllocError>
-    ensures { IfOk result (λ text. text.items ≡ codes "none\n") }
-{
-    let mut text = Vec::new(alloc);
-    text.extend_from_slice(b"none\n")?;
-    Ok(text)
 }
 
 // The rows of all filings about a student. An office anew has the filings before the one that the pass is at.

@@ -1,20 +1,16 @@
 //! The lines of a student's ledger.
 ghost use Rattle.std.specs.Prelude.{◌≡◌, ℕ, ◌∷◌, ◌++◌, [], OnOk, codes, decimal};
 ghost use Rattle.export_lines.specs.Lines.{line_of};
-ghost use Rattle.enrolment.specs.Days.{day_text};
 ghost use Rattle.aid_reports.specs.Columns.{left, right};
-ghost use Rattle.desk_forms.specs.Replies.{outcome_text};
 ghost use Rattle.aid_sheets.specs.Lists.{clerk_text};
 ghost use Rattle.aid_sheets.specs.LedgerLines.{columns_of, ledger_line, moved_text, number_text};
 ghost use Rattle.aid_sheets.specs.declared.ledger_rows.Told.TheVariants.{Money};
 
 use crate::ledger_rows::{LedgerRow, Moved, Movement, Told, word};
-use aid_filings::Outcome;
+use crate::pieces::{clerk_or_hyphen, put_day_column, put_outcome};
 use aid_reports::{Line, put_amount, put_left, put_number, put_right, put_school, put_text};
-use aid_types::{Day, Year, program_name};
+use aid_types::{Year, program_name};
 use arrayvec::ArrayString;
-use desk_forms::outcome_line;
-use enrolment::put_day;
 use field_rows::push_cents;
 use itoa::Buffer;
 use stamps::ClerkName;
@@ -25,7 +21,7 @@ impl Line for LedgerRow {
 
     fn put(&self, out: &mut Vec<u8>) -> Result<(), AllocError> {
         put_number(8, u64::from(self.position), b' ', out)?;
-        put_day_column(self.stamp.day, out)?;
+        put_day_column(self.stamp.day, b' ', out)?;
         put_clerk(&self.stamp.clerk, out)?;
         put_school(self.key.school, out)?;
         put_number(12, self.key.number, b' ', out)?;
@@ -36,23 +32,11 @@ impl Line for LedgerRow {
     }
 }
 
-// Appends a day, and a space.
-fn put_day_column(day: Day, out: &mut Vec<u8>) -> Result<(), AllocError>
-    ensures { OnOk result (out.new.items ≡ out.old.items ++ day_text day ++ 32 ∷ []) }
-{
-    put_day(day, out)?;
-    out.push(b' ')?;
-    Ok(())
-}
-
 // Appends a clerk's name to the left of its column, or a hyphen, and a space.
 fn put_clerk(clerk: &ClerkName, out: &mut Vec<u8>) -> Result<(), AllocError>
     ensures { OnOk result (out.new.items ≡ out.old.items ++ left 8 (clerk_text clerk.now) ++ 32 ∷ []) }
 {
-    match clerk.as_bytes() {
-        [] => put_left(8, b"-", b' ', out),
-        name => put_left(8, name, b' ', out),
-    }
+    put_left(8, clerk_or_hyphen(clerk.as_bytes()), b' ', out)
 }
 
 // Appends a number or a hyphen, and a space.
@@ -106,16 +90,6 @@ fn put_counted(number: u64, counted: &[u8], out: &mut Vec<u8>) -> Result<(), All
     let mut digits = Buffer::new();
     put_text(digits.format(number).as_bytes(), out)?;
     out.extend_from_slice(counted)
-}
-
-// Appends an outcome, and a line feed.
-fn put_outcome(outcome: &Outcome, out: &mut Vec<u8>) -> Result<(), AllocError>
-    ensures { OnOk result (out.new.items ≡ out.old.items ++ outcome_text outcome.now ++ 10 ∷ []) }
-{
-    let line = outcome_line(outcome);
-    out.extend_from_slice(line.as_str().as_bytes())?;
-    out.push(b'\n')?;
-    Ok(())
 }
 
 // Appends money that moved with the net and the units behind it, and a line feed.

@@ -1,8 +1,9 @@
-//! Sheets: texts of an office that people read.
+//! Sheets: texts of an office that people read; and laws of them, each as the contract of a function that computes nothing.
 #![tactic(auto)]
 
 mod copies;
 mod front;
+mod headed;
 mod laws;
 mod ledger;
 mod ledger_lines;
@@ -10,12 +11,13 @@ mod ledger_rows;
 mod lists;
 mod payment_lines;
 mod payment_rows;
+mod pieces;
 mod term_payments;
 mod term_quotes;
 mod term_sums;
 
 pub use front::front_of;
-pub use laws::rows_of_student;
+pub use laws::{rows_of_student, totals_of_payments};
 pub use ledger::student;
 pub use lists::list;
 pub use term_payments::payments;

@@ -1,16 +1,12 @@
 //! The list of all filings.
 ghost use Rattle.std.specs.Prelude.{◌≡◌, ◌+◌, ◌<◌, ◌≤◌, ◌∷◌, ◌++◌, [], IfOk, OnOk, length, reverse, take};
 ghost use Rattle.std.specs.List.{concat};
-ghost use Rattle.desk_forms.specs.Replies.{outcome_text};
-ghost use Rattle.enrolment.specs.Days.{day_text};
 ghost use Rattle.filing_rows.specs.Rows.{row_text};
 ghost use Rattle.aid_sheets.specs.Lists.{clerk_text, list_line, list_lines, list_sheet};
 
+use crate::pieces::{clerk_or_hyphen, put_day_column, put_outcome};
 use aid_filings::{Filing, Outcome};
 use aid_reports::{put_count, put_position, put_text};
-use aid_types::Day;
-use desk_forms::outcome_line;
-use enrolment::put_day;
 use filing_rows::put_row;
 use office_core::Office;
 use stamps::{ClerkName, Stamp};
@@ -65,19 +61,10 @@ fn put_line(
     ensures { OnOk result (out.new.items ≡ out.old.items ++ list_line position stamp.now filing.now outcome.now) }
 {
     put_position(position, out)?;
-    put_day_column(stamp.day, out)?;
+    put_day_column(stamp.day, b' ', out)?;
     put_clerk(&stamp.clerk, out)?;
     put_row_column(filing, out)?;
     put_outcome(outcome, out)
-}
-
-// Appends a day, and a blank.
-fn put_day_column(day: Day, out: &mut Vec<u8>) -> Result<(), AllocError>
-    ensures { OnOk result (out.new.items ≡ out.old.items ++ day_text day ++ 32 ∷ []) }
-{
-    put_day(day, out)?;
-    out.push(b' ')?;
-    Ok(())
 }
 
 // Appends a clerk's name, or a hyphen where there is none, and a blank.
@@ -87,31 +74,11 @@ fn put_clerk(clerk: &ClerkName, out: &mut Vec<u8>) -> Result<(), AllocError>
     put_text(clerk_or_hyphen(clerk.as_bytes()), out)
 }
 
-/// A name, or a hyphen in its place where it is empty.
-pub(crate) fn clerk_or_hyphen(name: &[u8]) -> &[u8]
-    ensures { result.now ≡ clerk_text name.now }
-{
-    match name {
-        [] => b"-",
-        [_, ..] => name,
-    }
-}
-
 // Appends the row of a filing, and a blank.
 fn put_row_column(filing: &Filing, out: &mut Vec<u8>) -> Result<(), AllocError>
     ensures { OnOk result (out.new.items ≡ out.old.items ++ row_text filing.now ++ 32 ∷ []) }
 {
     put_row(filing, out)?;
     out.push(b' ')?;
-    Ok(())
-}
-
-// Appends an outcome, and a line feed.
-fn put_outcome(outcome: &Outcome, out: &mut Vec<u8>) -> Result<(), AllocError>
-    ensures { OnOk result (out.new.items ≡ out.old.items ++ outcome_text outcome.now ++ 10 ∷ []) }
-{
-    let text = outcome_line(outcome);
-    out.extend_from_slice(text.as_str().as_bytes())?;
-    out.push(b'\n')?;
     Ok(())
 }

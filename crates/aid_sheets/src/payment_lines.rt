@@ -1,64 +1,37 @@
 //! The lines of the payments of a term.
-ghost use Rattle.std.specs.Prelude.{◌≡◌, ◌∷◌, ◌++◌, [], IfOk, OnOk, decimal, map};
-ghost use Rattle.std.specs.List.{concat};
+ghost use Rattle.std.specs.Prelude.{◌≡◌, ◌∷◌, ◌++◌, [], OnOk, decimal};
 ghost use Rattle.aid_types.specs.Words.{program_text};
-ghost use Rattle.enrolment.specs.Days.{day_text};
 ghost use Rattle.aid_sheets.specs.LedgerLines.{moved_text, movement_text};
 ghost use Rattle.aid_sheets.specs.Lists.{clerk_text};
-ghost use Rattle.aid_sheets.specs.PaymentLines.{payment_line, payments_text};
+ghost use Rattle.aid_sheets.specs.PaymentLines.{payment_line};
 
 use crate::ledger_lines::moved_line;
 use crate::ledger_rows::{Moved, Movement, movement_word};
-use crate::lists::clerk_or_hyphen;
 use crate::payment_rows::PaymentRow;
-use crate::term_quotes::{put_dollars, put_number};
-use aid_types::{Day, Program, School, Student, Year, program_name};
-use enrolment::put_day;
+use crate::pieces::{clerk_or_hyphen, put_bytes, put_day_column, put_number};
+use crate::term_quotes::put_dollars;
+use aid_reports::Line;
+use aid_types::{Program, School, Student, Year, program_name};
 use stamps::ClerkName;
-use std::alloc::{AllocError, Global};
+use std::alloc::AllocError;
 
-/// The lines below their heading, or that nothing moved. An `Err` is want of memory.
-pub(crate) fn payment_lines(alloc: Global, rows: &[PaymentRow]) -> Result<Vec<u8>, AllocError>
-    ensures { IfOk result (λ text. text.items ≡ payments_text rows.now) }
-{
-    let mut out = Vec::new(alloc);
-    if rows.is_empty() {
-        out.extend_from_slice(b"none\n")?;
-    } else {
-        out.extend_from_slice(
-            b"position,school,number,kind,student,year,term,program,amount,total,day,clerk\n",
-        )?;
-        put_payments(rows, &mut out)?;
+impl Line for PaymentRow {
+    ghost line = { payment_line };
+
+    fn put(&self, out: &mut Vec<u8>) -> Result<(), AllocError> {
+        put_number(u64::from(self.position), b',', out)?;
+        put_school(self.key.school, out)?;
+        put_number(self.key.number, b',', out)?;
+        put_kind(self.moved.movement, out)?;
+        put_student(self.student, out)?;
+        put_year(self.year, out)?;
+        put_number(u64::from(self.term), b',', out)?;
+        put_program(self.moved.program, out)?;
+        put_moved(&self.moved, out)?;
+        put_dollars(self.total, out)?;
+        put_day_column(self.stamp.day, b',', out)?;
+        put_clerk(&self.stamp.clerk, out)
     }
-    Ok(out)
-}
-
-// Appends a line for each.
-fn put_payments(rows: &[PaymentRow], out: &mut Vec<u8>) -> Result<(), AllocError>
-    ensures { OnOk result (out.new.items ≡ out.old.items ++ concat (map payment_line rows.now)) }
-{
-    for row in rows {
-        put_payment(row, out)?;
-    }
-    Ok(())
-}
-
-// Appends the line of a movement.
-fn put_payment(row: &PaymentRow, out: &mut Vec<u8>) -> Result<(), AllocError>
-    ensures { OnOk result (out.new.items ≡ out.old.items ++ payment_line row.now) }
-{
-    put_number(u64::from(row.position), b',', out)?;
-    put_school(row.key.school, out)?;
-    put_number(row.key.number, b',', out)?;
-    put_kind(row.moved.movement, out)?;
-    put_student(row.student, out)?;
-    put_year(row.year, out)?;
-    put_number(u64::from(row.term), b',', out)?;
-    put_program(row.moved.program, out)?;
-    put_moved(&row.moved, out)?;
-    put_dollars(row.total, out)?;
-    put_civil_day(row.stamp.day, out)?;
-    put_clerk(&row.stamp.clerk, out)
 }
 
 // Appends a school's code, and a comma.
@@ -86,14 +59,14 @@ fn put_year(year: Year, out: &mut Vec<u8>) -> Result<(), AllocError>
 fn put_kind(movement: Movement, out: &mut Vec<u8>) -> Result<(), AllocError>
     ensures { OnOk result (out.new.items ≡ out.old.items ++ movement_text movement ++ 44 ∷ []) }
 {
-    put_text(movement_word(movement).as_bytes(), b',', out)
+    put_bytes(movement_word(movement).as_bytes(), b',', out)
 }
 
 // Appends a program, and a comma.
 fn put_program(program: Program, out: &mut Vec<u8>) -> Result<(), AllocError>
     ensures { OnOk result (out.new.items ≡ out.old.items ++ program_text program ++ 44 ∷ []) }
 {
-    put_text(program_name(program).as_bytes(), b',', out)
+    put_bytes(program_name(program).as_bytes(), b',', out)
 }
 
 // Appends cents, with a minus where they are taken back, and a comma.
@@ -101,30 +74,12 @@ fn put_moved(moved: &Moved, out: &mut Vec<u8>) -> Result<(), AllocError>
     ensures { OnOk result (out.new.items ≡ out.old.items ++ moved_text moved.now.movement moved.now.cents ++ 44 ∷ []) }
 {
     let text = moved_line(moved.movement, moved.cents);
-    put_text(text.as_str().as_bytes(), b',', out)
-}
-
-// Appends a day, and a comma.
-fn put_civil_day(day: Day, out: &mut Vec<u8>) -> Result<(), AllocError>
-    ensures { OnOk result (out.new.items ≡ out.old.items ++ day_text day ++ 44 ∷ []) }
-{
-    put_day(day, out)?;
-    out.push(b',')?;
-    Ok(())
+    put_bytes(text.as_str().as_bytes(), b',', out)
 }
 
 // Appends a clerk's name, or a hyphen where there is none, and a line feed.
 fn put_clerk(clerk: &ClerkName, out: &mut Vec<u8>) -> Result<(), AllocError>
     ensures { OnOk result (out.new.items ≡ out.old.items ++ clerk_text clerk.now ++ 10 ∷ []) }
 {
-    put_text(clerk_or_hyphen(clerk.as_bytes()), b'\n', out)
-}
-
-// Appends a text and a byte behind it.
-fn put_text(text: &[u8], end: u8, out: &mut Vec<u8>) -> Result<(), AllocError>
-    ensures { OnOk result (out.new.items ≡ out.old.items ++ text.now ++ end ∷ []) }
-{
-    out.extend_from_slice(text)?;
-    out.push(end)?;
-    Ok(())
+    put_bytes(clerk_or_hyphen(clerk.as_bytes()), b'\n', out)
 }

@@ -8,8 +8,8 @@ ghost use Rattle.aid_sheets.specs.Payments.{is_of_term, payment_row, payment_row
 ghost use Rattle.aid_sheets.specs.TermSums.{term_sums};
 
 use crate::front::grow;
+use crate::headed::headed_text;
 use crate::ledger_rows::{Moved, Movement};
-use crate::payment_lines::payment_lines;
 use crate::payment_rows::PaymentRow;
 use crate::term_sums::Sums;
 use aid_filings::{Filing, What};
@@ -36,7 +36,8 @@ pub fn payments(
 {
     let asked = SchoolTerm { school, year, term };
     let rows = payment_rows(alloc, office, stamps, &asked)?;
-    payment_lines(alloc, rows.as_slice())
+    let heading = b"position,school,number,kind,student,year,term,program,amount,total,day,clerk\n";
+    headed_text(alloc, heading, rows.as_slice())
 }
 
 /// A term of a school.
@@ -209,73 +210,19 @@ fn put_returns(
     filing: &Filing,
     stamp: &Stamp,
     place: &Place,
-    returned: &ByProgram,
+    back: &ByProgram,
     sums: &Sums,
     rows: &mut Vec<PaymentRow>,
 ) -> Result<(), AllocError>
     requires { let p = place.now in sums.now ≡ term_sums now.now.history p.school p.year p.term }
-    ensures { OnOk result (rows.new.items ≡ rows.old.items ++ return_payments now.now.history stamp.now filing.now place.now returned.now) }
+    ensures { OnOk result (rows.new.items ≡ rows.old.items ++ return_payments now.now.history stamp.now filing.now place.now back.now) }
 {
-    put_return(
-        now,
-        filing,
-        stamp,
-        place,
-        Program::Unsub,
-        returned,
-        sums,
-        rows,
-    )?;
-    put_return(
-        now,
-        filing,
-        stamp,
-        place,
-        Program::Sub,
-        returned,
-        sums,
-        rows,
-    )?;
-    put_return(
-        now,
-        filing,
-        stamp,
-        place,
-        Program::Plus,
-        returned,
-        sums,
-        rows,
-    )?;
-    put_return(
-        now,
-        filing,
-        stamp,
-        place,
-        Program::Pell,
-        returned,
-        sums,
-        rows,
-    )?;
-    put_return(
-        now,
-        filing,
-        stamp,
-        place,
-        Program::Fseog,
-        returned,
-        sums,
-        rows,
-    )?;
-    put_return(
-        now,
-        filing,
-        stamp,
-        place,
-        Program::Teach,
-        returned,
-        sums,
-        rows,
-    )
+    put_return(now, filing, stamp, place, Program::Unsub, back, sums, rows)?;
+    put_return(now, filing, stamp, place, Program::Sub, back, sums, rows)?;
+    put_return(now, filing, stamp, place, Program::Plus, back, sums, rows)?;
+    put_return(now, filing, stamp, place, Program::Pell, back, sums, rows)?;
+    put_return(now, filing, stamp, place, Program::Fseog, back, sums, rows)?;
+    put_return(now, filing, stamp, place, Program::Teach, back, sums, rows)
 }
 
 // Appends the row of what a school returns of a program, where it returns something.
@@ -285,15 +232,15 @@ fn put_return(
     stamp: &Stamp,
     place: &Place,
     program: Program,
-    returned: &ByProgram,
+    back: &ByProgram,
     sums: &Sums,
     rows: &mut Vec<PaymentRow>,
 ) -> Result<(), AllocError>
     requires { let p = place.now in sums.now ≡ term_sums now.now.history p.school p.year p.term }
     ensures { OnOk result (rows.new.items ≡ rows.old.items
-        ++ return_payment now.now.history stamp.now filing.now place.now program (slice_index returned.now (rank program))) }
+        ++ return_payment now.now.history stamp.now filing.now place.now program (slice_index back.now (rank program))) }
 {
-    let cents = returned.at(program);
+    let cents = back.at(program);
     if cents == 0 {
         return Ok(());
     }

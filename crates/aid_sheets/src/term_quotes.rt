@@ -1,14 +1,14 @@
 //! What the students of a term could be paid of Pell.
 ghost use Rattle.std.specs.Prelude.{◌≡◌, ◌++◌, ◌/◌, ◌∷◌, [], IfOk, OnOk, codes, decimal, map, reverse};
-ghost use Rattle.std.specs.List.{concat};
 ghost use Rattle.aid_num.specs.Cents.{cents_text};
-ghost use Rattle.aid_sheets.specs.Quotes.{enrolled as enrolled_on, enrolled_by as enrolled_by_what, quote_line, quote_row, quote_rows as quote_rows_on, quotes_sheet, quotes_text};
+ghost use Rattle.aid_sheets.specs.Quotes.{enrolled as enrolled_on, enrolled_by as enrolled_by_what, quote_line, quote_row, quote_rows as quote_rows_on, quotes_sheet};
 
+use crate::headed::headed_text;
+use crate::pieces::put_number;
 use aid_filings::{Filing, What};
 use aid_num::put_cents;
-use aid_reports::{push_told, sort_students};
+use aid_reports::{Line, push_told, sort_students};
 use aid_types::{Program, School, Student, Year};
-use itoa::Buffer;
 use office_core::Office;
 use std::alloc::{AllocError, Global};
 
@@ -36,7 +36,8 @@ pub fn quotes(
     ensures { IfOk result (λ text. text.items ≡ quotes_sheet office.now.history school year term) }
 {
     let rows = quote_rows(alloc, office, school, year, term)?;
-    quote_lines(alloc, rows.as_slice())
+    let heading = b"student,credits,scheduled,pell,quote\n";
+    headed_text(alloc, heading, rows.as_slice())
 }
 
 // The students with credits in force.
@@ -112,49 +113,16 @@ fn enrolled_by(filing: &Filing, school: School, year: Year, term: u8) -> Option<
     }
 }
 
-// The lines, or that there is none.
-fn quote_lines(alloc: Global, rows: &[QuoteOf]) -> Result<Vec<u8>, AllocError>
-    ensures { IfOk result (λ text. text.items ≡ quotes_text rows.now) }
-{
-    let mut out = Vec::new(alloc);
-    if rows.is_empty() {
-        out.extend_from_slice(b"none\n")?;
-    } else {
-        out.extend_from_slice(b"student,credits,scheduled,pell,quote\n")?;
-        put_quotes(rows, &mut out)?;
+impl Line for QuoteOf {
+    ghost line = { quote_line };
+
+    fn put(&self, out: &mut Vec<u8>) -> Result<(), AllocError> {
+        put_number(self.student.0, b',', out)?;
+        put_number(u64::from(self.credits), b',', out)?;
+        put_number(u64::from(self.scheduled), b',', out)?;
+        put_dollars(self.pell, out)?;
+        put_number(self.quote / 100, b'\n', out)
     }
-    Ok(out)
-}
-
-// Appends a line for each.
-fn put_quotes(rows: &[QuoteOf], out: &mut Vec<u8>) -> Result<(), AllocError>
-    ensures { OnOk result (out.new.items ≡ out.old.items ++ concat (map quote_line rows.now)) }
-{
-    for row in rows {
-        put_quote(row, out)?;
-    }
-    Ok(())
-}
-
-// Appends the line of a student.
-fn put_quote(row: &QuoteOf, out: &mut Vec<u8>) -> Result<(), AllocError>
-    ensures { OnOk result (out.new.items ≡ out.old.items ++ quote_line row.now) }
-{
-    put_number(row.student.0, b',', out)?;
-    put_number(u64::from(row.credits), b',', out)?;
-    put_number(u64::from(row.scheduled), b',', out)?;
-    put_dollars(row.pell, out)?;
-    put_number(row.quote / 100, b'\n', out)
-}
-
-/// Appends a number and a byte behind it.
-pub(crate) fn put_number(number: u64, end: u8, out: &mut Vec<u8>) -> Result<(), AllocError>
-    ensures { OnOk result (out.new.items ≡ out.old.items ++ decimal number ++ end ∷ []) }
-{
-    let mut digits = Buffer::new();
-    out.extend_from_slice(digits.format(number).as_bytes())?;
-    out.push(end)?;
-    Ok(())
 }
 
 /// Appends cents as dollars, and a comma.

@@ -6,11 +6,11 @@ use Rattle.enrolment.specs.Days.{day_text}
 use Rattle.aid_sheets.specs.LedgerLines.{moved_text, movement_text}
 use Rattle.aid_sheets.specs.Lists.{clerk_text}
 use Rattle.aid_sheets.proofs.Ahead.{joined_line}
-use Rattle.aid_sheets.proofs.payment_lines.put_payment.Goals as goal
+use Rattle.aid_sheets.proofs.payment_lines.PaymentRowLine.put.Goals as goal
 
 pub returns : goal.returns
 returns c =
-    let r = c.args.row.now in
+    let r = c.args.self.now in
     let position = rw c.from.ensures at c.in_ok-put_number.ensures in
     let term = rw c.from-2.ensures at c.in_ok-put_number-3.ensures in
     on_ok_weaker c.put_clerk.result
@@ -49,7 +49,7 @@ returns c =
                         c.in_ok-put_dollars.ensures,
                         (
                           _,
-                          c.in_ok-put_civil_day.ensures,
+                          c.in_ok-put_day_column.ensures,
                           last ∙ append_assoc _ (clerk_text r.stamp.clerk) (10 ∷ []),
                         ),
                       ),

@@ -1,7 +1,0 @@
-use Rattle.std.proofs.Common.{◌≡◌, ◌++◌, map, take}
-use Rattle.std.specs.List.{concat}
-use Rattle.aid_sheets.specs.Quotes.{quote_line}
-use Rattle.aid_sheets.proofs.term_quotes.put_quotes.Given as goal
-
-abbrev pub invariant-loop-row : goal.invariant-loop-row
-invariant-loop-row l = l.out.items ≡ l.initial.out.items ++ concat (map quote_line (take l.row-index l.rows))
