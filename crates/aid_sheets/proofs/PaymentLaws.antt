@@ -1,10 +1,9 @@
 -- The last total of a program is the office's own net, and each payment has its row.
-use Rattle.std.proofs.Common.{◌≡◌, ℕ, zero, suc, ◌+◌, ◌-◌, ◌<◌, refl, sym, ap, subst, ◌∙◌, arith, cond, Bool, true, false, List, [], ◌∷◌, ◌++◌, length, reverse, eqb-true, eq-eqb}
+use Rattle.std.proofs.Common.{◌≡◌, ℕ, ◌+◌, ◌-◌, refl, sym, ap, subst, ◌∙◌, arith, cond, Bool, true, false, List, [], ◌∷◌, ◌++◌, length, eqb-true, eq-eqb}
 use Rattle.std.specs.Prelude.{◌==◌, nat_lt, slice_index, Option, Some, None}
 use Rattle.std.specs.List.{Contains, flat_map}
 use Rattle.std.proofs.lemmas.Bool.{and_parts}
 use Rattle.std.proofs.lemmas.Bool.Decides.{nat_tests}
-use Rattle.std.proofs.lemmas.List.{length-reverse, reverse-append}
 use Rattle.std.proofs.lemmas.List.Concat.{flat_map-append}
 use Rattle.std.proofs.lemmas.List.Elements.{Contains-append_left, Contains-append_right}
 use Rattle.aid_types.specs.Programs.{rank}
@@ -16,12 +15,11 @@ use Rattle.aid_filings.specs.declared.filing.What.{What}
 use Rattle.aid_filings.specs.declared.filing.What.TheVariants.{Book, School, Calendar, Prior, Apply, Enrol, Originate, Pay, Withdraw, Repay, Adjust}
 use Rattle.aid_filings.specs.declared.filing.WithdrawFacts.{WithdrawFacts}
 use Rattle.stamps.specs.declared.stamp.Stamp.{Stamp}
-use Rattle.office_history.specs.Net.{cell_of, moved, net, net_at, onto, paid, taken, takings_in}
+use Rattle.office_history.specs.Net.{cell_of, moved, net, net_at, paid, taken, takings_in}
 use Rattle.office_history.specs.Own.{own_place}
 use Rattle.office_history.specs.declared.place.Place.{Place}
 use Rattle.office_history.proofs.Among.{among_head}
 use Rattle.office_history.proofs.Cells.{onto_is}
-use Rattle.office_history.proofs.Own.{at}
 use Rattle.office_history.proofs.Sixes.{six-rank}
 use Rattle.aid_reports.specs.Rows.{all_programs}
 use Rattle.aid_sheets.specs.Ledgers.{returned_by, withdrawn_place}

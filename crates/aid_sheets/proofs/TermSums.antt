@@ -1,5 +1,5 @@
 -- The sums of a term, filing by filing.
-use Rattle.std.proofs.Common.{◌≡◌, ℕ, ◌+◌, ◌-◌, ◌≤◌, ◌<◌, ◌^◌, refl, sym, ap, ◌∙◌, arith, Bool, true, false, ◌&&◌, List, [], ◌∷◌, Option, Some, None, eqb-true, eq-eqb}
+use Rattle.std.proofs.Common.{◌≡◌, ℕ, ◌+◌, ◌-◌, ◌≤◌, ◌<◌, ◌^◌, refl, sym, ap, ◌∙◌, arith, Bool, true, false, ◌&&◌, List, ◌∷◌, Option, Some, None, eqb-true, eq-eqb}
 use Rattle.std.specs.Prelude.{◌==◌, slice_index}
 use Rattle.std.proofs.lemmas.Bool.{and_parts}
 use Rattle.aid_types.specs.Programs.{minus, plus, rank, six}
@@ -19,8 +19,7 @@ use Rattle.office_history.proofs.Sixes.{plus-six, six-ext, six-most, six-rank}
 use Rattle.aid_sheets.specs.Ledgers.{returned_by, withdrawn_place}
 use Rattle.aid_sheets.specs.Payments.{is_of_term, of_program, payments_told}
 use Rattle.aid_sheets.specs.Takings.{taken_there}
-use Rattle.aid_sheets.specs.TermSums.{both, place_sums, rest, sums_of, term_sums}
-use Rattle.aid_sheets.specs.declared.payment_rows.PaymentRow.{PaymentRow}
+use Rattle.aid_sheets.specs.TermSums.{both, place_sums, rest, term_sums}
 use Rattle.aid_sheets.specs.declared.term_sums.Sums.{Sums}
 use Rattle.aid_sheets.proofs.Returned.{added_by}
 

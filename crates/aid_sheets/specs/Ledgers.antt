@@ -1,5 +1,5 @@
 -- The ledger of a student: all filings about the student, the oldest first, as a bursar reads them.
-use Rattle.std.specs.Prelude.{ℕ, ◌==◌, nat_lt, Bool, true, false, List, [], ◌∷◌, ◌++◌, length, slice_index, Option, Some, None, if◌then◌else◌}
+use Rattle.std.specs.Prelude.{ℕ, ◌==◌, nat_lt, Bool, false, List, [], ◌∷◌, ◌++◌, length, slice_index, Option, Some, None, if◌then◌else◌}
 use Rattle.std.specs.List.{flat_map}
 use Rattle.aid_types.specs.Programs.{rank, six}
 use Rattle.aid_types.specs.declared.number.Key.{Key}
