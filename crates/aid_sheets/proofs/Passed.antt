@@ -1,5 +1,5 @@
 -- An office that takes the filings of another, one by one.
-use Rattle.std.proofs.Common.{◌≡◌, ℕ, suc, ◌+◌, ◌-◌, ◌≤◌, ◌<◌, sym, ap, subst, ◌∙◌, arith, List, [], ◌∷◌, ◌++◌, length, reverse, take, drop, get_or, take-append-drop}
+use Rattle.std.proofs.Common.{◌≡◌, ℕ, ◌-◌, ◌≤◌, ◌<◌, sym, ap, subst, ◌∙◌, arith, List, ◌∷◌, ◌++◌, length, reverse, take, drop, get_or, take-append-drop}
 use Rattle.std.proofs.lemmas.List.{length-drop, length-reverse, reverse-append}
 use Rattle.std.proofs.Math.Seq.{drop-append_seam}
 use Rattle.aid_filings.specs.declared.filing.Filing.{Filing}

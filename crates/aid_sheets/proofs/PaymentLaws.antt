@@ -1,10 +1,9 @@
 -- The last total of a program is the office's own net, and each payment has its row.
-use Rattle.std.proofs.Common.{◌≡◌, ℕ, zero, suc, ◌+◌, ◌-◌, ◌<◌, refl, sym, ap, subst, ◌∙◌, arith, cond, Bool, true, false, List, [], ◌∷◌, ◌++◌, length, reverse, eqb-true, eq-eqb}
+use Rattle.std.proofs.Common.{◌≡◌, ℕ, ◌+◌, ◌-◌, refl, sym, ap, subst, ◌∙◌, arith, cond, Bool, true, false, List, [], ◌∷◌, ◌++◌, length, eqb-true, eq-eqb}
 use Rattle.std.specs.Prelude.{◌==◌, nat_lt, slice_index, Option, Some, None}
 use Rattle.std.specs.List.{Contains, flat_map}
 use Rattle.std.proofs.lemmas.Bool.{and_parts}
 use Rattle.std.proofs.lemmas.Bool.Decides.{nat_tests}
-use Rattle.std.proofs.lemmas.List.{length-reverse, reverse-append}
 use Rattle.std.proofs.lemmas.List.Concat.{flat_map-append}
 use Rattle.std.proofs.lemmas.List.Elements.{Contains-append_left, Contains-append_right}
 use Rattle.aid_types.specs.Programs.{rank}
@@ -16,12 +15,11 @@ use Rattle.aid_filings.specs.declared.filing.What.{What}
 use Rattle.aid_filings.specs.declared.filing.What.TheVariants.{Book, School, Calendar, Prior, Apply, Enrol, Originate, Pay, Withdraw, Repay, Adjust}
 use Rattle.aid_filings.specs.declared.filing.WithdrawFacts.{WithdrawFacts}
 use Rattle.stamps.specs.declared.stamp.Stamp.{Stamp}
-use Rattle.office_history.specs.Net.{cell_of, moved, net, net_at, onto, paid, taken, takings_in}
+use Rattle.office_history.specs.Net.{cell_of, moved, net, net_at, paid, taken, takings_in}
 use Rattle.office_history.specs.Own.{own_place}
 use Rattle.office_history.specs.declared.place.Place.{Place}
 use Rattle.office_history.proofs.Among.{among_head}
 use Rattle.office_history.proofs.Cells.{onto_is}
-use Rattle.office_history.proofs.Own.{at}
 use Rattle.office_history.proofs.Sixes.{six-rank}
 use Rattle.aid_reports.specs.Rows.{all_programs}
 use Rattle.aid_sheets.specs.Ledgers.{returned_by, withdrawn_place}
@@ -200,7 +198,7 @@ module _ (school year term : ℕ) (program : Program) where
   abbrev net_of : List Filing → ℕ
   net_of past = net past (of_program school year term (rank program))
 
-  stays : (past : List Filing) (f : Filing) → is_in_term school year term f ≡ false → net_of past ≡ net_of (f ∷ past)
+  stays : (past : List Filing) (f : Filing) → is_in_term school year term f.key f.what ≡ false → net_of past ≡ net_of (f ∷ past)
   stays past f out =
       sym (net_told past school year term (term_sums past school year term) program refl)
       ∙ ap (λ (s : Sums). slice_index s.paid (rank program) - slice_index s.taken (rank program)) (sums_same past f school year term out)
@@ -216,15 +214,15 @@ module _ (school year term : ℕ) (program : Program) where
       λ i. net h (of_program (e0 i) (e1 i) (e2 i) (rank program))
 
   step : (past : List Filing) (stamp : Stamp) (f : Filing) → last_total program (net_of past) (payments_by school year term past stamp f) ≡ net_of (f ∷ past)
-  step past stamp f = go (own_place f.key f.what) refl (is_in_term school year term f) refl
+  step past stamp f = go (own_place f.key f.what) refl (is_in_term school year term f.key f.what) refl
     where
       told : List PaymentRow
       told = payments_told (f ∷ past) stamp f (returned_by past f.key f.what) f.what
 
-      go : (o : Option Place) → own_place f.key f.what ≡ o → (b : Bool) → is_in_term school year term f ≡ b
-          → last_total program (net_of past) (cond (is_in_term school year term f) (payments_told (f ∷ past) stamp f (returned_by past f.key f.what) f.what) []) ≡ net_of (f ∷ past)
+      go : (o : Option Place) → own_place f.key f.what ≡ o → (b : Bool) → is_in_term school year term f.key f.what ≡ b
+          → last_total program (net_of past) (cond (is_in_term school year term f.key f.what) (payments_told (f ∷ past) stamp f (returned_by past f.key f.what) f.what) []) ≡ net_of (f ∷ past)
       go o own false out = ap (λ (b : Bool). last_total program (net_of past) (cond b (payments_told (f ∷ past) stamp f (returned_by past f.key f.what) f.what) [])) out ∙ stays past f out
-      go None own true is = let no : is_in_term school year term f ≡ false = ap (λ (o : Option Place). is_of_term school year term o) own in absurd cc
+      go None own true is = let no : is_in_term school year term f.key f.what ≡ false = ap (λ (o : Option Place). is_of_term school year term o) own in absurd cc
       go (Some o) own true is =
           let of_term = ap (λ (x : Option Place). is_of_term school year term x) (sym own) ∙ is in
           ap (λ (b : Bool). last_total program (net_of past) (cond b (payments_told (f ∷ past) stamp f (returned_by past f.key f.what) f.what) [])) is
@@ -242,7 +240,7 @@ module _ (school year term : ℕ) (program : Program) where
 
 -- each payment in the term has its row
 pub payment_has_row : (school year term : ℕ) (newer older : List Filing) (stamps : List Stamp) (f : Filing) (a : Amount) → length stamps ≡ length (newer ++ f ∷ older)
-    → f.what ≡ Pay a → is_in_term school year term f ≡ true
+    → f.what ≡ Pay a → is_in_term school year term f.key f.what ≡ true
     → (row : PaymentRow) × Contains (payment_rows school year term (newer ++ f ∷ older) stamps) row × IsPaymentOf (length older + 1) f a row
 payment_has_row school year term [] older [] f a same pays is = absurd (omega (arith, same))
 payment_has_row school year term [] older (s ∷ stamps) f a same pays is =

@@ -1,5 +1,5 @@
 -- The sums of a term, filing by filing.
-use Rattle.std.proofs.Common.{◌≡◌, ℕ, ◌+◌, ◌-◌, ◌≤◌, ◌<◌, ◌^◌, refl, sym, ap, ◌∙◌, arith, Bool, true, false, ◌&&◌, List, [], ◌∷◌, Option, Some, None, eqb-true, eq-eqb}
+use Rattle.std.proofs.Common.{◌≡◌, ℕ, ◌+◌, ◌-◌, ◌≤◌, ◌<◌, ◌^◌, refl, sym, ap, ◌∙◌, arith, Bool, true, false, ◌&&◌, List, ◌∷◌, Option, Some, None, eqb-true, eq-eqb}
 use Rattle.std.specs.Prelude.{◌==◌, slice_index}
 use Rattle.std.proofs.lemmas.Bool.{and_parts}
 use Rattle.aid_types.specs.Programs.{minus, plus, rank, six}
@@ -18,9 +18,7 @@ use Rattle.office_history.proofs.Own.{AreIn, at, moved-agree, moved-none, moves-
 use Rattle.office_history.proofs.Sixes.{plus-six, six-ext, six-most, six-rank}
 use Rattle.aid_sheets.specs.Ledgers.{returned_by, withdrawn_place}
 use Rattle.aid_sheets.specs.Payments.{is_of_term, of_program, payments_told}
-use Rattle.aid_sheets.specs.Takings.{taken_there}
-use Rattle.aid_sheets.specs.TermSums.{both, place_sums, rest, sums_of, term_sums}
-use Rattle.aid_sheets.specs.declared.payment_rows.PaymentRow.{PaymentRow}
+use Rattle.aid_sheets.specs.TermSums.{both, place_sums, rest, term_sums}
 use Rattle.aid_sheets.specs.declared.term_sums.Sums.{Sums}
 use Rattle.aid_sheets.proofs.Returned.{added_by}
 
@@ -85,12 +83,12 @@ module _ (past : List Filing) (f : Filing) (p : Place) (own : own_place f.key f.
 
   -- what a withdrawal adds to what was taken back is what its worksheet returns, and no other filing's rows tell of it
   told : (now : List Filing) (stamp : Stamp) (what : What) → own_place f.key what ≡ Some p
-      → payments_told now stamp f (minus (taken_there (record { key = f.key; what = what } ∷ past) p) (taken_there past p)) what
+      → payments_told now stamp f ((rest (place_sums (record { key = f.key; what = what } ∷ past) p) (place_sums past p)).taken) what
       ≡ payments_told now stamp f (returned_by past f.key what) what
   told now stamp (Withdraw w) own =
       let there : withdrawn_place f.key w ≡ p = ap place_of own in
       ap (λ (r : List ℕ). payments_told now stamp f r (Withdraw w))
-      (ap (λ (q : Place). minus (taken_there (record { key = f.key; what = Withdraw w } ∷ past) q) (taken_there past q)) (sym there) ∙ added_by past f.key (Withdraw w))
+      (ap (λ (q : Place). (rest (place_sums (record { key = f.key; what = Withdraw w } ∷ past) q) (place_sums past q)).taken) (sym there) ∙ added_by past f.key (Withdraw w))
   told now stamp (Book b) own = refl
   told now stamp (School s) own = refl
   told now stamp (Calendar c) own = refl

@@ -47,7 +47,7 @@ amount_payment now stamp f movement a =
     payment_row now stamp f (record { school = f.key.school; student = a.student; year = a.year; term = a.term })
     (record { movement = movement; program = a.program; cents = a.cents })
 
--- what a school returns of a program, where it returns something; and of all programs, in their order
+-- what a school returns of a program, where it returns something; and of all programs, in their order (34 CFR 668.22(i))
 abbrev pub return_payment : List Filing → Stamp → Filing → Place → Program → ℕ → List PaymentRow
 return_payment now stamp f p program cents =
     if nat_lt 0 cents then payment_row now stamp f p (record { movement = Return; program = program; cents = cents }) ∷ [] else []
@@ -61,8 +61,8 @@ is_of_term school year term None = false
 is_of_term school year term (Some p) = p.school == school && (p.year == year && p.term == term)
 
 -- the filing moves money in the term: a payment, a repayment, an adjustment or a withdrawal of a student there
-abbrev pub is_in_term : ℕ → ℕ → ℕ → Filing → Bool
-is_in_term school year term f = is_of_term school year term (own_place f.key f.what)
+abbrev pub is_in_term : ℕ → ℕ → ℕ → Key → What → Bool
+is_in_term school year term key what = is_of_term school year term (own_place key what)
 
 -- the rows of what a filing moved, of which so much is returned by program
 abbrev pub payments_told : List Filing → Stamp → Filing → List ℕ → What → List PaymentRow
@@ -75,7 +75,7 @@ payments_told now stamp f returned _ = []
 -- the rows of a filing that was admitted on the filings past, where it moves money in the term
 abbrev pub payments_by : ℕ → ℕ → ℕ → List Filing → Stamp → Filing → List PaymentRow
 payments_by school year term past stamp f =
-    if is_in_term school year term f then payments_told (f ∷ past) stamp f (returned_by past f.key f.what) f.what else []
+    if is_in_term school year term f.key f.what then payments_told (f ∷ past) stamp f (returned_by past f.key f.what) f.what else []
 
 -- of all filings of a history, each with its stamp, both the newest first; the rows come the oldest first
 abbrev pub payment_rows : ℕ → ℕ → ℕ → List Filing → List Stamp → List PaymentRow

@@ -26,14 +26,14 @@ pub fn rows_of_student(history: &[Filing], stamps: &[Stamp])
     let _ = stamps;
 }
 
-/// The last total of a program in a term's payments is what all its students have of the program, by the office's own net, and
-/// there is no such total where they have nothing. Each payment in the term has its row, with the amount that was filed.
+/// The last total of a program in a term's payments is what all its students have of the program, by the office's own net;
+/// where no row is of the program, they have nothing of it. Each payment in the term has its row, with the amount that was filed.
 pub fn totals_of_payments(history: &[Filing], stamps: &[Stamp])
     requires { length stamps.now ≡ length history.now }
     ensures totals { (school year term : ℕ) → (program : Program)
         → last_total program 0 (payment_rows school year term (reverse history.now) (reverse stamps.now)) ≡ net (reverse history.now) (of_program school year term (rank program)) }
     ensures payments { (school year term : ℕ) → (before after : List Filed) → (filing : Filed) → (amount : Amount) → history.now ≡ before ++ filing ∷ after
-        → filing.what ≡ Pay amount → is_in_term school year term filing ≡ true
+        → filing.what ≡ Pay amount → is_in_term school year term filing.key filing.what ≡ true
         → (row : PaymentRow) × Contains (payment_rows school year term (reverse history.now) (reverse stamps.now)) row × IsPaymentOf (length before + 1) filing amount row }
 {
     let _ = history;

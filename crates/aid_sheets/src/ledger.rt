@@ -6,12 +6,13 @@ ghost use Rattle.office_history.specs.Answer.{IsLegal};
 ghost use Rattle.office_history.specs.Net.{used as used_of};
 ghost use Rattle.aid_sheets.specs.Ledgers.{amount_row, is_student, ledger_rows as ledger_rows_of, moved_row, return_row, return_rows, row_on, rows_about, rows_told, student_sheet, withdrawn_place};
 ghost use Rattle.aid_sheets.specs.LedgerLines.{text_of};
-ghost use Rattle.aid_sheets.specs.Takings.{taken_by, taken_there};
+ghost use Rattle.aid_sheets.specs.Takings.{taken_by};
 ghost use Rattle.aid_sheets.specs.declared.ledger_rows.Told.TheVariants.{Enrolment, Withdrawal};
 
 use crate::front::grow;
 use crate::ledger_rows::{LedgerRow, Moved, Movement, Told};
 use crate::pieces::none_text;
+use crate::term_sums::Sums;
 use aid_filings::{Amount, EnrolFacts, Filing, Outcome, What, WithdrawFacts};
 use aid_reports::table_of;
 use aid_types::{ByProgram, Key, Program, Student, Year};
@@ -115,17 +116,12 @@ fn taken_in(office: &Office, filing: &Filing) -> ByProgram
     ensures { result ≡ taken_by office.now.history filing.now.key filing.now.what }
 {
     match &filing.what {
-        What::Withdraw(withdrawal) => taken_at(office, &withdrawn_at(&filing.key, withdrawal)),
+        What::Withdraw(withdrawal) => {
+            let place = withdrawn_at(&filing.key, withdrawal);
+            Sums::at(office, &place).taken
+        }
         _ => ByProgram::EMPTY,
     }
-}
-
-// What was taken back by program in a term.
-fn taken_at(office: &Office, place: &Place) -> ByProgram
-    ensures { result ≡ taken_there office.now.history place.now }
-{
-    let row = office.place(place.school, place.student, place.year, place.term);
-    row.account.taken
 }
 
 // The term of a withdrawal.

@@ -1,5 +1,5 @@
 //! The lines of a student's ledger.
-ghost use Rattle.std.specs.Prelude.{◌≡◌, ℕ, ◌∷◌, ◌++◌, [], OnOk, codes, decimal};
+ghost use Rattle.std.specs.Prelude.{◌≡◌, ◌∷◌, ◌++◌, [], OnOk, decimal};
 ghost use Rattle.export_lines.specs.Lines.{line_of};
 ghost use Rattle.aid_reports.specs.Columns.{left, right};
 ghost use Rattle.aid_sheets.specs.Lists.{clerk_text};

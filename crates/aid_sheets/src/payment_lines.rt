@@ -8,8 +8,7 @@ ghost use Rattle.aid_sheets.specs.PaymentLines.{payment_line};
 use crate::ledger_lines::moved_line;
 use crate::ledger_rows::{Moved, Movement, movement_word};
 use crate::payment_rows::PaymentRow;
-use crate::pieces::{clerk_or_hyphen, put_bytes, put_day_column, put_number};
-use crate::term_quotes::put_dollars;
+use crate::pieces::{clerk_or_hyphen, put_bytes, put_day_column, put_dollars, put_number};
 use aid_reports::Line;
 use aid_types::{Program, School, Student, Year, program_name};
 use stamps::ClerkName;
@@ -28,7 +27,7 @@ impl Line for PaymentRow {
         put_number(u64::from(self.term), b',', out)?;
         put_program(self.moved.program, out)?;
         put_moved(&self.moved, out)?;
-        put_dollars(self.total, out)?;
+        put_dollars(self.total, b',', out)?;
         put_day_column(self.stamp.day, b',', out)?;
         put_clerk(&self.stamp.clerk, out)
     }

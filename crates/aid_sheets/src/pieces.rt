@@ -1,10 +1,12 @@
 //! Pieces of lines, each with a byte behind it.
 ghost use Rattle.std.specs.Prelude.{◌≡◌, ◌∷◌, ◌++◌, [], IfOk, OnOk, codes, decimal};
+ghost use Rattle.aid_num.specs.Cents.{cents_text};
 ghost use Rattle.desk_forms.specs.Replies.{outcome_text};
 ghost use Rattle.enrolment.specs.Days.{day_text};
 ghost use Rattle.aid_sheets.specs.Lists.{clerk_text};
 
 use aid_filings::Outcome;
+use aid_num::put_cents;
 use aid_types::Day;
 use desk_forms::outcome_line;
 use enrolment::put_day;
@@ -35,6 +37,15 @@ pub(crate) fn put_number(number: u64, end: u8, out: &mut Vec<u8>) -> Result<(), 
 {
     let mut digits = Buffer::new();
     put_bytes(digits.format(number).as_bytes(), end, out)
+}
+
+/// Appends cents as dollars, and a byte behind them.
+pub(crate) fn put_dollars(cents: u64, end: u8, out: &mut Vec<u8>) -> Result<(), AllocError>
+    ensures { OnOk result (out.new.items ≡ out.old.items ++ cents_text cents ++ end ∷ []) }
+{
+    put_cents(cents, out)?;
+    out.push(end)?;
+    Ok(())
 }
 
 /// Appends a day and a byte behind it.

@@ -1,12 +1,10 @@
 //! What the students of a term could be paid of Pell.
-ghost use Rattle.std.specs.Prelude.{◌≡◌, ◌++◌, ◌/◌, ◌∷◌, [], IfOk, OnOk, codes, decimal, map, reverse};
-ghost use Rattle.aid_num.specs.Cents.{cents_text};
+ghost use Rattle.std.specs.Prelude.{◌≡◌, ◌++◌, IfOk, OnOk, reverse};
 ghost use Rattle.aid_sheets.specs.Quotes.{enrolled as enrolled_on, enrolled_by as enrolled_by_what, quote_line, quote_row, quote_rows as quote_rows_on, quotes_sheet};
 
 use crate::headed::headed_text;
-use crate::pieces::put_number;
+use crate::pieces::{put_dollars, put_number};
 use aid_filings::{Filing, What};
-use aid_num::put_cents;
 use aid_reports::{Line, push_told, sort_students};
 use aid_types::{Program, School, Student, Year};
 use office_core::Office;
@@ -120,16 +118,7 @@ impl Line for QuoteOf {
         put_number(self.student.0, b',', out)?;
         put_number(u64::from(self.credits), b',', out)?;
         put_number(u64::from(self.scheduled), b',', out)?;
-        put_dollars(self.pell, out)?;
+        put_dollars(self.pell, b',', out)?;
         put_number(self.quote / 100, b'\n', out)
     }
-}
-
-/// Appends cents as dollars, and a comma.
-pub(crate) fn put_dollars(cents: u64, out: &mut Vec<u8>) -> Result<(), AllocError>
-    ensures { OnOk result (out.new.items ≡ out.old.items ++ cents_text cents ++ codes ",") }
-{
-    put_cents(cents, out)?;
-    out.push(b',')?;
-    Ok(())
 }

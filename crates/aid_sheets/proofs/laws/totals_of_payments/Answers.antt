@@ -1,7 +1,6 @@
-use Rattle.std.proofs.Common.{◌≡◌, ◌+◌, ◌++◌, ◌∷◌, ℕ, [], List, length, reverse, sym, ap, subst, ◌∙◌, arith}
-use Rattle.std.proofs.lemmas.List.{length-append, length-reverse, reverse-append}
+use Rattle.std.proofs.Common.{◌≡◌, ◌+◌, ◌++◌, ◌∷◌, ℕ, List, length, reverse, sym, ap, subst, ◌∙◌}
+use Rattle.std.proofs.lemmas.List.{length-reverse}
 use Rattle.aid_filings.specs.declared.filing.Filing.{Filing}
-use Rattle.stamps.specs.declared.stamp.Stamp.{Stamp}
 use Rattle.std.specs.List.{Contains}
 use Rattle.office_history.proofs.Oldest.{reverse-middle}
 use Rattle.aid_sheets.specs.PaymentLaws.{IsPaymentOf}

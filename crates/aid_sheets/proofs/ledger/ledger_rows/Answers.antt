@@ -1,4 +1,4 @@
-use Rattle.std.proofs.Common.{◌≡◌, ◌≤◌, ◌<◌, refl, ap, arith, length, ◌∙◌}
+use Rattle.std.proofs.Common.{◌≤◌, ◌<◌, refl, ap, arith, length, ◌∙◌}
 use Rattle.std.proofs.lemmas.List.{length-reverse}
 use Rattle.aid_sheets.specs.Ledgers.{ledger_rows, rows_about}
 use Rattle.aid_sheets.proofs.LedgerPass.{passed_more, rows_more, rows_whole}

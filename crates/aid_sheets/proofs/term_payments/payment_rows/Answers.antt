@@ -1,4 +1,4 @@
-use Rattle.std.proofs.Common.{◌≡◌, ◌≤◌, ◌<◌, List, refl, sym, ap, arith, length, ◌∙◌}
+use Rattle.std.proofs.Common.{◌≤◌, ◌<◌, List, refl, sym, ap, arith, length, ◌∙◌}
 use Rattle.std.proofs.lemmas.List.{length-reverse}
 use Rattle.aid_filings.specs.declared.filing.Filing.{Filing}
 use Rattle.aid_sheets.specs.Payments.{payment_rows, payments_by}

@@ -1,4 +1,4 @@
-use Rattle.std.proofs.Common.{[], ◌∷◌, decimal}
+use Rattle.std.proofs.Common.{decimal}
 use Rattle.std.proofs.lemmas.Result.{on_ok_weaker}
 use Rattle.enrolment.specs.Days.{day_text}
 use Rattle.aid_reports.specs.Columns.{left, right}

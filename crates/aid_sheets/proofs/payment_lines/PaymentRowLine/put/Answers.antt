@@ -1,4 +1,4 @@
-use Rattle.std.proofs.Common.{[], ◌∷◌, ◌∙◌, append_assoc, codes, decimal}
+use Rattle.std.proofs.Common.{[], ◌∷◌, ◌∙◌, append_assoc, decimal}
 use Rattle.std.proofs.lemmas.Result.{on_ok_weaker}
 use Rattle.aid_num.specs.Cents.{cents_text}
 use Rattle.aid_types.specs.Words.{program_text}
