@@ -8,6 +8,7 @@ mod filing;
 mod row;
 mod shared;
 mod stop;
+mod waiting;
 
 pub use copies::Copies;
 pub use crew::{close_desks, open_desks};
@@ -15,3 +16,4 @@ pub use desk::Desk;
 pub use filing::file_rows;
 pub use shared::SharedList;
 pub use stop::{DeskEnd, DeskStop};
+pub use waiting::{Stage, WaitingRow};
