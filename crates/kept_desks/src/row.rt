@@ -2,8 +2,8 @@
 ghost use Rattle.std.specs.Prelude.{◌≡◌, ◌++◌, ◌≤◌, ◌+◌, [], length, Ok, IfErr, OnOk, OnErr, vec_len, vec_capacity};
 ghost use Rattle.kept_desks.specs.Rows.{Replies, IsWritten, StopsAt};
 
-use crate::{DeskStop, SharedList};
-use aid_edges::Gate;
+use crate::{DeskStop, SharedList, Stage, WaitingRow};
+use aid_edges::{Gate, Room};
 use disk_model::Disk;
 use kept_list::{Docket, Filed, ListReply, OwnDocket, RowAsk, RowName, Rows};
 use office_lock::{Pass, Turned, Turns};
@@ -12,7 +12,44 @@ use std::sync::Wait;
 /// The greatest length of the line that answers a row.
 const LINE: usize = 160;
 
-// One ask, in a turn of the lock. The gate is called before and after it.
+// Posts what an ask will likely add, where there is a room for it.
+fn post_ask<D: Disk, R: OwnDocket, H: Wait>(
+    rt: &H,
+    turns: &Turns<SharedList<D, R>>,
+    by: RowName,
+    stage: Stage,
+    ask: &R::Ask,
+    room: &mut Option<Room>,
+) {
+    if let Some(room) = room {
+        R::foresee(ask, room);
+        if let Some(row) = WaitingRow::new(by, stage, room.bytes()) {
+            turns.post(rt, row);
+        }
+    }
+}
+
+// Posts an ask whose turn is about to come, and the one behind it, where that is known.
+fn post_asks<D: Disk, R: OwnDocket, H: Wait>(
+    rt: &H,
+    turns: &Turns<SharedList<D, R>>,
+    by: RowName,
+    ask: &R::Ask,
+    next: Option<&R::Ask>,
+    room: &mut Option<Room>,
+) {
+    post_ask(rt, turns, by, Stage::Drawing, ask, room);
+    if let Some(next) = next {
+        let behind = RowName {
+            desk: by.desk,
+            row: by.row.saturating_add(1),
+        };
+        post_ask(rt, turns, behind, Stage::Coming, next, room);
+    }
+}
+
+// One ask, in a turn of the lock, which is told before what it and the ask behind it will likely add. The gate is called
+// before and after it.
 fn turn_row<D: Disk, R: OwnDocket, L: Rows<R>, G: Gate, H: Wait>(
     rt: &H,
     turns: &Turns<SharedList<D, R>>,
@@ -20,6 +57,8 @@ fn turn_row<D: Disk, R: OwnDocket, L: Rows<R>, G: Gate, H: Wait>(
     pass: &mut Pass<Filed<R::Entry>>,
     by: RowName,
     ask: R::Ask,
+    next: Option<&R::Ask>,
+    room: &mut Option<Room>,
 ) -> ListReply<R::Verdict>
     requires { pass.old.lock ≡ turns.now.id }
     ensures replies { Replies L.Error R.judging R.own by ask result pass.old pass.new }
@@ -28,6 +67,8 @@ fn turn_row<D: Disk, R: OwnDocket, L: Rows<R>, G: Gate, H: Wait>(
     ensures opening { pass.new.opening ≡ pass.old.opening }
 {
     gate.hold(by.desk, by.row);
+    turns.approach();
+    post_asks(rt, turns, by, &ask, next, room);
     let reply = turns.turn(rt, pass, RowAsk { ask, by });
     gate.answered(by.desk, by.row);
     reply
@@ -41,6 +82,8 @@ fn file_ask<D: Disk, R: OwnDocket, L: Rows<R>, G: Gate, H: Wait>(
     pass: &mut Pass<Filed<R::Entry>>,
     by: RowName,
     ask: R::Ask,
+    next: Option<&R::Ask>,
+    room: &mut Option<Room>,
     text: &mut Vec<u8>,
 ) -> Result<(), DeskStop>
     requires { pass.old.lock ≡ turns.now.id }
@@ -54,7 +97,7 @@ fn file_ask<D: Disk, R: OwnDocket, L: Rows<R>, G: Gate, H: Wait>(
     if text.reserve(LINE).is_err() {
         return Err(DeskStop::NoMemory);
     }
-    match turn_row::<D, R, L, G, H>(rt, turns, gate, pass, by, ask) {
+    match turn_row::<D, R, L, G, H>(rt, turns, gate, pass, by, ask, next, room) {
         ListReply::Answered { verdict, front } => {
             let _ = L::put_answer(by.row, front, &verdict, text);
             Ok(())
@@ -72,6 +115,8 @@ fn take_row<D: Disk, R: OwnDocket, L: Rows<R>, G: Gate, H: Wait>(
     pass: &mut Pass<Filed<R::Entry>>,
     by: RowName,
     row: Result<R::Ask, L::Error>,
+    next: Option<&R::Ask>,
+    room: &mut Option<Room>,
     text: &mut Vec<u8>,
 ) -> Result<(), DeskStop>
     requires { pass.old.lock ≡ turns.now.id }
@@ -83,7 +128,7 @@ fn take_row<D: Disk, R: OwnDocket, L: Rows<R>, G: Gate, H: Wait>(
     ensures opening { pass.new.opening ≡ pass.old.opening }
 {
     match row {
-        Ok(ask) => file_ask::<D, R, L, G, H>(rt, turns, gate, pass, by, ask, text),
+        Ok(ask) => file_ask::<D, R, L, G, H>(rt, turns, gate, pass, by, ask, next, room, text),
         Err(error) => match L::put_error(&error, text) {
             Ok(()) => Ok(()),
             Err(_) => Err(DeskStop::NoMemory),
@@ -100,6 +145,8 @@ pub(crate) fn file_row<D: Disk, R: OwnDocket, L: Rows<R>, G: Gate, H: Wait>(
     by: RowName,
     prefix: &[u8],
     row: Result<R::Ask, L::Error>,
+    next: Option<&R::Ask>,
+    room: &mut Option<Room>,
     text: &mut Vec<u8>,
 ) -> Result<(), DeskStop>
     requires { pass.old.lock ≡ turns.now.id }
@@ -114,7 +161,7 @@ pub(crate) fn file_row<D: Disk, R: OwnDocket, L: Rows<R>, G: Gate, H: Wait>(
     if text.extend_from_slice(prefix).is_err() {
         return Err(DeskStop::NoMemory);
     }
-    let filed = take_row::<D, R, L, G, H>(rt, turns, gate, pass, by, row, text);
+    let filed = take_row::<D, R, L, G, H>(rt, turns, gate, pass, by, row, next, room, text);
     if filed.is_err() {
         text.truncate(length);
     }
