@@ -2,7 +2,8 @@
 ghost use Rattle.std.specs.Prelude.{◌≡◌, ◌++◌, ◌≤◌, ◌+◌, [], length, Ok, IfErr, OnOk, OnErr, vec_len, vec_capacity};
 ghost use Rattle.kept_desks.specs.Rows.{Replies, IsWritten, StopsAt};
 
-use crate::{DeskStop, SharedList, Stage, WaitingRow};
+use crate::posting::post_asks;
+use crate::{DeskStop, SharedList};
 use aid_edges::{Gate, Room};
 use disk_model::Disk;
 use kept_list::{Docket, Filed, ListReply, OwnDocket, RowAsk, RowName, Rows};
@@ -11,42 +12,6 @@ use std::sync::Wait;
 
 /// The greatest length of the line that answers a row.
 const LINE: usize = 160;
-
-// Posts what an ask will likely add, where there is a room for it.
-fn post_ask<D: Disk, R: OwnDocket, H: Wait>(
-    rt: &H,
-    turns: &Turns<SharedList<D, R>>,
-    by: RowName,
-    stage: Stage,
-    ask: &R::Ask,
-    room: &mut Option<Room>,
-) {
-    if let Some(room) = room {
-        R::foresee(ask, room);
-        if let Some(row) = WaitingRow::new(by, stage, room.bytes()) {
-            turns.post(rt, row);
-        }
-    }
-}
-
-// Posts an ask whose turn is about to come, and the one behind it, where that is known.
-fn post_asks<D: Disk, R: OwnDocket, H: Wait>(
-    rt: &H,
-    turns: &Turns<SharedList<D, R>>,
-    by: RowName,
-    ask: &R::Ask,
-    next: Option<&R::Ask>,
-    room: &mut Option<Room>,
-) {
-    post_ask(rt, turns, by, Stage::Drawing, ask, room);
-    if let Some(next) = next {
-        let behind = RowName {
-            desk: by.desk,
-            row: by.row.saturating_add(1),
-        };
-        post_ask(rt, turns, behind, Stage::Coming, next, room);
-    }
-}
 
 // One ask, in a turn of the lock, which is told before what it and the ask behind it will likely add. The gate is called
 // before and after it.
