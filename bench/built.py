@@ -1,6 +1,9 @@
-"""The programs of this repository, as they are built."""
+"""The programs of this repository, as they are built, and what a disk's sync costs."""
 import os
+import statistics
 import sys
+import tempfile
+import time
 
 TOP = os.path.dirname(os.path.dirname(os.path.abspath(__file__)))
 
@@ -33,3 +36,29 @@ def program_of(crate):
     if not os.access(path, os.X_OK) or max(map(changed, crates_below(crate))) > os.path.getmtime(path):
         sys.exit(f"{sys.argv[0]}: the program isn't built, or is older than its sources: call `rt run` in crates/{crate}")
     return path
+
+
+def older_program(words):
+    """The path behind `--beside`, which with its path leaves the words: an older program to be run in turns with the built one."""
+    if "--beside" not in words[:-1]:
+        return None
+    at = words.index("--beside")
+    path = os.path.abspath(words[at + 1])
+    del words[at : at + 2]
+    if not os.access(path, os.X_OK):
+        sys.exit(f"{sys.argv[0]}: {path} is no program")
+    return path
+
+
+def lone_sync(above):
+    """The microseconds that a sync of one byte inside a file of this folder takes, the middle of 150."""
+    with tempfile.TemporaryFile(dir=above) as file:
+        os.pwrite(file.fileno(), bytes(8192), 0)
+        os.fsync(file.fileno())
+        times = []
+        for at in range(150):
+            start = time.monotonic()
+            os.pwrite(file.fileno(), b"\1", at)
+            os.fdatasync(file.fileno())
+            times.append(time.monotonic() - start)
+        return 1e6 * statistics.median(times)

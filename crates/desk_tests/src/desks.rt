@@ -136,7 +136,7 @@ fn desk_2_pays_first(rt: HostRuntime) -> Result<(), Fail> {
 }
 
 // The disk fails in the turn of desk 1's first row, by the numbers of its calls. Desk 2 files on, and where that row's filing was
-// undecided its turn settles it. Where the file couldn't be made longer, desk 2's turn doesn't try it again: it ends with call 9.
+// undecided its turn settles it. Where the file couldn't be made longer, desk 2's turn doesn't try it again: it ends with call 10.
 #[test]
 fn a_desk_ends_early(rt: HostRuntime) -> Result<(), Fail> {
     let alloc = rt.alloc();
@@ -154,14 +154,14 @@ const TWO_AND_ONE: [&[u8]; 2] = [
 ];
 
 // The calls of the disk that fail, and the text. The file is made longer by a call, the record is written and synced by two more,
-// and its gate by another two.
-const DISK_FAULTS: [(&[u64], &[u8]); 4] = [
+// desk 1's second row is written ahead by one, and the gate is written and synced by another two.
+const DISK_FAULTS: [(&[u64], &[u8]); 5] = [
     (
         &[5],
         b"desk 1 1 fault disk none\ndesk 2 1 2 accepted 3 noted\nadmitted 3 2 1\n",
     ),
     (
-        &[5, 10],
+        &[5, 11],
         b"desk 1 1 fault disk none\ndesk 2 1 2 accepted 3 noted\nadmitted 3 2 1\n",
     ),
     (
@@ -170,6 +170,10 @@ const DISK_FAULTS: [(&[u64], &[u8]); 4] = [
     ),
     (
         &[8],
+        b"desk 1 1 fault disk none\ndesk 2 1 2 accepted 3 noted\nadmitted 3 2 1\n",
+    ),
+    (
+        &[9],
         b"desk 1 1 fault disk 3\ndesk 2 1 3 accepted 4 noted\nadmitted 3 1 1\nadmitted 4 2 1\n",
     ),
 ];

@@ -1,5 +1,6 @@
 pub mod Going
 pub mod Turning
 pub mod Rowing
+pub mod Ahead
 pub mod Gathering
 pub mod Working

@@ -5,13 +5,17 @@ mod copies;
 mod crew;
 mod desk;
 mod filing;
+mod posting;
 mod row;
 mod shared;
 mod stop;
+mod waiting;
 
 pub use copies::Copies;
 pub use crew::{close_desks, open_desks};
 pub use desk::Desk;
 pub use filing::file_rows;
+pub use posting::post_ask;
 pub use shared::SharedList;
 pub use stop::{DeskEnd, DeskStop};
+pub use waiting::{Stage, WaitingRow};

@@ -2,8 +2,9 @@
 ghost use Rattle.std.specs.Prelude.{◌≡◌, ◌++◌, ◌≤◌, ◌+◌, [], length, Ok, IfErr, OnOk, OnErr, vec_len, vec_capacity};
 ghost use Rattle.kept_desks.specs.Rows.{Replies, IsWritten, StopsAt};
 
+use crate::posting::post_asks;
 use crate::{DeskStop, SharedList};
-use aid_edges::Gate;
+use aid_edges::{Gate, Room};
 use disk_model::Disk;
 use kept_list::{Docket, Filed, ListReply, OwnDocket, RowAsk, RowName, Rows};
 use office_lock::{Pass, Turned, Turns};
@@ -12,7 +13,8 @@ use std::sync::Wait;
 /// The greatest length of the line that answers a row.
 const LINE: usize = 160;
 
-// One ask, in a turn of the lock. The gate is called before and after it.
+// One ask, in a turn of the lock, which is told before what it and the ask behind it will likely add. The gate is called
+// before and after it.
 fn turn_row<D: Disk, R: OwnDocket, L: Rows<R>, G: Gate, H: Wait>(
     rt: &H,
     turns: &Turns<SharedList<D, R>>,
@@ -20,6 +22,8 @@ fn turn_row<D: Disk, R: OwnDocket, L: Rows<R>, G: Gate, H: Wait>(
     pass: &mut Pass<Filed<R::Entry>>,
     by: RowName,
     ask: R::Ask,
+    next: Option<&R::Ask>,
+    room: &mut Option<Room>,
 ) -> ListReply<R::Verdict>
     requires { pass.old.lock ≡ turns.now.id }
     ensures replies { Replies L.Error R.judging R.own by ask result pass.old pass.new }
@@ -28,6 +32,8 @@ fn turn_row<D: Disk, R: OwnDocket, L: Rows<R>, G: Gate, H: Wait>(
     ensures opening { pass.new.opening ≡ pass.old.opening }
 {
     gate.hold(by.desk, by.row);
+    turns.approach();
+    post_asks(rt, turns, by, &ask, next, room);
     let reply = turns.turn(rt, pass, RowAsk { ask, by });
     gate.answered(by.desk, by.row);
     reply
@@ -41,6 +47,8 @@ fn file_ask<D: Disk, R: OwnDocket, L: Rows<R>, G: Gate, H: Wait>(
     pass: &mut Pass<Filed<R::Entry>>,
     by: RowName,
     ask: R::Ask,
+    next: Option<&R::Ask>,
+    room: &mut Option<Room>,
     text: &mut Vec<u8>,
 ) -> Result<(), DeskStop>
     requires { pass.old.lock ≡ turns.now.id }
@@ -54,7 +62,7 @@ fn file_ask<D: Disk, R: OwnDocket, L: Rows<R>, G: Gate, H: Wait>(
     if text.reserve(LINE).is_err() {
         return Err(DeskStop::NoMemory);
     }
-    match turn_row::<D, R, L, G, H>(rt, turns, gate, pass, by, ask) {
+    match turn_row::<D, R, L, G, H>(rt, turns, gate, pass, by, ask, next, room) {
         ListReply::Answered { verdict, front } => {
             let _ = L::put_answer(by.row, front, &verdict, text);
             Ok(())
@@ -72,6 +80,8 @@ fn take_row<D: Disk, R: OwnDocket, L: Rows<R>, G: Gate, H: Wait>(
     pass: &mut Pass<Filed<R::Entry>>,
     by: RowName,
     row: Result<R::Ask, L::Error>,
+    next: Option<&R::Ask>,
+    room: &mut Option<Room>,
     text: &mut Vec<u8>,
 ) -> Result<(), DeskStop>
     requires { pass.old.lock ≡ turns.now.id }
@@ -83,7 +93,7 @@ fn take_row<D: Disk, R: OwnDocket, L: Rows<R>, G: Gate, H: Wait>(
     ensures opening { pass.new.opening ≡ pass.old.opening }
 {
     match row {
-        Ok(ask) => file_ask::<D, R, L, G, H>(rt, turns, gate, pass, by, ask, text),
+        Ok(ask) => file_ask::<D, R, L, G, H>(rt, turns, gate, pass, by, ask, next, room, text),
         Err(error) => match L::put_error(&error, text) {
             Ok(()) => Ok(()),
             Err(_) => Err(DeskStop::NoMemory),
@@ -100,6 +110,8 @@ pub(crate) fn file_row<D: Disk, R: OwnDocket, L: Rows<R>, G: Gate, H: Wait>(
     by: RowName,
     prefix: &[u8],
     row: Result<R::Ask, L::Error>,
+    next: Option<&R::Ask>,
+    room: &mut Option<Room>,
     text: &mut Vec<u8>,
 ) -> Result<(), DeskStop>
     requires { pass.old.lock ≡ turns.now.id }
@@ -114,7 +126,7 @@ pub(crate) fn file_row<D: Disk, R: OwnDocket, L: Rows<R>, G: Gate, H: Wait>(
     if text.extend_from_slice(prefix).is_err() {
         return Err(DeskStop::NoMemory);
     }
-    let filed = take_row::<D, R, L, G, H>(rt, turns, gate, pass, by, row, text);
+    let filed = take_row::<D, R, L, G, H>(rt, turns, gate, pass, by, row, next, room, text);
     if filed.is_err() {
         text.truncate(length);
     }

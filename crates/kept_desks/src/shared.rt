@@ -5,6 +5,8 @@ ghost use Rattle.kept_list.specs.Kept.{IsSound};
 ghost use Rattle.kept_list.specs.Turns.{with_entry};
 ghost use Rattle.kept_desks.specs.Notes.{Notes};
 
+use crate::WaitingRow;
+use crate::waiting::Waiting;
 use disk_model::Disk;
 use kept_list::{Docket, Filed, KeptList, ListReply, OwnDocket, RowAsk, RowName};
 use office_lock::Turned;
@@ -19,6 +21,8 @@ pub struct SharedList<D: Disk, R: OwnDocket> {
     log: Vec<RowName>,
     // The row whose entry is undecided.
     waiting: Option<RowName>,
+    // The rows whose turns come. Nothing that is promised rests on them.
+    next: Waiting,
 }
 
 impl<D: Disk, R: OwnDocket> Model for SharedList<D, R> {
@@ -85,7 +89,7 @@ fn note<R: OwnDocket>(
 
 impl<D: Disk, R: OwnDocket> SharedList<D, R> {
     /// Shares a list of which nothing is undecided. Its file is made longer ahead of its records, since of a turn it isn't known
-    /// what comes next.
+    /// for certain what comes next. Room is taken for the rows that wait, where there is memory for it.
     pub fn new(alloc: Global, mut kept: KeptList<D, R>) -> SharedList<D, R>
         requires { kept.pending ≡ None }
         ensures disk { result.disk ≡ kept.disk }
@@ -100,6 +104,7 @@ impl<D: Disk, R: OwnDocket> SharedList<D, R> {
             kept,
             log: Vec::new(alloc),
             waiting: None,
+            next: Waiting::new(alloc),
         }
     }
 
@@ -130,6 +135,7 @@ impl<D: Disk, R: OwnDocket> SharedList<D, R> {
             kept,
             log,
             waiting: _,
+            next: _,
         } = self;
         kept.sound();
         (kept, log)
@@ -147,6 +153,8 @@ impl<D: Disk, R: OwnDocket> Turned for SharedList<D, R> {
 
     type Entry = Filed<R::Entry>;
 
+    type Note = WaitingRow;
+
     ghost stand = { λ s. stand_of s.history s.pending s.log s.waiting (D.faults s.disk) (D.tells s.disk).honest };
 
     ghost own = { λ ask. filed_by (R.own ask.ask) ask.by };
@@ -161,8 +169,13 @@ impl<D: Disk, R: OwnDocket> Turned for SharedList<D, R> {
         }
         let RowAsk { ask, by } = ask;
         let front = self.kept.docket().front();
-        let reply = self.kept.turn(ask);
+        self.next.begin(by);
+        let reply = self.kept.turn_guessing(ask, self.next.bytes());
         note::<R>(&mut self.log, &mut self.waiting, front, by, &reply);
         reply
+    }
+
+    fn hear(&mut self, row: WaitingRow) {
+        self.next.hear(row);
     }
 }

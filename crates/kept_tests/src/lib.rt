@@ -7,6 +7,8 @@ ghost use Rattle.kept_session.specs.Sessions.{Session};
 ghost use Rattle.kept_tests.specs.Rising.{byte_rows, rising_judging, rising_scheme, rising_texts};
 
 pub mod counter;
+#[cfg(test)]
+mod counting_disk;
 pub mod desks;
 mod forms;
 #[cfg(test)]
@@ -23,6 +25,8 @@ pub mod stamped;
 mod stamped_numbers;
 #[cfg(test)]
 mod threads;
+#[cfg(test)]
+mod waits;
 
 use aid_edges::{Sink, Source};
 use disk_model::Disk;

@@ -1,0 +1,207 @@
+// What a turn writes ahead of the rows that wait, by the syncs of a disk.
+ghost use Rattle.std.specs.Prelude.{◌≡◌};
+
+use crate::Rising;
+use crate::counting_disk::CountingDisk;
+use kept_desks::{SharedList, Stage, WaitingRow};
+use kept_list::{Docket, Filed, KeptList, RowAsk, RowName};
+use office_lock::{Pass, Turned, Turns};
+use std::alloc::{AllocError, Global};
+use std::sync::Wait;
+use std::test::Fail;
+
+// The gates, the lengths and the bytes of the numbers 1 to 3 behind the header.
+const THREE: &[u8] =
+    b"\x01NUMBERS1\x01\0\0\0\0\0\0\x01\x01\0\0\0\x01\x01\x01\0\0\0\x02\x01\x01\0\0\0\x03\0";
+
+// What happens: a desk is about to draw a number for a row, a row of it comes later, or its row is filed.
+#[derive(Clone, Copy)]
+enum Event {
+    Draws,
+    Comes,
+    Files,
+}
+
+// An event of a desk's row, which adds a number.
+#[derive(Clone, Copy, Drop)]
+struct Step {
+    event: Event,
+    by: RowName,
+    number: u8,
+}
+
+fn row_step(event: Event, desk: u32, row: u32, number: u8) -> Step {
+    Step {
+        event,
+        by: RowName { desk, row },
+        number,
+    }
+}
+
+type Numbers = SharedList<CountingDisk, Rising>;
+
+// Posts a row.
+fn post<R: Wait>(rt: &R, turns: &Turns<Numbers>, step: Step, stage: Stage) {
+    if let Some(row) = WaitingRow::new(step.by, stage, &[step.number]) {
+        turns.post(rt, row);
+    }
+}
+
+fn take_step<R: Wait>(rt: &R, turns: &Turns<Numbers>, pass: &mut Pass<Filed<u8>>, step: Step)
+    requires { pass.old.lock ≡ turns.now.id }
+    ensures lock { pass.new.lock ≡ pass.old.lock }
+    ensures share { pass.new.allowance ≡ pass.old.allowance }
+{
+    match step.event {
+        Event::Draws => post(rt, turns, step, Stage::Drawing),
+        Event::Comes => post(rt, turns, step, Stage::Coming),
+        Event::Files => {
+            let ask = RowAsk {
+                ask: step.number,
+                by: step.by,
+            };
+            turns.turn(rt, pass, ask);
+        }
+    }
+}
+
+fn take_steps<R: Wait>(rt: &R, turns: &Turns<Numbers>, pass: &mut Pass<Filed<u8>>, steps: &[Step])
+    requires { pass.old.lock ≡ turns.now.id }
+    ensures lock { pass.new.lock ≡ pass.old.lock }
+    ensures share { pass.new.allowance ≡ pass.old.allowance }
+{
+    for step in steps {
+        take_step(rt, turns, pass, *step);
+    }
+}
+
+// Takes steps over a new list. Gives the file, and how often it was synced.
+fn run<R: Wait>(rt: &R, alloc: Global, steps: &[Step]) -> Result<(Vec<u8>, u64), Fail> {
+    let disk = CountingDisk::new(Vec::new(alloc));
+    let Ok(kept) = KeptList::<CountingDisk, Rising>::found(alloc, disk) else {
+        return Err(Fail::new("no list"));
+    };
+    let Ok((turns, mut pass)) = Turns::new(alloc, SharedList::new(alloc, kept), 1) else {
+        return Err(Fail::new("no memory"));
+    };
+    take_steps(rt, &turns, &mut pass, steps);
+    let (kept, _) = turns.close(pass).into_parts();
+    Ok(kept.into_disk().into_parts())
+}
+
+// Four desks that file so many rows in turns, each of which adds the next number. The rows of the turns that come next are
+// drawing, and those behind them are coming.
+fn four_desks(alloc: Global, rows: u8) -> Result<Vec<Step>, AllocError> {
+    let mut steps = Vec::new(alloc);
+    for number in 1..=rows.saturating_add(4) {
+        let desk = u32::from(number % 4);
+        let row = u32::from(number / 4);
+        if number <= rows {
+            steps.push(row_step(Event::Draws, desk, row, number))?;
+        }
+        if number <= rows.saturating_sub(4) {
+            steps.push(row_step(Event::Comes, desk, row + 1, number.saturating_add(4)))?;
+        }
+        if let Some(served @ 1..) = number.checked_sub(4) {
+            let desk = u32::from(served % 4);
+            let row = u32::from(served / 4);
+            steps.push(row_step(Event::Files, desk, row, served))?;
+        }
+    }
+    Ok(steps)
+}
+
+// One desk that files so many rows.
+fn one_desk(alloc: Global, rows: u8) -> Result<Vec<Step>, AllocError> {
+    let mut steps = Vec::new(alloc);
+    for number in 1..=rows {
+        let row = u32::from(number);
+        steps.push(row_step(Event::Draws, 1, row, number))?;
+        if number < rows {
+            steps.push(row_step(Event::Comes, 1, row + 1, number.saturating_add(1)))?;
+        }
+        steps.push(row_step(Event::Files, 1, row, number))?;
+    }
+    Ok(steps)
+}
+
+// The first row takes two syncs, and each later one takes one.
+#[test]
+fn one_sync_a_filing(rt: HostRuntime) -> Result<(), Fail> {
+    let alloc = rt.alloc();
+    let (_, founded) = run(&rt, alloc, &[])?;
+    for rows in [1, 2, 7, 30] {
+        let (_, four) = run(&rt, alloc, &four_desks(alloc, rows)?)?;
+        assert_eq!(rt;
+            four,
+            founded.saturating_add(u64::from(rows) + 1),
+            "four desks, {rows} rows"
+        );
+        let (_, one) = run(&rt, alloc, &one_desk(alloc, rows)?)?;
+        assert_eq!(rt;
+            one,
+            founded.saturating_add(u64::from(rows) + 1),
+            "a desk, {rows} rows"
+        );
+    }
+    Ok(())
+}
+
+// A row of a desk that never comes misleads one turn, or two where it was about to draw.
+#[test]
+fn a_dead_desk_costs_little(rt: HostRuntime) -> Result<(), Fail> {
+    let alloc = rt.alloc();
+    let rows = one_desk(alloc, 20)?;
+    let (_, syncs) = run(&rt, alloc, &rows)?;
+    for (event, more) in [(Event::Comes, 1), (Event::Draws, 2)] {
+        let mut steps = vec![in alloc; row_step(event, 9, 7, 200)]?;
+        steps.extend_from_slice(&rows)?;
+        let (_, misled) = run(&rt, alloc, &steps)?;
+        assert_eq!(rt; misled, syncs.saturating_add(more));
+    }
+    Ok(())
+}
+
+// The rows that another desk files between two of a desk's don't mislead it: none but the first and the second take two syncs.
+#[test]
+fn two_desks_in_turn(rt: HostRuntime) -> Result<(), Fail> {
+    let alloc = rt.alloc();
+    let mut steps = Vec::new(alloc);
+    for row in 1..=10u8 {
+        for desk in 1..=2u8 {
+            let number = 2 * row + desk;
+            let by = u32::from(row);
+            steps.push(row_step(Event::Draws, u32::from(desk), by, number))?;
+            steps.push(row_step(Event::Comes, u32::from(desk), by + 1, number + 2))?;
+            steps.push(row_step(Event::Files, u32::from(desk), by, number))?;
+        }
+    }
+    let (_, founded) = run(&rt, alloc, &[])?;
+    let (_, syncs) = run(&rt, alloc, &steps)?;
+    assert_eq!(rt; syncs, founded.saturating_add(22));
+    Ok(())
+}
+
+// What is written ahead of a row that is refused, or of one that never comes, counts for nothing.
+#[test]
+fn a_refused_row_leaves_the_list(rt: HostRuntime) -> Result<(), Fail> {
+    let alloc = rt.alloc();
+    let steps = [
+        row_step(Event::Draws, 1, 1, 1),
+        row_step(Event::Draws, 2, 1, 1),
+        row_step(Event::Draws, 3, 1, 2),
+        row_step(Event::Files, 1, 1, 1),
+        row_step(Event::Files, 2, 1, 1),
+        row_step(Event::Files, 3, 1, 2),
+        row_step(Event::Draws, 4, 1, 3),
+        row_step(Event::Comes, 9, 1, 250),
+        row_step(Event::Files, 4, 1, 3),
+    ];
+    let (file, _) = run(&rt, alloc, &steps)?;
+    assert!(rt; file.as_slice().starts_with(THREE));
+    match KeptList::<CountingDisk, Rising>::recover(alloc, CountingDisk::new(file)) {
+        Ok(list) => assert_eq!(rt; list.docket().front(), 3),
+        Err(_) => assert!(rt; false),
+    }
+    Ok(())
+}
