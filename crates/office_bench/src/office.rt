@@ -13,7 +13,8 @@ use std::alloc::{AllocError, Global};
 const FILINGS_OF_STUDENT: u32 = 4;
 
 /// Files about so many filings into so many offices, one after the other, and answers what came of the last one: how many were
-/// accepted and refused, the Pell paid and the schools' returns.
+/// accepted and refused, the Pell paid and the schools' returns. All offices are kept until then, so that each takes memory of
+/// its own, as one in a program of its own does.
 pub fn file_offices(
     alloc: Global,
     order: Order,
@@ -21,18 +22,21 @@ pub fn file_offices(
     offices: u32,
 ) -> Result<Tally, AllocError> {
     let mut tally = Tally::default();
+    let mut desks = Vec::new(alloc);
     for _ in 0..offices {
-        tally = file_office(alloc, order, filings)?;
+        let desk = file_office(alloc, order, filings)?;
+        tally = desk.tally;
+        desks.push(desk)?;
     }
     Ok(tally)
 }
 
-// Files into an office of its own.
-fn file_office(alloc: Global, order: Order, filings: u32) -> Result<Tally, AllocError> {
+// An office of its own, into which was filed.
+fn file_office(alloc: Global, order: Order, filings: u32) -> Result<Desk, AllocError> {
     let mut desk = Desk::new(alloc);
     desk.reserve(filings)?;
     file(&mut desk, alloc, order, filings)?;
-    Ok(desk.tally)
+    Ok(desk)
 }
 
 // Files in an order.
