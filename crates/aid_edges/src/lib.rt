@@ -1,5 +1,7 @@
-//! What the office reads from and writes to, and what it holds on the way: sources, sinks, gates, and room for a payload.
-//! Each edge counts its faults, and a call fails only where that count rose.
+//! What the office reads from and writes to, and what it holds on the way: sources, sinks, gates, and room for a payload. Each edge
+//! counts its faults, and a call fails only where that count rose. And what a program does with its machine: its words, its standard
+//! streams, its journal's file and folder, and the files that its desks read. Of these no contract tells what they hold, and nothing is
+//! promised.
 #![tactic(auto)]
 
 mod fault;
