@@ -21,7 +21,7 @@ from sheet import Bad, heading, refuse
 
 NAMES = {
     "number": "number reference filing_number", "student": "student student_id student_number", "program": "program fund",
-    "amount": "amount net cents dollars", "school": "school school_code", "year": "year award_year aid_year", "term": "term",
+    "amount": "amount net dollars", "school": "school school_code", "year": "year award_year aid_year", "term": "term",
 }
 ALSO = {word: name for name, words in NAMES.items() for word in words.split()}
 READS = {"student": sheet.whole, "program": sheet.program, "school": sheet.whole, "year": sheet.award_year, "term": sheet.whole, "number": sheet.whole}
@@ -44,7 +44,13 @@ def ledger_of(path):
     """The lines of the ledger, by the names of its columns."""
     with open(path, "rb") as file:
         names, rows = sheet.read(file.read())
-    of = {ALSO[heading(name)]: name for name in names if heading(name) in ALSO}
+    of = {}
+    for name in names:
+        known = ALSO.get(heading(name))
+        if known in of:
+            raise Bad(f"two columns are its {known}: {of[known]} and {name}")
+        if known:
+            of[known] = name
     for name in ("student", "program", "amount"):
         if name not in of:
             raise Bad(f"it has no column {name}")

@@ -1,4 +1,5 @@
-//! Rows of a text, each read by a form.
+//! Rows of a text, each read by a form; and the lines that answer rows, as far as they are the same at every desk: that a row is
+//! none, that it is fine, how many there are, and that a filing is refused.
 #![tactic(auto)]
 
 mod count;

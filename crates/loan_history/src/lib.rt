@@ -1,4 +1,5 @@
-//! What is on file of Direct Loans, the rules by which a filing is judged on it, and the limits within which each student stays.
+//! What a desk files of Direct Loans: the limits of a year, a borrower's record, what was borrowed before, loans and their
+//! cancellations. What is on file of them, the rules by which a filing is judged on it, and the limits within which each student stays.
 #![tactic(auto)]
 
 mod bounds;

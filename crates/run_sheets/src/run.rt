@@ -54,7 +54,8 @@ fn write_sheet<D: Disk, K: Sink>(
 /// Writes the sheet that the words ask for, and answers the status and the disk as it is then. A row of words is a
 /// request, in front of which `upto POSITION` may stand: `list` writes all filings, each as its row behind its stamp;
 /// `student` the ledger of a student, `need` how the index and the award of a student in a year came about, `quotes`
-/// what the students of a term could be paid, and `report` a report of the aid office. Behind `upto POSITION` the sheet
+/// what the students of a term could be paid, `payments` what moved in it, `withdrawal` the worksheet of a return of
+/// funds, and `report` a report of the aid office. Behind `upto POSITION` the sheet
 /// is that of the list as it stood when so many filings were on it, and `none` where there are fewer. Nothing is filed.
 /// The office is opened, and the whole text is made, before any of it is written.
 ///

@@ -1,4 +1,5 @@
-//! What is on file of Federal Work-Study, the rules by which a filing is judged on it, and how each fund adds up.
+//! What a desk files of Federal Work-Study: the fund of a school's award year, awards, earnings and releases. What is on file of
+//! them, the rules by which a filing is judged on it, and how each fund adds up.
 #![tactic(auto)]
 
 mod facts;
