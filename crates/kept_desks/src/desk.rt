@@ -6,8 +6,8 @@ ghost use Rattle.kept_desks.specs.Desks.{IsReady, Works};
 ghost use Rattle.kept_desks.specs.DeskTexts.{end_row, stop_at};
 
 use crate::filing::file_rows;
-use crate::{Copies, DeskEnd, DeskStop, SharedList};
-use aid_edges::{Gate, Room};
+use crate::{Copies, DeskEnd, DeskStop, Poster, SharedList};
+use aid_edges::Gate;
 use disk_model::Disk;
 use kept_list::{Docket, Filed, OwnDocket, RowName, Rows};
 use office_lock::{Pass, Turned, Turns};
@@ -23,8 +23,7 @@ pub struct Desk<R: OwnDocket, L: Rows<R>> {
     prefix: Vec<u8>,
     rows: L,
     text: Vec<u8>,
-    // For what its rows will likely add, where there was memory for it.
-    room: Option<Room>,
+    poster: Poster,
     answered: u32,
     ended: DeskEnd,
     // What the row may add at which it stopped.
@@ -73,7 +72,7 @@ impl<R: OwnDocket, L: Rows<R>> Desk<R, L> {
             prefix,
             rows,
             text: Vec::new(alloc),
-            room: Room::new(alloc).ok(),
+            poster: Poster::new(alloc),
             answered: 0,
             ended: DeskEnd::Open,
             last: None,
@@ -172,7 +171,7 @@ impl<R: OwnDocket, L: Rows<R>> Desk<R, L> {
             self.number,
             &self.prefix,
             &mut self.rows,
-            &mut self.room,
+            &mut self.poster,
             &mut self.text,
         );
         self.answered = answered;

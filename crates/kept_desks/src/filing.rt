@@ -6,8 +6,8 @@ ghost use Rattle.kept_desks.specs.Answered.{Files, IsClean};
 
 use crate::copies::copy_row;
 use crate::row::file_row;
-use crate::{Copies, DeskEnd, DeskStop, SharedList};
-use aid_edges::{Gate, Room};
+use crate::{Copies, DeskEnd, DeskStop, Poster, SharedList};
+use aid_edges::Gate;
 use disk_model::Disk;
 use kept_list::{Docket, Filed, OwnDocket, RowName, Rows, ask_of};
 use office_lock::{Pass, Turned, Turns};
@@ -15,7 +15,7 @@ use std::sync::Wait;
 
 /// Files the rows that are left, in order, each in a turn of the lock, and appends a line for each. It ends at the first
 /// fault of the disk and at want of memory. It answers how many rows have lines, how it ended, and a copy of what the row
-/// may add at which it stopped. One row is read ahead, so that the turns before its own may go by it; the room is for that.
+/// may add at which it stopped. One row is read ahead, so that it may be posted with the one before it.
 pub fn file_rows<D: Disk, R: OwnDocket, L: Rows<R>, C: Copies<R>, G: Gate, H: Wait>(
     rt: &H,
     turns: &Turns<SharedList<D, R>>,
@@ -24,7 +24,7 @@ pub fn file_rows<D: Disk, R: OwnDocket, L: Rows<R>, C: Copies<R>, G: Gate, H: Wa
     desk: u32,
     prefix: &[u8],
     rows: &mut L,
-    room: &mut Option<Room>,
+    poster: &mut Poster,
     text: &mut Vec<u8>,
 ) -> (u32, DeskEnd, Option<R::Entry>)
     requires lock { pass.old.lock ≡ turns.now.id }
@@ -55,7 +55,9 @@ pub fn file_rows<D: Disk, R: OwnDocket, L: Rows<R>, C: Copies<R>, G: Gate, H: Wa
         };
         let copy = copy_row::<R, C, L::Error>(&row);
         let ahead = ask_of(&next);
-        match file_row::<D, R, L, G, H>(rt, turns, gate, pass, by, prefix, row, ahead, room, text) {
+        match file_row::<D, R, L, G, H>(
+            rt, turns, gate, pass, by, prefix, row, ahead, poster, text,
+        ) {
             Ok(()) => count += 1,
             Err(stop) => return (count, DeskEnd::Stopped(stop), copy),
         }

@@ -15,7 +15,7 @@ pub use copies::Copies;
 pub use crew::{close_desks, open_desks};
 pub use desk::Desk;
 pub use filing::file_rows;
-pub use posting::post_ask;
+pub use posting::Poster;
 pub use shared::SharedList;
 pub use stop::{DeskEnd, DeskStop};
 pub use waiting::{Stage, WaitingRow};

@@ -2,9 +2,8 @@
 ghost use Rattle.std.specs.Prelude.{◌≡◌, ◌++◌, ◌≤◌, ◌+◌, [], length, Ok, IfErr, OnOk, OnErr, vec_len, vec_capacity};
 ghost use Rattle.kept_desks.specs.Rows.{Replies, IsWritten, StopsAt};
 
-use crate::posting::post_asks;
-use crate::{DeskStop, SharedList};
-use aid_edges::{Gate, Room};
+use crate::{DeskStop, Poster, SharedList};
+use aid_edges::Gate;
 use disk_model::Disk;
 use kept_list::{Docket, Filed, ListReply, OwnDocket, RowAsk, RowName, Rows};
 use office_lock::{Pass, Turned, Turns};
@@ -23,7 +22,7 @@ fn turn_row<D: Disk, R: OwnDocket, L: Rows<R>, G: Gate, H: Wait>(
     by: RowName,
     ask: R::Ask,
     next: Option<&R::Ask>,
-    room: &mut Option<Room>,
+    poster: &mut Poster,
 ) -> ListReply<R::Verdict>
     requires { pass.old.lock ≡ turns.now.id }
     ensures replies { Replies L.Error R.judging R.own by ask result pass.old pass.new }
@@ -33,7 +32,7 @@ fn turn_row<D: Disk, R: OwnDocket, L: Rows<R>, G: Gate, H: Wait>(
 {
     gate.hold(by.desk, by.row);
     turns.approach();
-    post_asks(rt, turns, by, &ask, next, room);
+    poster.post_both(rt, turns, by, &ask, next);
     let reply = turns.turn(rt, pass, RowAsk { ask, by });
     gate.answered(by.desk, by.row);
     reply
@@ -48,7 +47,7 @@ fn file_ask<D: Disk, R: OwnDocket, L: Rows<R>, G: Gate, H: Wait>(
     by: RowName,
     ask: R::Ask,
     next: Option<&R::Ask>,
-    room: &mut Option<Room>,
+    poster: &mut Poster,
     text: &mut Vec<u8>,
 ) -> Result<(), DeskStop>
     requires { pass.old.lock ≡ turns.now.id }
@@ -62,7 +61,7 @@ fn file_ask<D: Disk, R: OwnDocket, L: Rows<R>, G: Gate, H: Wait>(
     if text.reserve(LINE).is_err() {
         return Err(DeskStop::NoMemory);
     }
-    match turn_row::<D, R, L, G, H>(rt, turns, gate, pass, by, ask, next, room) {
+    match turn_row::<D, R, L, G, H>(rt, turns, gate, pass, by, ask, next, poster) {
         ListReply::Answered { verdict, front } => {
             let _ = L::put_answer(by.row, front, &verdict, text);
             Ok(())
@@ -81,7 +80,7 @@ fn take_row<D: Disk, R: OwnDocket, L: Rows<R>, G: Gate, H: Wait>(
     by: RowName,
     row: Result<R::Ask, L::Error>,
     next: Option<&R::Ask>,
-    room: &mut Option<Room>,
+    poster: &mut Poster,
     text: &mut Vec<u8>,
 ) -> Result<(), DeskStop>
     requires { pass.old.lock ≡ turns.now.id }
@@ -93,7 +92,7 @@ fn take_row<D: Disk, R: OwnDocket, L: Rows<R>, G: Gate, H: Wait>(
     ensures opening { pass.new.opening ≡ pass.old.opening }
 {
     match row {
-        Ok(ask) => file_ask::<D, R, L, G, H>(rt, turns, gate, pass, by, ask, next, room, text),
+        Ok(ask) => file_ask::<D, R, L, G, H>(rt, turns, gate, pass, by, ask, next, poster, text),
         Err(error) => match L::put_error(&error, text) {
             Ok(()) => Ok(()),
             Err(_) => Err(DeskStop::NoMemory),
@@ -111,7 +110,7 @@ pub(crate) fn file_row<D: Disk, R: OwnDocket, L: Rows<R>, G: Gate, H: Wait>(
     prefix: &[u8],
     row: Result<R::Ask, L::Error>,
     next: Option<&R::Ask>,
-    room: &mut Option<Room>,
+    poster: &mut Poster,
     text: &mut Vec<u8>,
 ) -> Result<(), DeskStop>
     requires { pass.old.lock ≡ turns.now.id }
@@ -126,7 +125,7 @@ pub(crate) fn file_row<D: Disk, R: OwnDocket, L: Rows<R>, G: Gate, H: Wait>(
     if text.extend_from_slice(prefix).is_err() {
         return Err(DeskStop::NoMemory);
     }
-    let filed = take_row::<D, R, L, G, H>(rt, turns, gate, pass, by, row, next, room, text);
+    let filed = take_row::<D, R, L, G, H>(rt, turns, gate, pass, by, row, next, poster, text);
     if filed.is_err() {
         text.truncate(length);
     }

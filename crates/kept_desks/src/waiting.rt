@@ -1,10 +1,9 @@
 // Which rows wait for their turns, and by whose a turn goes.
-use arrayvec::ArrayVec;
 use kept_list::RowName;
 use std::alloc::Global;
 use std::collections::VecDeque;
 
-// So many bytes are noted of a row at most.
+// So many bytes are noted of a row at most: as many as a journal writes ahead.
 const MOST_BYTES: usize = 512;
 
 // So many rows of each stage are known at most: one of each pass.
@@ -24,24 +23,17 @@ pub enum Stage {
 pub struct WaitingRow {
     by: RowName,
     stage: Stage,
-    bytes: ArrayVec<u8, MOST_BYTES>,
+    bytes: Vec<u8>,
 }
 
 impl WaitingRow {
-    /// A row with these bytes. Of no bytes, and of more than 512, nothing is to be posted.
-    pub fn new(by: RowName, stage: Stage, bytes: &[u8]) -> Option<WaitingRow> {
-        if bytes.is_empty() {
+    /// A row with these bytes. Of no bytes, of more than 512, and where there is no memory for them, nothing is to be posted.
+    pub fn new(alloc: Global, by: RowName, stage: Stage, bytes: &[u8]) -> Option<WaitingRow> {
+        if bytes.is_empty() || bytes.len() > MOST_BYTES {
             return None;
         }
-        let mut kept = ArrayVec::new();
-        match kept.try_extend_from_slice(bytes) {
-            Ok(()) => Some(WaitingRow {
-                by,
-                stage,
-                bytes: kept,
-            }),
-            Err(_) => None,
-        }
+        let bytes = bytes.to_vec(alloc).ok()?;
+        Some(WaitingRow { by, stage, bytes })
     }
 }
 

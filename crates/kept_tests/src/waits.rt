@@ -41,20 +41,26 @@ fn row_step(event: Event, desk: u32, row: u32, number: u8) -> Step {
 type Numbers = SharedList<CountingDisk, Rising>;
 
 // Posts a row.
-fn post<R: Wait>(rt: &R, turns: &Turns<Numbers>, step: Step, stage: Stage) {
-    if let Some(row) = WaitingRow::new(step.by, stage, &[step.number]) {
+fn post<R: Wait>(rt: &R, alloc: Global, turns: &Turns<Numbers>, step: Step, stage: Stage) {
+    if let Some(row) = WaitingRow::new(alloc, step.by, stage, &[step.number]) {
         turns.post(rt, row);
     }
 }
 
-fn take_step<R: Wait>(rt: &R, turns: &Turns<Numbers>, pass: &mut Pass<Filed<u8>>, step: Step)
+fn take_step<R: Wait>(
+    rt: &R,
+    alloc: Global,
+    turns: &Turns<Numbers>,
+    pass: &mut Pass<Filed<u8>>,
+    step: Step,
+)
     requires { pass.old.lock ≡ turns.now.id }
     ensures lock { pass.new.lock ≡ pass.old.lock }
     ensures share { pass.new.allowance ≡ pass.old.allowance }
 {
     match step.event {
-        Event::Draws => post(rt, turns, step, Stage::Drawing),
-        Event::Comes => post(rt, turns, step, Stage::Coming),
+        Event::Draws => post(rt, alloc, turns, step, Stage::Drawing),
+        Event::Comes => post(rt, alloc, turns, step, Stage::Coming),
         Event::Files => {
             let ask = RowAsk {
                 ask: step.number,
@@ -65,13 +71,19 @@ fn take_step<R: Wait>(rt: &R, turns: &Turns<Numbers>, pass: &mut Pass<Filed<u8>>
     }
 }
 
-fn take_steps<R: Wait>(rt: &R, turns: &Turns<Numbers>, pass: &mut Pass<Filed<u8>>, steps: &[Step])
+fn take_steps<R: Wait>(
+    rt: &R,
+    alloc: Global,
+    turns: &Turns<Numbers>,
+    pass: &mut Pass<Filed<u8>>,
+    steps: &[Step],
+)
     requires { pass.old.lock ≡ turns.now.id }
     ensures lock { pass.new.lock ≡ pass.old.lock }
     ensures share { pass.new.allowance ≡ pass.old.allowance }
 {
     for step in steps {
-        take_step(rt, turns, pass, *step);
+        take_step(rt, alloc, turns, pass, *step);
     }
 }
 
@@ -84,7 +96,7 @@ fn run<R: Wait>(rt: &R, alloc: Global, steps: &[Step]) -> Result<(Vec<u8>, u64),
     let Ok((turns, mut pass)) = Turns::new(alloc, SharedList::new(alloc, kept), 1) else {
         return Err(Fail::new("no memory"));
     };
-    take_steps(rt, &turns, &mut pass, steps);
+    take_steps(rt, alloc, &turns, &mut pass, steps);
     let (kept, _) = turns.close(pass).into_parts();
     Ok(kept.into_disk().into_parts())
 }

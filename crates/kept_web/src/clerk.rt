@@ -7,9 +7,8 @@ ghost use Rattle.stamped_list.specs.Rows.{judging_under, own_under};
 ghost use Rattle.kept_web.specs.Clerks.{PassAnswers, PassReaches};
 
 use crate::{DocketForms, FormsOf};
-use aid_edges::Room;
 use disk_model::Disk;
-use kept_desks::{SharedList, Stage, post_ask};
+use kept_desks::{Poster, SharedList, Stage};
 use kept_list::{Docket, Filed, ListReply, OwnDocket, RowAsk, RowName};
 use office_lock::{Pass, Turned, Turns};
 use stamped_list::{Stampable, StampedAsk, StampedEntry, Stamping};
@@ -20,8 +19,7 @@ use std::sync::Wait;
 use web_desk::{Clerk, End, serve};
 use web_edges::Link;
 
-// The clerk of one connection. Each ask is a turn of the lock, under one name and one stamp. The room is for what an ask will
-// likely add, where there was memory for it.
+// The clerk of one connection. Each ask is a turn of the lock, under one name and one stamp, and is posted before it.
 #[derive(Drop)]
 struct PassClerk<'a, D: Disk, R: Stampable + OwnDocket, H> {
     rt: &'a H,
@@ -29,7 +27,7 @@ struct PassClerk<'a, D: Disk, R: Stampable + OwnDocket, H> {
     pass: Pass<Filed<StampedEntry<R::Entry>>>,
     by: RowName,
     stamp: Stamp,
-    room: Option<Room>,
+    poster: Poster,
 }
 
 impl<'a, D: Disk, R: Stampable + OwnDocket, H> Model for PassClerk<'a, D, R, H> {
@@ -66,14 +64,8 @@ impl<'a, D: Disk, R: Stampable + OwnDocket, T: DocketForms<R>, H: Wait> Clerk<Fo
             stamp: self.stamp,
         };
         self.turns.approach();
-        post_ask(
-            self.rt,
-            self.turns,
-            self.by,
-            Stage::Drawing,
-            &ask,
-            &mut self.room,
-        );
+        self.poster
+            .post(self.rt, self.turns, self.by, Stage::Drawing, &ask);
         let ask = RowAsk { ask, by: self.by };
         self.turns.turn(self.rt, &mut self.pass, ask)
     }
@@ -106,7 +98,7 @@ pub fn serve_desk<D: Disk, R: Stampable + OwnDocket, T: DocketForms<R>, L: Link,
         pass,
         by,
         stamp,
-        room: Room::new(alloc).ok(),
+        poster: Poster::new(alloc),
     };
     let end = serve::<FormsOf<R, T>, PassClerk<D, R, H>, L>(alloc, &mut clerk, link);
     (clerk.into_pass(), end)
