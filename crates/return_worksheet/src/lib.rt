@@ -3,10 +3,12 @@
 
 mod entries;
 mod entry;
+mod laws;
 mod lines;
 mod on_file;
 mod sheet;
 mod words;
 mod worked;
 
+pub use laws::repaid_of_owed;
 pub use on_file::withdrawal;
