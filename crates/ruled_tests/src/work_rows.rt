@@ -1,5 +1,5 @@
 // Rows and rounds of the work-study desk, and the lines that answer them.
-use crate::runs::{office, ran};
+use crate::work_runs::{office, ran};
 use std::test::Fail;
 
 const ROUND: [&str; 4] = ["round", "101", "2025", "10"];

@@ -1,5 +1,5 @@
 // Two desks that lend to one student at once, in either order.
-use crate::runs::office;
+use crate::loan_runs::office;
 use aid_edges::{HoldGate, MemorySink, SteadySource};
 use direct_loans::Loans;
 use disk_model::MemoryDisk;

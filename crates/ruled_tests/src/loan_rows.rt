@@ -1,5 +1,5 @@
 // Rows of the loan desk and the lines that answer them.
-use crate::runs::{LIMITS, disk, office, ran};
+use crate::loan_runs::{LIMITS, disk, office, ran};
 use std::test::Fail;
 
 // Each of these rows behind the limits: the worked ones, those sent again, and others.
