@@ -20,5 +20,6 @@ pub use front::front_of;
 pub use laws::{rows_of_student, totals_of_payments};
 pub use ledger::student;
 pub use lists::list;
+pub use pieces::none_text;
 pub use term_payments::payments;
 pub use term_quotes::quotes;

@@ -14,7 +14,7 @@ use itoa::Buffer;
 use std::alloc::{AllocError, Global};
 
 /// The text that tells that there is no line.
-pub(crate) fn none_text(alloc: Global) -> Result<Vec<u8>, AllocError>
+pub fn none_text(alloc: Global) -> Result<Vec<u8>, AllocError>
     ensures { IfOk result (λ text. text.items ≡ codes "none\n") }
 {
     let mut text = Vec::new(alloc);

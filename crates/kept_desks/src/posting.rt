@@ -2,7 +2,7 @@
 use crate::{SharedList, Stage, WaitingRow};
 use aid_edges::Room;
 use disk_model::Disk;
-use kept_list::{Docket, OwnDocket, RowName};
+use kept_list::{Docket, OwnDocket};
 use office_lock::{Turned, Turns};
 use std::alloc::Global;
 use std::sync::Wait;
@@ -23,39 +23,36 @@ impl Poster {
         }
     }
 
-    /// Posts an ask. To be called between the approach and the turn.
-    pub fn post<D: Disk, R: OwnDocket, H: Wait>(
+    // Posts an ask of a desk.
+    fn post_one<D: Disk, R: OwnDocket, H: Wait>(
         &mut self,
         rt: &H,
         turns: &Turns<SharedList<D, R>>,
-        by: RowName,
+        desk: u32,
         stage: Stage,
         ask: &R::Ask,
     ) {
         if let Some(room) = &mut self.room {
             R::foresee(ask, room);
-            if let Some(row) = WaitingRow::new(self.alloc, by, stage, room.bytes()) {
+            if let Some(row) = WaitingRow::new(self.alloc, desk, stage, room.bytes()) {
                 turns.post(rt, row);
             }
         }
     }
 
-    // Posts an ask whose turn is about to come, and the one behind it, where that is known.
-    pub(crate) fn post_both<D: Disk, R: OwnDocket, H: Wait>(
+    /// Posts a desk's ask whose turn is about to come, and the one behind it, where that is known. To be called between the
+    /// approach and the turn. A connection is a desk of its own here.
+    pub fn post<D: Disk, R: OwnDocket, H: Wait>(
         &mut self,
         rt: &H,
         turns: &Turns<SharedList<D, R>>,
-        by: RowName,
+        desk: u32,
         ask: &R::Ask,
         next: Option<&R::Ask>,
     ) {
-        self.post(rt, turns, by, Stage::Drawing, ask);
+        self.post_one(rt, turns, desk, Stage::Drawing, ask);
         if let Some(next) = next {
-            let behind = RowName {
-                desk: by.desk,
-                row: by.row.saturating_add(1),
-            };
-            self.post(rt, turns, behind, Stage::Coming, next);
+            self.post_one(rt, turns, desk, Stage::Coming, next);
         }
     }
 }

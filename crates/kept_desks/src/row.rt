@@ -32,7 +32,7 @@ fn turn_row<D: Disk, R: OwnDocket, L: Rows<R>, G: Gate, H: Wait>(
 {
     gate.hold(by.desk, by.row);
     turns.approach();
-    poster.post_both(rt, turns, by, &ask, next);
+    poster.post(rt, turns, by.desk, &ask, next);
     let reply = turns.turn(rt, pass, RowAsk { ask, by });
     gate.answered(by.desk, by.row);
     reply

@@ -169,7 +169,7 @@ impl<D: Disk, R: OwnDocket> Turned for SharedList<D, R> {
         }
         let RowAsk { ask, by } = ask;
         let front = self.kept.docket().front();
-        self.next.begin(by);
+        self.next.begin(by.desk);
         let reply = self.kept.turn_guessing(ask, self.next.bytes());
         note::<R>(&mut self.log, &mut self.waiting, front, by, &reply);
         reply

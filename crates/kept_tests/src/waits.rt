@@ -42,7 +42,7 @@ type Numbers = SharedList<CountingDisk, Rising>;
 
 // Posts a row.
 fn post<R: Wait>(rt: &R, alloc: Global, turns: &Turns<Numbers>, step: Step, stage: Stage) {
-    if let Some(row) = WaitingRow::new(alloc, step.by, stage, &[step.number]) {
+    if let Some(row) = WaitingRow::new(alloc, step.by.desk, stage, &[step.number]) {
         turns.post(rt, row);
     }
 }
@@ -137,6 +137,20 @@ fn one_desk(alloc: Global, rows: u8) -> Result<Vec<Step>, AllocError> {
     Ok(steps)
 }
 
+// One connection with so many requests, of which some came at once: all are filed under one name, and each but the last of those
+// that came at once is known ahead.
+fn one_connection(alloc: Global, requests: u8, at_once: u8) -> Result<Vec<Step>, AllocError> {
+    let mut steps = Vec::new(alloc);
+    for number in 1..=requests {
+        steps.push(row_step(Event::Draws, 1, 1, number))?;
+        if at_once > 0 && number % at_once != 0 {
+            steps.push(row_step(Event::Comes, 1, 1, number.saturating_add(1)))?;
+        }
+        steps.push(row_step(Event::Files, 1, 1, number))?;
+    }
+    Ok(steps)
+}
+
 // The first row takes two syncs, and each later one takes one.
 #[test]
 fn one_sync_a_filing(rt: HostRuntime) -> Result<(), Fail> {
@@ -154,6 +168,22 @@ fn one_sync_a_filing(rt: HostRuntime) -> Result<(), Fail> {
             one,
             founded.saturating_add(u64::from(rows) + 1),
             "a desk, {rows} rows"
+        );
+    }
+    Ok(())
+}
+
+// Of the requests that come at once the first takes two syncs, and each later one takes one.
+#[test]
+fn requests_at_once(rt: HostRuntime) -> Result<(), Fail> {
+    let alloc = rt.alloc();
+    let (_, founded) = run(&rt, alloc, &[])?;
+    for (at_once, more) in [(1, 24), (2, 12), (8, 3), (24, 1)] {
+        let (_, syncs) = run(&rt, alloc, &one_connection(alloc, 24, at_once)?)?;
+        assert_eq!(rt;
+            syncs,
+            founded.saturating_add(24 + more),
+            "{at_once} at once"
         );
     }
     Ok(())

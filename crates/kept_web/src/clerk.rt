@@ -8,7 +8,7 @@ ghost use Rattle.kept_web.specs.Clerks.{PassAnswers, PassReaches};
 
 use crate::{DocketForms, FormsOf};
 use disk_model::Disk;
-use kept_desks::{Poster, SharedList, Stage};
+use kept_desks::{Poster, SharedList};
 use kept_list::{Docket, Filed, ListReply, OwnDocket, RowAsk, RowName};
 use office_lock::{Pass, Turned, Turns};
 use stamped_list::{Stampable, StampedAsk, StampedEntry, Stamping};
@@ -19,7 +19,8 @@ use std::sync::Wait;
 use web_desk::{Clerk, End, serve};
 use web_edges::Link;
 
-// The clerk of one connection. Each ask is a turn of the lock, under one name and one stamp, and is posted before it.
+// The clerk of one connection. Each ask is a turn of the lock, under one name and one stamp, and is posted before it, as is the
+// one behind it, where that has come.
 #[derive(Drop)]
 struct PassClerk<'a, D: Disk, R: Stampable + OwnDocket, H> {
     rt: &'a H,
@@ -58,14 +59,13 @@ impl<'a, D: Disk, R: Stampable + OwnDocket, T: DocketForms<R>, H: Wait> Clerk<Fo
 
     ghost faults = { stamped_faults };
 
-    fn ask(&mut self, ask: R::Ask) -> ListReply<R::Verdict> {
-        let ask = StampedAsk {
-            ask,
-            stamp: self.stamp,
-        };
+    fn ask(&mut self, ask: R::Ask, next: Option<R::Ask>) -> ListReply<R::Verdict> {
+        let stamp = self.stamp;
+        let ask = StampedAsk { ask, stamp };
+        let next = next.map(|ask| StampedAsk { ask, stamp });
         self.turns.approach();
         self.poster
-            .post(self.rt, self.turns, self.by, Stage::Drawing, &ask);
+            .post(self.rt, self.turns, self.by.desk, &ask, next.as_ref());
         let ask = RowAsk { ask, by: self.by };
         self.turns.turn(self.rt, &mut self.pass, ask)
     }

@@ -1,10 +1,10 @@
 //! A sheet that is asked for, as a text of the office.
-ghost use Rattle.std.specs.Prelude.{◌≡◌, ◌-◌, ◌≤◌, IfOk, codes, drop, length, reverse};
+ghost use Rattle.std.specs.Prelude.{◌≡◌, ◌-◌, ◌≤◌, IfOk, drop, length, reverse};
 ghost use Rattle.run_sheets.specs.Texts.{report_on, sheet_on};
 
 use crate::request::{SheetRequest, SheetRow};
 use aid_reports::{awards, export, lifetimes, returns, stamp_lines, standings};
-use aid_sheets::{front_of, list, payments, quotes, student};
+use aid_sheets::{front_of, list, none_text, payments, quotes, student};
 use kept_office::StampedOffice;
 use kept_session::Report;
 use need_worksheet::need;
@@ -56,15 +56,6 @@ fn first_sheet(
 {
     let past = front_of(alloc, office, front)?;
     sheet(alloc, request, &past, &stamps[..front as usize])
-}
-
-// The text that tells that there are fewer filings.
-fn none_text(alloc: Global) -> Result<Vec<u8>, AllocError>
-    ensures { IfOk result (λ text. text.items ≡ codes "none\n") }
-{
-    let mut text = Vec::new(alloc);
-    text.extend_from_slice(b"none\n")?;
-    Ok(text)
 }
 
 // The sheet on an office.

@@ -12,8 +12,9 @@ pub trait Clerk<F: CallForms> {
     /// How many disk faults there were. At the end of its type the count stands still.
     ghost faults: { Self → ℕ };
 
-    /// Answers an ask. A reply of the status 503 comes only where the count of disk faults rose in this call.
-    fn ask(&mut self, ask: F::Ask) -> F::Reply
+    /// Answers an ask. A reply of the status 503 comes only where the count of disk faults rose in this call. The ask that
+    /// stands behind it is told ahead, where it has come; nothing rests on it.
+    fn ask(&mut self, ask: F::Ask, next: Option<F::Ask>) -> F::Reply
         ensures asked { asked self.old ask result self.new }
         ensures later { faults self.old ≤ faults self.new }
         ensures cause { F.scheme.status result ≡ Status.Unavailable → Rose (faults self.old) (faults self.new) };

@@ -8,9 +8,10 @@ ghost use Rattle.web_desk.specs.Exchange.{Tells};
 ghost use Rattle.web_desk.specs.NextRequests.{RequestFits, IsBad, IsMore, told_of};
 
 use crate::Status;
-use crate::call::Route;
+use crate::call::{Call, Route};
 use crate::head::{Head, read_head};
-use crate::pieces::{Found, await_bytes, find_head};
+use crate::pieces::{Found, await_bytes, find_head, front};
+use crate::scan::Scan;
 use crate::stop::Stop;
 use matchit::Router;
 use web_edges::Link;
@@ -84,4 +85,19 @@ pub fn read_request<L: Link>(
         Found::TooLarge => Ok(NextRequest::Bad(Status::HeadTooLarge)),
         Found::InputEnded => Ok(NextRequest::More),
     }
+}
+
+/// What the request calls for, and its body, that stands in front of the bytes held, where it has come whole and calls for
+/// something. It reads no more.
+pub fn held_request<'a>(router: &Router<Route>, held: &'a [u8]) -> Option<(Call, &'a [u8])>
+    requires { router.now ≡ the_routes }
+{
+    let end = Scan::new().advance(front(held))?;
+    let head = read_head(router, &held[..end]).ok()?;
+    let call = head.call.ok()?;
+    let size = end + head.length;
+    if size > held.len() {
+        return None;
+    }
+    Some((call, &held[end..size]))
 }

@@ -46,8 +46,8 @@ pub fn fill<L: Link>(link: &mut L, held: &mut Vec<u8>) -> Result<bool, Stop>
     Ok(count > 0)
 }
 
-// The first 16,384 bytes.
-fn front(held: &[u8]) -> &[u8]
+/// The first 16,384 bytes.
+pub fn front(held: &[u8]) -> &[u8]
     ensures front { result.now ≡ take 16384 held.now }
     ensures within { length result.now ≤ length held.now }
 {

@@ -10,7 +10,7 @@ ghost use Rattle.web_desk.specs.Exchange.{Tells, whole, request_at, rejection_of
 
 use crate::call::{Call, Route, routes};
 use crate::head::Head;
-use crate::next_request::{NextRequest, read_request};
+use crate::next_request::{NextRequest, held_request, read_request};
 use crate::response::{Answer, failure};
 use crate::stop::Stop;
 use crate::{CallForms, Clerk, End, Status};
@@ -35,12 +35,24 @@ fn has_begun(bytes: &[u8]) -> bool
     false
 }
 
-// Answers a call: the clerk is asked where the body is an ask.
+// The ask that stands in front of the bytes held, where its request has come whole. Without memory there is none.
+fn held_ask<F: CallForms>(alloc: Global, router: &Router<Route>, held: &[u8]) -> Option<F::Ask>
+    requires { router.now ≡ the_routes }
+{
+    let (call, body) = held_request(router, held)?;
+    match F::read(alloc, call, body) {
+        Ok(ask) => ask,
+        Err(_) => None,
+    }
+}
+
+// Answers a call: the clerk is asked where the body is an ask, and told the ask behind it.
 fn answer_call<F: CallForms, C: Clerk<F>>(
     alloc: Global,
     clerk: &mut C,
     call: Call,
     body: &[u8],
+    next: Option<F::Ask>,
 ) -> Result<Answer, AllocError>
     ensures ok { IfOk result (λ answer. AnswersCall F.scheme C.asked C.faults clerk.old (Ok call) body.now answer clerk.new) }
     ensures err { OnErr result (IsStopped (λ answer. AnswersCall F.scheme C.asked C.faults clerk.old (Ok call) body.now answer clerk.new) clerk.old clerk.new) }
@@ -49,7 +61,7 @@ fn answer_call<F: CallForms, C: Clerk<F>>(
     let Some(ask) = F::read(alloc, call, body)? else {
         return failure(alloc, Status::BadRequest);
     };
-    let reply = clerk.ask(ask);
+    let reply = clerk.ask(ask, next);
     let text = F::write(alloc, &reply)?;
     Ok(Answer::new(F::status(&reply), text))
 }
@@ -60,13 +72,14 @@ fn answer_to<F: CallForms, C: Clerk<F>>(
     clerk: &mut C,
     head: Head,
     body: &[u8],
+    next: Option<F::Ask>,
 ) -> Result<Answer, AllocError>
     ensures ok { IfOk result (λ answer. Answers F.scheme C.asked C.faults clerk.old (record { head = head; body = body.now }) answer clerk.new) }
     ensures err { OnErr result (IsStopped (λ answer. Answers F.scheme C.asked C.faults clerk.old (record { head = head; body = body.now }) answer clerk.new) clerk.old clerk.new) }
     ensures reached { Reaches (IsAsked C.asked C.faults F.scheme.status) clerk.old clerk.new }
 {
     match head.call {
-        Ok(call) => answer_call::<F, C>(alloc, clerk, call, body),
+        Ok(call) => answer_call::<F, C>(alloc, clerk, call, body, next),
         Err(status) => failure(alloc, status),
     }
 }
@@ -101,6 +114,7 @@ fn respond_to<F: CallForms, C: Clerk<F>, L: Link>(
     link: &mut L,
     head: Head,
     body: &[u8],
+    next: Option<F::Ask>,
 ) -> Result<(), Stop>
     ensures honest { (L.tells link.new).honest ≡ (L.tells link.old).honest }
     ensures left { IsHonest (L.tells link.old) → (L.tells link.new).left ≡ (L.tells link.old).left }
@@ -114,7 +128,7 @@ fn respond_to<F: CallForms, C: Clerk<F>, L: Link>(
     ensures cause { IsErrOf result Stop.Fault → Rose (L.faults link.old) (L.faults link.new) }
 {
     let closes = head.closes;
-    let Ok(answer) = answer_to::<F, C>(alloc, clerk, head, body) else {
+    let Ok(answer) = answer_to::<F, C>(alloc, clerk, head, body, next) else {
         return Err(Stop::NoMemory);
     };
     write_answer(alloc, link, &answer, closes)
@@ -160,13 +174,15 @@ fn drop_front(alloc: Global, held: &mut Vec<u8>, count: usize) -> Result<(), All
 // goes on.
 fn respond<F: CallForms, C: Clerk<F>, L: Link>(
     alloc: Global,
+    router: &Router<Route>,
     clerk: &mut C,
     link: &mut L,
     held: &mut Vec<u8>,
     head: Head,
     end: usize,
 ) -> Option<End>
-    requires { end + head.length ≤ length held.old.items }
+    requires routes { router.now ≡ the_routes }
+    requires within { end + head.length ≤ length held.old.items }
     ensures step { IsHonest (L.tells link.old) → (n : ℕ)
         → Tells (held.old.items ++ (L.tells link.old).left) (whole (request_at (held.old.items ++ (L.tells link.old).left) end head))
         → MatchOption result
@@ -180,7 +196,9 @@ fn respond<F: CallForms, C: Clerk<F>, L: Link>(
 {
     let size = end + head.length;
     let closes = head.closes;
-    if let Err(stop) = respond_to::<F, C, L>(alloc, clerk, link, head, &held[end..size]) {
+    let next = held_ask::<F>(alloc, router, &held[size..]);
+    let body = &held[end..size];
+    if let Err(stop) = respond_to::<F, C, L>(alloc, clerk, link, head, body, next) {
         return Some(end_of(stop));
     }
     if closes {
@@ -223,7 +241,7 @@ fn serve_one<F: CallForms, C: Clerk<F>, L: Link>(
             Err(stop) => Some(end_of(stop)),
         },
         Ok(NextRequest::Whole { head, end }) => respond::<F, C, L>(
-            alloc, clerk, link, held, head, end,
+            alloc, router, clerk, link, held, head, end,
         ),
     }
 }

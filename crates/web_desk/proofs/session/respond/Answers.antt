@@ -12,7 +12,7 @@ returns-in-Err-clause-step g c honest n is =
     let answers = Answers g.F.CallForms.scheme g.C.Clerk.asked g.C.Clerk.faults in
     front_serves answers _ _ _ _ _ _ c.in-Err.stop c.end_of.result c.end_of.ensures
     (step_stopped answers n _ _ _ _ _ (request_at (held ++ left) c.args.end c.args.head) is
-    (stopped_as answers _ _ _ _ _ _ (same_request held _ left c.args.head c.args.end c.requires c.deref.ensures.value) (c.in-Err.ensures.err honest)))
+    (stopped_as answers _ _ _ _ _ _ (same_request held _ left c.args.head c.args.end c.requires.within c.deref.ensures.value) (c.in-Err.ensures.err honest)))
 
 pub returns-then-closes-clause-step : goal.returns-then-closes-clause-step
 returns-then-closes-clause-step g c honest n is =
@@ -20,7 +20,7 @@ returns-then-closes-clause-step g c honest n is =
     let held = c.args.held.now.items in
     let answers = Answers g.F.CallForms.scheme g.C.Clerk.asked g.C.Clerk.faults in
     step_closing answers n _ _ _ _ _ (request_at (held ++ left) c.args.end c.args.head) is c.if-closes.true
-    (answered_as answers _ _ _ _ _ _ (same_request held _ left c.args.head c.args.end c.requires c.deref.ensures.value) (c.in_default.ensures.ok honest))
+    (answered_as answers _ _ _ _ _ _ (same_request held _ left c.args.head c.args.end c.requires.within c.deref.ensures.value) (c.in_default.ensures.ok honest))
 
 pub returns-in-Ok-clause-step : goal.returns-in-Ok-clause-step
 returns-in-Ok-clause-step g c honest n is =
@@ -28,8 +28,8 @@ returns-in-Ok-clause-step g c honest n is =
     let held = c.args.held.now.items in
     let answers = Answers g.F.CallForms.scheme g.C.Clerk.asked g.C.Clerk.faults in
     step_going answers n _ _ _ _ _ _ (request_at (held ++ left) c.args.end c.args.head) is c.if-closes.false
-    (rest_is held left _ _ _ c.requires c.in-Ok.ensures (c.respond_to.ensures.left honest))
-    (answered_as answers _ _ _ _ _ _ (same_request held _ left c.args.head c.args.end c.requires c.deref.ensures.value) (c.in_default.ensures.ok honest))
+    (rest_is held left _ _ _ c.requires.within c.in-Ok.ensures (c.respond_to.ensures.left honest))
+    (answered_as answers _ _ _ _ _ _ (same_request held _ left c.args.head c.args.end c.requires.within c.deref.ensures.value) (c.in_default.ensures.ok honest))
 
 pub returns-in-Err-drop_front-clause-step : goal.returns-in-Err-drop_front-clause-step
 returns-in-Err-drop_front-clause-step g c honest n is =
@@ -38,4 +38,4 @@ returns-in-Err-drop_front-clause-step g c honest n is =
     let answers = Answers g.F.CallForms.scheme g.C.Clerk.asked g.C.Clerk.faults in
     step_half answers n _ _ _ _ _ (request_at (held ++ left) c.args.end c.args.head) is
     (half_of answers _ _ _ _ _
-    (answered_as answers _ _ _ _ _ _ (same_request held _ left c.args.head c.args.end c.requires c.deref.ensures.value) (c.in_default.ensures.ok honest)))
+    (answered_as answers _ _ _ _ _ _ (same_request held _ left c.args.head c.args.end c.requires.within c.deref.ensures.value) (c.in_default.ensures.ok honest)))
