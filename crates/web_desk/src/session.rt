@@ -39,7 +39,9 @@ fn has_begun(bytes: &[u8]) -> bool
 fn held_ask<F: CallForms>(alloc: Global, router: &Router<Route>, held: &[u8]) -> Option<F::Ask>
     requires { router.now ≡ the_routes }
 {
-    let (call, body) = held_request(router, held)?;
+    let Some((call, body)) = held_request(router, held) else {
+        return None;
+    };
     match F::read(alloc, call, body) {
         Ok(ask) => ask,
         Err(_) => None,
@@ -196,8 +198,8 @@ fn respond<F: CallForms, C: Clerk<F>, L: Link>(
 {
     let size = end + head.length;
     let closes = head.closes;
-    let next = held_ask::<F>(alloc, router, &held[size..]);
     let body = &held[end..size];
+    let next = held_ask::<F>(alloc, router, &held[size..]);
     if let Err(stop) = respond_to::<F, C, L>(alloc, clerk, link, head, body, next) {
         return Some(end_of(stop));
     }
