@@ -51,18 +51,33 @@ impl<'a, D: Disk, R: Stampable + OwnDocket, H> PassClerk<'a, D, R, H> {
     }
 }
 
+// An ask under a stamp, where there is one.
+fn under<A: Drop>(ask: Option<A>, stamp: &Stamp) -> Option<StampedAsk<A>> {
+    match ask {
+        Some(ask) => Some(StampedAsk { ask, stamp: *stamp }),
+        None => None,
+    }
+}
+
 impl<'a, D: Disk, R: Stampable + OwnDocket, T: DocketForms<R>, H: Wait> Clerk<FormsOf<R, T>>
     for PassClerk<'a, D, R, H> {
     ghost use Rattle.kept_web.specs.Clerks.{AsksUnder, stamped_faults};
+    ghost use Rattle.web_desk.specs.declared.status.Status.TheVariants.{Unavailable};
 
     ghost asked = { AsksUnder R.judging R.own };
 
     ghost faults = { stamped_faults };
 
-    fn ask(&mut self, ask: R::Ask, next: Option<R::Ask>) -> ListReply<R::Verdict> {
-        let stamp = self.stamp;
-        let ask = StampedAsk { ask, stamp };
-        let next = next.map(|ask| StampedAsk { ask, stamp });
+    fn ask(&mut self, ask: R::Ask, next: Option<R::Ask>) -> ListReply<R::Verdict>
+        ensures asked { AsksUnder R.judging R.own self.old ask result self.new }
+        ensures later { stamped_faults self.old ≤ stamped_faults self.new }
+        ensures cause { T.scheme.status result ≡ Unavailable → Rose (stamped_faults self.old) (stamped_faults self.new) }
+    {
+        let ask = StampedAsk {
+            ask,
+            stamp: self.stamp,
+        };
+        let next = under(next, &self.stamp);
         self.turns.approach();
         self.poster
             .post(self.rt, self.turns, self.by.desk, &ask, next.as_ref());
