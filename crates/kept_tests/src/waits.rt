@@ -1,5 +1,5 @@
 // What a turn writes ahead of the rows that wait, by the syncs of a disk.
-ghost use Rattle.std.specs.Prelude.{◌≡◌};
+ghost use Rattle.std.specs.Prelude.{◌≡◌, None, IfSome};
 
 use crate::Rising;
 use crate::counting_disk::CountingDisk;
@@ -87,18 +87,51 @@ fn take_steps<R: Wait>(
     }
 }
 
-// Takes steps over a new list. Gives the file, and how often it was synced.
-fn run<R: Wait>(rt: &R, alloc: Global, steps: &[Step]) -> Result<(Vec<u8>, u64), Fail> {
+// A new list.
+fn founded(alloc: Global) -> Option<KeptList<CountingDisk, Rising>>
+    ensures { IfSome result (λ kept. kept.pending ≡ None) }
+{
     let disk = CountingDisk::new(Vec::new(alloc));
-    let Ok(kept) = KeptList::<CountingDisk, Rising>::found(alloc, disk) else {
-        return Err(Fail::new("no list"));
-    };
-    let Ok((turns, mut pass)) = Turns::new(alloc, SharedList::new(alloc, kept), 1) else {
-        return Err(Fail::new("no memory"));
+    match KeptList::<CountingDisk, Rising>::found(alloc, disk) {
+        Ok(kept) => Some(kept),
+        Err(_) => None,
+    }
+}
+
+// A new list that is shared.
+fn shared(alloc: Global) -> Option<Numbers>
+    ensures { IfSome result (λ numbers. numbers.pending ≡ None) }
+{
+    let kept = founded(alloc)?;
+    Some(SharedList::new(alloc, kept))
+}
+
+// The file of a list, and how often it was synced.
+fn file_of(numbers: Numbers) -> (Vec<u8>, u64) {
+    let (kept, _) = numbers.into_parts();
+    kept.into_disk().into_parts()
+}
+
+// Takes steps over a shared list.
+fn taken<R: Wait>(rt: &R, alloc: Global, numbers: Numbers, steps: &[Step]) -> Option<Numbers>
+    requires { numbers.pending ≡ None }
+{
+    let Ok((turns, mut pass)) = Turns::new(alloc, numbers, 1) else {
+        return None;
     };
     take_steps(rt, alloc, &turns, &mut pass, steps);
-    let (kept, _) = turns.close(pass).into_parts();
-    Ok(kept.into_disk().into_parts())
+    Some(turns.close(pass))
+}
+
+// Takes steps over a new list. Gives the file, and how often it was synced.
+fn run<R: Wait>(rt: &R, alloc: Global, steps: &[Step]) -> Result<(Vec<u8>, u64), Fail> {
+    let Some(numbers) = shared(alloc) else {
+        return Err(Fail::new("no list"));
+    };
+    match taken(rt, alloc, numbers, steps) {
+        Some(numbers) => Ok(file_of(numbers)),
+        None => Err(Fail::new("no memory")),
+    }
 }
 
 // Four desks that file so many rows in turns, each of which adds the next number. The rows of the turns that come next are
