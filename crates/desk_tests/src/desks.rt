@@ -1,7 +1,9 @@
 // What many desks do at once: two that pay one student, in either order, one that ends early, those that don't begin, and
 // those whose lines can't be written.
 use crate::runs::{assert_runs, with_book};
-use aid_edges::{FreeGate, Gate, HoldGate, MemorySink, MemorySource, SteadySource, read_to_limit};
+use aid_edges::{
+    FreeGate, Gate, HoldGate, MemorySink, MemorySource, Source, SteadySource, read_to_limit,
+};
 use disk_model::MemoryDisk;
 use kept_session::INPUT_LIMIT;
 use run_office::{DeskInput, run_desks};
@@ -73,12 +75,39 @@ fn assert_written<H: Threads + Wait + Abort + Sync>(
     failing: &[u64],
     ends: (u8, &[u8]),
 ) -> Result<MemoryDisk, Fail> {
-    let mut desks = two_desks(alloc, rows)?;
-    let mut sink = MemorySink::new(alloc, failing.to_vec(alloc)?);
-    let (status, after) = run_desks(rt, alloc, &mut desks, disk, gate, &mut sink);
+    let mut desks = desks_with(alloc, &rows)?;
+    assert_ends(rt, alloc, &mut desks, disk, gate, failing, ends)
+}
+
+// Desks file their rows behind a gate, where these calls of the sink fail. They end with this status and this text. Gives the disk.
+fn assert_ends<G: Gate + Sync, H: Threads + Wait + Abort + Sync>(
+    rt: &H,
+    alloc: Global,
+    desks: &mut [DeskInput<SteadySource>],
+    disk: MemoryDisk,
+    gate: &G,
+    failing: &[u64],
+    ends: (u8, &[u8]),
+) -> Result<MemoryDisk, Fail> {
+    let (status, sink, after) = filed(rt, alloc, desks, disk, gate, failing)?;
     assert_eq!(rt; status, ends.0);
     assert_eq!(rt; sink.text(), ends.1);
     Ok(after)
+}
+
+// The same without asserting how they end. Gives the status, the sink with the text, and the disk.
+fn filed<S: Source, G: Gate + Sync, H: Threads + Wait + Sync>(
+    rt: &H,
+    alloc: Global,
+    desks: &mut [DeskInput<S>],
+    disk: MemoryDisk,
+    gate: &G,
+    failing: &[u64],
+) -> Result<(u8, MemorySink, MemoryDisk), AllocError> {
+    let failing = failing.to_vec(alloc)?;
+    let mut sink = MemorySink::new(alloc, failing);
+    let (status, after) = run_desks(rt, alloc, desks, disk, gate, &mut sink);
+    Ok((status, sink, after))
 }
 
 // A desk that files under the plain stamp.
@@ -89,12 +118,14 @@ fn plain_desk<S>(input: S) -> DeskInput<S> {
     }
 }
 
-// Two desks with these rows.
-fn two_desks(alloc: Global, rows: [&[u8]; 2]) -> Result<Vec<DeskInput<SteadySource>>, AllocError> {
-    let [one, other] = rows;
-    let one = SteadySource::new(one.to_vec(alloc)?);
-    let other = SteadySource::new(other.to_vec(alloc)?);
-    Ok(vec![in alloc; plain_desk(one), plain_desk(other)]?)
+// Desks with these rows.
+fn desks_with(alloc: Global, rows: &[&[u8]]) -> Result<Vec<DeskInput<SteadySource>>, AllocError> {
+    let mut desks = Vec::new(alloc);
+    for row in rows {
+        let input = SteadySource::new(row.to_vec(alloc)?);
+        desks.push(plain_desk(input))?;
+    }
+    Ok(desks)
 }
 
 // The payments of 3,000 dollars that two schools file for the student, whose lifetime limit has room for one of them.
@@ -105,47 +136,51 @@ const PAYMENTS: [&[u8]; 2] = [
 
 #[test]
 fn desk_1_pays_first(rt: HostRuntime) -> Result<(), Fail> {
-    let alloc = rt.alloc();
     let gate = HoldGate::new(2, 1, 1_000_000);
     let text =
         b"desk 1 1 14 accepted 15 paid 3000.00 590568\ndesk 2 1 15 refused 56 631136 600000\nadmitted 15 1 1\n";
-    assert_filed(
-        &rt,
-        alloc,
-        two_schools(&rt, alloc)?,
-        &gate,
-        PAYMENTS,
-        (0, text),
-    )
+    assert_paid(&rt, rt.alloc(), &gate, text)
 }
 
 #[test]
 fn desk_2_pays_first(rt: HostRuntime) -> Result<(), Fail> {
-    let alloc = rt.alloc();
     let gate = HoldGate::new(1, 2, 1_000_000);
     let text =
         b"desk 1 1 15 refused 56 631136 600000\ndesk 2 1 14 accepted 15 paid 3000.00 590568\nadmitted 15 2 1\n";
-    assert_filed(
-        &rt,
-        alloc,
-        two_schools(&rt, alloc)?,
-        &gate,
-        PAYMENTS,
-        (0, text),
-    )
+    assert_paid(&rt, rt.alloc(), &gate, text)
+}
+
+// Both schools file their payments, and are answered so.
+fn assert_paid<H: Threads + Wait + Abort + Sync>(
+    rt: &H,
+    alloc: Global,
+    gate: &HoldGate,
+    text: &[u8],
+) -> Result<(), Fail> {
+    let disk = two_schools(rt, alloc)?;
+    assert_filed(rt, alloc, disk, gate, PAYMENTS, (0, text))
 }
 
 // The disk fails in the turn of desk 1's first row, by the numbers of its calls. Desk 2 files on, and where that row's filing was
 // undecided its turn settles it. Where the file couldn't be made longer, desk 2's turn doesn't try it again: it ends with call 10.
 #[test]
 fn a_desk_ends_early(rt: HostRuntime) -> Result<(), Fail> {
-    let alloc = rt.alloc();
     for (calls, text) in DISK_FAULTS {
-        let gate = HoldGate::new(2, 1, 1_000_000);
-        let disk = disk(alloc, BOTH, calls, None)?;
-        assert_filed(&rt, alloc, disk, &gate, TWO_AND_ONE, (5, text))?;
+        assert_disk_fault(&rt, rt.alloc(), calls, text)?;
     }
     Ok(())
+}
+
+// These calls of the disk fail, and this is the text.
+fn assert_disk_fault<H: Threads + Wait + Abort + Sync>(
+    rt: &H,
+    alloc: Global,
+    calls: &[u64],
+    text: &[u8],
+) -> Result<(), Fail> {
+    let gate = HoldGate::new(2, 1, 1_000_000);
+    let disk = disk(alloc, BOTH, calls, None)?;
+    assert_filed(rt, alloc, disk, &gate, TWO_AND_ONE, (5, text))
 }
 
 const TWO_AND_ONE: [&[u8]; 2] = [
@@ -185,13 +220,22 @@ fn all_have_filed_when_a_write_fails(rt: HostRuntime) -> Result<(), Fail> {
     let alloc = rt.alloc();
     let filed = assert_runs(&rt, alloc, BOTH, &ONE_SESSION)?;
     for (call, status, text) in WRITE_FAULTS {
-        let gate = HoldGate::new(2, 1, 1_000_000);
-        let disk = disk(alloc, BOTH, &[], None)?;
-        let ends = (status, text);
-        let after = assert_written(&rt, alloc, disk, &gate, ONE_AND_ONE, &[call], ends)?;
+        let after = failed_write(&rt, alloc, call, (status, text))?;
         assert!(rt; after.image().starts_with(filed.image()), "call {call}");
     }
     Ok(())
+}
+
+// This call of the sink fails, and the desks end so. Gives the disk.
+fn failed_write<H: Threads + Wait + Abort + Sync>(
+    rt: &H,
+    alloc: Global,
+    call: u64,
+    ends: (u8, &[u8]),
+) -> Result<MemoryDisk, Fail> {
+    let gate = HoldGate::new(2, 1, 1_000_000);
+    let disk = disk(alloc, BOTH, &[], None)?;
+    assert_written(rt, alloc, disk, &gate, ONE_AND_ONE, &[call], ends)
 }
 
 const ONE_AND_ONE: [&[u8]; 2] = [b"prior,0,7,5007,1\n", b"prior,0,8,5008,1\n"];
@@ -243,14 +287,28 @@ fn assert_stopped<H: Threads + Wait + Abort + Sync>(
     text: &str,
 ) -> Result<(), Fail> {
     let mut desks = three_desks(alloc, bad)?;
-    let mut sink = MemorySink::new(alloc, Vec::new(alloc));
-    let disk = disk(alloc, BOTH, &[], None)?;
-    let (status, after) = run_desks(rt, alloc, &mut desks, disk, &FreeGate, &mut sink);
-    assert_eq!(rt; status, want, "{text}");
-    assert_eq!(rt; sink.text(), text.as_bytes());
-    assert_eq!(rt; after.image(), BOTH, "{text}");
+    assert_untouched(rt, alloc, &mut desks, BOTH, &[], (want, text))?;
     assert_left(rt, alloc, desks.as_mut_slice(), 0, b"")?;
     assert_left(rt, alloc, desks.as_mut_slice(), 2, GOOD)
+}
+
+// Desks end with this status and this text, where these calls of the sink fail, and their file stays as it was.
+fn assert_untouched<H: Threads + Wait + Abort + Sync>(
+    rt: &H,
+    alloc: Global,
+    desks: &mut [DeskInput<MemorySource>],
+    image: &[u8],
+    failing: &[u64],
+    ends: (u8, &str),
+) -> Result<(), Fail> {
+    let count = desks.len();
+    let disk = disk(alloc, image, &[], None)?;
+    let (status, sink, after) = filed(rt, alloc, desks, disk, &FreeGate, failing)?;
+    let (want, text) = ends;
+    assert_eq!(rt; status, want, "{count} desks, {text}");
+    assert_eq!(rt; sink.text(), text.as_bytes(), "{count} desks");
+    assert_eq!(rt; after.image(), image, "{count} desks, {text}");
+    Ok(())
 }
 
 // What wasn't read of the input of the desk at this place.
@@ -282,8 +340,14 @@ fn three_desks(
 const GOOD: &[u8] = b"prior,0,2,5001,550000\n";
 
 fn good_desk(alloc: Global) -> Result<DeskInput<MemorySource>, AllocError> {
-    let input = MemorySource::new(GOOD.to_vec(alloc)?, Vec::new(alloc));
-    Ok(plain_desk(input))
+    desk_where(alloc, &[])
+}
+
+// A desk of whose input these calls fail.
+fn desk_where(alloc: Global, failing: &[u64]) -> Result<DeskInput<MemorySource>, AllocError> {
+    let text = GOOD.to_vec(alloc)?;
+    let failing = failing.to_vec(alloc)?;
+    Ok(plain_desk(MemorySource::new(text, failing)))
 }
 
 #[test]
@@ -315,13 +379,7 @@ fn assert_unfiled<H: Threads + Wait + Abort + Sync>(
 ) -> Result<(), Fail> {
     let (count, unread, image, failing, want, text) = row;
     let mut desks = desks_of(alloc, count, unread)?;
-    let mut sink = MemorySink::new(alloc, failing.to_vec(alloc)?);
-    let disk = disk(alloc, image, &[], None)?;
-    let (status, after) = run_desks(rt, alloc, &mut desks, disk, &FreeGate, &mut sink);
-    assert_eq!(rt; status, want, "{count} desks");
-    assert_eq!(rt; sink.text(), text.as_bytes(), "{count} desks");
-    assert_eq!(rt; after.image(), image, "{count} desks");
-    Ok(())
+    assert_untouched(rt, alloc, &mut desks, image, failing, (want, text))
 }
 
 // So many desks, of which the one with this number can't be read.
@@ -332,20 +390,10 @@ fn desks_of(
 ) -> Result<Vec<DeskInput<MemorySource>>, AllocError> {
     let mut desks = Vec::new(alloc);
     for number in 1..=count {
-        let desk = if number == unread {
-            bad_desk(alloc)?
-        } else {
-            good_desk(alloc)?
-        };
-        desks.push(desk)?;
+        let failing: &[u64] = if number == unread { &[1] } else { &[] };
+        desks.push(desk_where(alloc, failing)?)?;
     }
     Ok(desks)
-}
-
-// A desk whose input fails at the first call.
-fn bad_desk(alloc: Global) -> Result<DeskInput<MemorySource>, AllocError> {
-    let input = MemorySource::new(GOOD.to_vec(alloc)?, vec![in alloc; 1]?);
-    Ok(plain_desk(input))
 }
 
 // Two gates, each of which holds a desk up.
@@ -372,33 +420,37 @@ impl Gate for TwoGates {
 // where both file the same, and else that which files what stands there.
 #[test]
 fn the_first_row_is_named(rt: HostRuntime) -> Result<(), Fail> {
-    let alloc = rt.alloc();
-    let cases: [(&[u8], &[u8]); 2] = [
-        (
-            b"prior,0,7,5007,1\n",
-            b"desk 1 1 fault disk 3\ndesk 2 1 fault disk 3\ndesk 3 1 3 accepted 4 noted\nadmitted 3 1 1\nadmitted 4 3 1\n",
-        ),
-        (
-            b"prior,0,9,5009,1\n",
-            b"desk 1 1 fault disk 3\ndesk 2 1 fault disk 3\ndesk 3 1 3 accepted 4 noted\nadmitted 3 2 1\nadmitted 4 3 1\n",
-        ),
-    ];
-    for (row, text) in cases {
-        let gate = TwoGates {
-            first: HoldGate::new(1, 2, 1_000_000),
-            second: HoldGate::new(3, 1, 1_000_000),
-        };
-        let rows: [&[u8]; 3] = [row, b"prior,0,7,5007,1\n", b"prior,0,8,5008,1\n"];
-        let mut desks = Vec::new(alloc);
-        for row in rows {
-            let input = SteadySource::new(row.to_vec(alloc)?);
-            desks.push(plain_desk(input))?;
-        }
-        let mut sink = MemorySink::new(alloc, Vec::new(alloc));
-        let disk = disk(alloc, BOTH, &[8, 9], None)?;
-        let (status, _disk) = run_desks(&rt, alloc, &mut desks, disk, &gate, &mut sink);
-        assert_eq!(rt; status, 5);
-        assert_eq!(rt; sink.text(), text);
+    for (row, text) in NAMED {
+        assert_named(&rt, rt.alloc(), row, text)?;
     }
+    Ok(())
+}
+
+// The row of desk 1, and the text.
+const NAMED: [(&[u8], &[u8]); 2] = [
+    (
+        b"prior,0,7,5007,1\n",
+        b"desk 1 1 fault disk 3\ndesk 2 1 fault disk 3\ndesk 3 1 3 accepted 4 noted\nadmitted 3 1 1\nadmitted 4 3 1\n",
+    ),
+    (
+        b"prior,0,9,5009,1\n",
+        b"desk 1 1 fault disk 3\ndesk 2 1 fault disk 3\ndesk 3 1 3 accepted 4 noted\nadmitted 3 2 1\nadmitted 4 3 1\n",
+    ),
+];
+
+fn assert_named<H: Threads + Wait + Abort + Sync>(
+    rt: &H,
+    alloc: Global,
+    row: &[u8],
+    text: &[u8],
+) -> Result<(), Fail> {
+    let gate = TwoGates {
+        first: HoldGate::new(1, 2, 1_000_000),
+        second: HoldGate::new(3, 1, 1_000_000),
+    };
+    let rows: [&[u8]; 3] = [row, b"prior,0,7,5007,1\n", b"prior,0,8,5008,1\n"];
+    let mut desks = desks_with(alloc, &rows)?;
+    let disk = disk(alloc, BOTH, &[8, 9], None)?;
+    assert_ends(rt, alloc, &mut desks, disk, &gate, &[], (5, text))?;
     Ok(())
 }

@@ -14,13 +14,24 @@ pub(crate) fn assert_runs(
     runs: &[Run],
 ) -> Result<MemoryDisk, Fail> {
     let mut kept = disk(alloc, image, &[], None)?;
-    for &(line, input, want, text) in runs {
-        let (status, sink, next) = ran(alloc, line, input.as_bytes(), kept, &[])?;
-        assert_eq!(rt; sink.text(), text.as_bytes(), "{line}: {input}");
-        assert_eq!(rt; status, want, "{line}");
-        kept = next;
+    for &run in runs {
+        kept = assert_run(rt, alloc, kept, run)?;
     }
     Ok(kept)
+}
+
+// A run over a file ends so. Gives the file that it leaves.
+fn assert_run(
+    rt: &impl Abort,
+    alloc: Global,
+    kept: MemoryDisk,
+    run: Run,
+) -> Result<MemoryDisk, Fail> {
+    let (line, input, want, text) = run;
+    let (status, sink, next) = ran(alloc, line, input.as_bytes(), kept, &[])?;
+    assert_eq!(rt; sink.text(), text.as_bytes(), "{line}: {input}");
+    assert_eq!(rt; status, want, "{line}");
+    Ok(next)
 }
 
 // An office in which the specimen book stands.

@@ -1,6 +1,8 @@
 // Each last line, with its status, and what an upgrade leaves of both files.
 use crate::files::{NEW, NEW_EMPTY, OLD, OLD_EMPTY, TWICE};
-use crate::runs::{File, disk, upgraded};
+use crate::runs::{File, upgraded};
+use std::alloc::Global;
+use std::process::Abort;
 use std::test::Fail;
 
 /// The source, the target, the writes that fail, the status, the text, and the target's bytes behind it.
@@ -71,41 +73,44 @@ const ROWS: [Row; 18] = [
 
 #[test]
 fn last_lines(rt: HostRuntime) -> Result<(), Fail> {
-    let alloc = rt.alloc();
-    for (source, target, failing, status, text, left) in ROWS {
-        let after = upgraded(
-            alloc,
-            disk(alloc, source, None)?,
-            disk(alloc, target, None)?,
-            failing,
-        )?;
-        assert_eq!(rt; after.status, status);
-        assert_eq!(rt; after.out.text(), text.as_bytes());
-        assert_eq!(rt; after.source.image(), source.0);
-        assert_eq!(rt; after.target.image(), left);
+    for row in ROWS {
+        assert_row(&rt, rt.alloc(), row)?;
     }
+    Ok(())
+}
+
+fn assert_row(rt: &impl Abort, alloc: Global, row: Row) -> Result<(), Fail> {
+    let (source, target, failing, status, text, left) = row;
+    let after = upgraded(alloc, source, target, failing)?;
+    assert_eq!(rt; after.status, status);
+    assert_eq!(rt; after.out.text(), text.as_bytes());
+    assert_eq!(rt; after.source.image(), source.0);
+    assert_eq!(rt; after.target.image(), left);
     Ok(())
 }
 
 // Every front of the file of two filings but the whole.
 #[test]
 fn a_source_cut_off(rt: HostRuntime) -> Result<(), Fail> {
-    let alloc = rt.alloc();
     for len in 17..OLD.len() {
-        let after = upgraded(
-            alloc,
-            disk(alloc, (&OLD[..len], &[]), None)?,
-            disk(alloc, (b"", &[]), None)?,
-            &[],
-        )?;
-        let line = match len {
-            17..40 => "fault damaged 16\n",
-            40..70 => "fault damaged 40\n",
-            _ => "fault damaged 70\n",
-        };
-        assert_eq!(rt; after.status, 7);
-        assert_eq!(rt; after.out.text(), line.as_bytes());
-        assert_eq!(rt; after.target.image(), b"".as_slice());
+        assert_cut(&rt, rt.alloc(), &OLD[..len])?;
     }
     Ok(())
+}
+
+fn assert_cut(rt: &impl Abort, alloc: Global, front: &[u8]) -> Result<(), Fail> {
+    let after = upgraded(alloc, (front, &[]), (b"", &[]), &[])?;
+    assert_eq!(rt; after.status, 7);
+    assert_eq!(rt; after.out.text(), damaged_line(front.len()).as_bytes());
+    assert_eq!(rt; after.target.image(), b"".as_slice());
+    Ok(())
+}
+
+// The last line where so many bytes of the file are left.
+fn damaged_line(len: usize) -> &'static str {
+    match len {
+        17..40 => "fault damaged 16\n",
+        40..70 => "fault damaged 40\n",
+        _ => "fault damaged 70\n",
+    }
 }

@@ -24,17 +24,39 @@ pub(crate) fn disk(
     stop: Option<DiskStop>,
 ) -> Result<MemoryDisk, Fail> {
     let (bytes, failing) = file;
-    Ok(MemoryDisk::new(alloc, bytes.to_vec(alloc)?, failing.to_vec(alloc)?, stop)?)
+    let bytes = bytes.to_vec(alloc)?;
+    let failing = failing.to_vec(alloc)?;
+    Ok(MemoryDisk::new(alloc, bytes, failing, stop)?)
 }
 
-/// An upgrade, the writes with these numbers failing.
+/// An upgrade of one file into another, the writes with these numbers failing.
 pub(crate) fn upgraded(
+    alloc: Global,
+    source: File<'_>,
+    target: File<'_>,
+    failing: &[u64],
+) -> Result<Ran, Fail> {
+    let source = disk(alloc, source, None)?;
+    let target = disk(alloc, target, None)?;
+    run(alloc, source, target, failing)
+}
+
+/// An upgrade of a file into a new one, whose disk stops so.
+pub(crate) fn stopped(alloc: Global, source: File<'_>, stop: DiskStop) -> Result<Ran, Fail> {
+    let source = disk(alloc, source, None)?;
+    let target = disk(alloc, (b"", &[]), Some(stop))?;
+    run(alloc, source, target, &[])
+}
+
+// An upgrade over two disks, the writes with these numbers failing.
+fn run(
     alloc: Global,
     source: MemoryDisk,
     target: MemoryDisk,
     failing: &[u64],
 ) -> Result<Ran, Fail> {
-    let mut out = MemorySink::new(alloc, failing.to_vec(alloc)?);
+    let failing = failing.to_vec(alloc)?;
+    let mut out = MemorySink::new(alloc, failing);
     let (status, source, target) = upgrade(alloc, source, target, &mut out);
     Ok(Ran {
         status,
