@@ -135,10 +135,10 @@ fn run<R: Wait>(rt: &R, alloc: Global, steps: &[Step]) -> Result<(Vec<u8>, u64),
 }
 
 // Four desks that file so many rows in turns, each of which adds the next number. The rows of the turns that come next are
-// drawing, and those behind them are coming.
+// drawing, one of each other desk, and those behind them are coming.
 fn four_desks(alloc: Global, rows: u8) -> Result<Vec<Step>, AllocError> {
     let mut steps = Vec::new(alloc);
-    for number in 1..=rows.saturating_add(4) {
+    for number in 1..=rows.saturating_add(3) {
         let desk = u32::from(number % 4);
         let row = u32::from(number / 4);
         if number <= rows {
@@ -147,7 +147,7 @@ fn four_desks(alloc: Global, rows: u8) -> Result<Vec<Step>, AllocError> {
         if number <= rows.saturating_sub(4) {
             steps.push(row_step(Event::Comes, desk, row + 1, number.saturating_add(4)))?;
         }
-        if let Some(served @ 1..) = number.checked_sub(4) {
+        if let Some(served @ 1..) = number.checked_sub(3) {
             let desk = u32::from(served % 4);
             let row = u32::from(served / 4);
             steps.push(row_step(Event::Files, desk, row, served))?;

@@ -87,8 +87,8 @@ pub fn read_request<L: Link>(
     }
 }
 
-/// What the request in front of the bytes held calls for, and its body, where it has come whole and calls for something. It
-/// reads no more.
+/// What the request calls for, and its body, that stands in front of the bytes held, where it has come whole and calls for
+/// something. It reads no more.
 pub fn held_request<'a>(router: &Router<Route>, held: &'a [u8]) -> Option<(Call, &'a [u8])>
     requires { router.now ≡ the_routes }
 {
