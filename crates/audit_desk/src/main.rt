@@ -4,7 +4,7 @@
 use aid_edges::{ReadEdge, WriteEdge, say, words_of};
 use kept_runs::{RunStop, end};
 use kept_session::CheckStop;
-use run_audit::run_audit;
+use aid_audit::run_audit;
 use std::io::ErrorKind;
 use std::process::ExitCode;
 

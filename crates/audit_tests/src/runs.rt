@@ -1,6 +1,6 @@
 // Runs over a source and a sink in memory.
 use aid_edges::{MemorySink, MemorySource};
-use run_audit::run_audit;
+use aid_audit::run_audit;
 use std::alloc::Global;
 use std::process::Abort;
 use std::test::Fail;

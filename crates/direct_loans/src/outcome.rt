@@ -3,7 +3,7 @@ use crate::table::Loans;
 use arrayvec::ArrayString;
 use field_rows::push_cents;
 use loan_history::LoanOutcome;
-use ruled_forms::OutcomeText;
+use ruled_list::OutcomeText;
 
 impl OutcomeText for Loans {
     ghost use Rattle.direct_loans.specs.Outcomes.{loan_text};

@@ -1,8 +1,9 @@
-pub mod Ruling
-pub mod Rows
-pub mod Names
-pub mod Ruled
 pub mod Kept
-pub mod RuledLaws
-pub mod RowLaws
+pub mod Lines
+pub mod Names
 pub mod Reply
+pub mod RowLaws
+pub mod Rows
+pub mod Ruled
+pub mod RuledLaws
+pub mod Ruling

@@ -7,18 +7,24 @@
 
 mod admission;
 mod answer;
+mod forms;
 mod laws;
+mod lines;
 mod list;
 mod number;
 mod office;
+mod outcome;
 mod own;
 mod rules;
 mod verdict;
 
 pub use answer::is_same;
+pub use forms::{TableForms, TableRows};
 pub use laws::again;
+pub use lines::put_answer;
 pub use list::RuledList;
 pub use number::FilingNumber;
 pub use office::RuledOffice;
+pub use outcome::OutcomeText;
 pub use rules::{Filed, Rules};
 pub use verdict::{RuledReply, RuledVerdict};

@@ -3,7 +3,7 @@ use crate::loan_runs::office;
 use aid_edges::{HoldGate, MemorySink, SteadySource};
 use direct_loans::Loans;
 use disk_model::MemoryDisk;
-use ruled_runs::{RuledInput, run_ruled_desks};
+use desk_program::{RuledInput, run_ruled_desks};
 use std::alloc::{AllocError, Global};
 use std::process::Abort;
 use std::sync::Wait;

@@ -2,7 +2,7 @@
 use aid_edges::{MemorySink, SteadySource};
 use direct_loans::Loans;
 use disk_model::MemoryDisk;
-use ruled_runs::run_ruled;
+use desk_program::run_ruled;
 use std::alloc::Global;
 use std::process::Abort;
 use std::test::Fail;

@@ -3,7 +3,7 @@ ghost use Rattle.std.specs.Prelude.{[]};
 ghost use Rattle.field_rows.specs.Meanings.{meanings};
 ghost use Rattle.field_rows.specs.TableForms.{row_meaning};
 ghost use Rattle.kept_session.specs.Sessions.{Session};
-ghost use Rattle.ruled_forms.specs.Lines.{table_texts};
+ghost use Rattle.ruled_list.specs.Lines.{table_texts};
 ghost use Rattle.ruled_list.specs.Ruled.{judging_of, scheme_of};
 ghost use Rattle.ruled_tests.specs.Marks.{code_of, left_text, mark_key, mark_kinds, marking, numbers_of};
 
@@ -11,7 +11,7 @@ use crate::{MarkList, Marks};
 use aid_edges::{Sink, Source};
 use disk_model::Disk;
 use kept_session::{INPUT_LIMIT, SessionStop, file};
-use ruled_forms::TableForms;
+use ruled_list::TableForms;
 use std::alloc::Global;
 
 /// Files the rows of an input into the list of the disk's file, and answers each by a line.

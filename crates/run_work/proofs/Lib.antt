@@ -1,7 +1,12 @@
-pub mod InLine
-pub mod Gathering
+pub mod Also
 pub mod Awarding
-pub mod Reading
-pub mod Ran
+pub mod Excused
+pub mod Filed
+pub mod Gathering
+pub mod HeadedRan
+pub mod InLine
+pub mod Moments
 pub mod Planning
+pub mod Ran
+pub mod Reading
 pub mod Sized

@@ -5,9 +5,9 @@ use Rattle.disk_model.specs.Telling.{EachMoment, Telling}
 use Rattle.disk_model.specs.declared.disk.Disk.{Ghosts}
 use Rattle.fund_policy.specs.Rounds.{IsRound}
 use Rattle.fund_policy.specs.declared.candidate.Candidate.{Candidate}
-use Rattle.headed_rounds.specs.Fronts.{HeadedStands, RecoversHeaded}
-use Rattle.headed_rounds.specs.Rounds.{RanRound}
-use Rattle.headed_rounds.proofs.Also.{moments_also, ran_also, stands_also}
+use Rattle.run_work.specs.Fronts.{HeadedStands, RecoversHeaded}
+use Rattle.run_work.specs.HeadedRounds.{RanRound}
+use Rattle.run_work.proofs.Also.{moments_also, ran_also, stands_also}
 use Rattle.kept_runs.specs.Counts.{Counts}
 use Rattle.kept_runs.specs.Ends.{IsShort}
 use Rattle.kept_runs.specs.Lists.{IsListAt}

@@ -1,4 +1,7 @@
+pub mod Fronts
 pub mod Gathered
+pub mod Headed
+pub mod HeadedRounds
 pub mod Order
 pub mod Plans
 pub mod Rows

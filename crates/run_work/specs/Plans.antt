@@ -7,7 +7,7 @@ use Rattle.fund_policy.specs.Order.{IsInOrder}
 use Rattle.fund_policy.specs.Rounds.{IsRound}
 use Rattle.fund_policy.specs.declared.candidate.Candidate.{Candidate}
 use Rattle.kept_list.specs.Texts.{Texts}
-use Rattle.ruled_forms.specs.Lines.{line_of}
+use Rattle.ruled_list.specs.Lines.{line_of}
 use Rattle.ruled_list.specs.declared.verdict.RuledVerdict.{RuledVerdict}
 use Rattle.run_work.specs.Rows.{is_of, round_lines, round_rows, said_of_candidate}
 use Rattle.run_work.specs.Words.{policy_of}

@@ -7,8 +7,8 @@ use Rattle.field_rows.specs.Meanings.{meanings}
 use Rattle.field_rows.specs.TableForms.{row_meaning}
 use Rattle.field_rows.specs.declared.error.RowError.{RowError}
 use Rattle.filing_kinds.specs.Kinds.{key_slots}
-use Rattle.headed_rounds.specs.Fronts.{HeadedStands, RecoversHeaded}
-use Rattle.headed_rounds.specs.Rounds.{RanRound}
+use Rattle.run_work.specs.Fronts.{HeadedStands, RecoversHeaded}
+use Rattle.run_work.specs.HeadedRounds.{RanRound}
 use Rattle.kept_list.specs.Recovers as kept
 use Rattle.kept_list.specs.Scheme.{Judging, Scheme}
 use Rattle.kept_list.specs.Texts.{Texts}
@@ -16,7 +16,7 @@ use Rattle.kept_runs.specs.Counts.{Counts}
 use Rattle.kept_runs.specs.Ends.{IsShort}
 use Rattle.kept_runs.specs.Lists as lists
 use Rattle.kept_session.specs.Edges.{Input}
-use Rattle.ruled_forms.specs.Lines.{table_texts}
+use Rattle.ruled_list.specs.Lines.{table_texts}
 use Rattle.ruled_list.specs.Ruled.{judging_of, scheme_of}
 use Rattle.ruled_list.specs.declared.verdict.RuledVerdict.{RuledVerdict}
 use Rattle.run_work.specs.Plans.{round_plans, round_texts}

@@ -1,6 +1,8 @@
 pub mod After
 pub mod AllowedAddsUp
 pub mod Covered
+mod Funds
+mod Grown
 pub mod Holders
 pub mod Holding
 pub mod SameWork

@@ -6,11 +6,11 @@ use crate::table::WorkStudy;
 use aid_types::{Key, Refusal};
 use arrayvec::ArrayString;
 use field_rows::push_cents;
-use ruled_forms::OutcomeText;
+use ruled_list::OutcomeText;
 use ruled_list::Rules;
 use std::alloc::{AllocError, Global};
 use work_history::{WorkFiling, WorkOutcome, broken, outcome};
-use work_index::WorkIndex;
+use work_history::WorkIndex;
 
 impl Rules for WorkStudy {
     type Outcome = WorkOutcome;

@@ -1,5 +1,0 @@
-pub mod Bounds
-pub mod Grown
-pub mod OnFile
-pub mod Steps
-pub mod Tables

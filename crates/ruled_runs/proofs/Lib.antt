@@ -1,2 +1,0 @@
-pub mod FileRuns
-pub mod Keeps

@@ -1,2 +1,0 @@
-mod Funds
-mod Grown
