@@ -1,11 +1,11 @@
 // The program of a list under rules.
+use crate::{RuledInput, run_ruled, run_ruled_desks};
 use aid_edges::{FreeGate, ReadEdge, Sink, open_input};
 use disk_model::HostDisk;
 use kept_crews::MOST_DESKS;
 use kept_runs::{RunStop, end};
 use kept_session::ReadStop;
 use ruled_list::OutcomeText;
-use crate::{RuledInput, run_ruled, run_ruled_desks};
 use std::fs::File;
 use std::sync::Wait;
 use std::thread::Threads;

@@ -8,8 +8,7 @@ ghost use Rattle.desk_program.specs.Words.{are_word as are_this_word, command_in
 use aid_edges::{Sink, Source};
 use disk_model::Disk;
 use kept_runs::{ListCommand, run_list};
-use ruled_list::{OutcomeText, TableForms};
-use ruled_list::RuledList;
+use ruled_list::{OutcomeText, RuledList, TableForms};
 use std::alloc::Global;
 
 // Whether the words are this one alone.

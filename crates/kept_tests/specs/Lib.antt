@@ -1,5 +1,3 @@
+pub mod OwnLaws
 pub mod Rising
 pub mod RisingLaws
-pub mod OwnLaws
-pub mod Counts
-pub mod Desks

@@ -1,20 +1,13 @@
-//! What a state has to bring to a lock, and an office of another kind to a kept list, a session, a round and desks: a list of
-//! numbers beside a device that may fail, in which several threads file, and numbers that rise, plain and stamped. And offices
-//! in the middle of a turn.
+//! What an office of another kind has to bring to a kept list, a session, a round and desks: numbers that rise, plain and stamped.
 #![tactic(auto)]
 
 ghost use Rattle.kept_session.specs.Sessions.{Session};
 ghost use Rattle.kept_tests.specs.Rising.{byte_rows, rising_judging, rising_scheme, rising_texts};
 
-pub mod counter;
 #[cfg(test)]
 mod counting_disk;
-pub mod desks;
 mod forms;
-#[cfg(test)]
-mod offices;
 mod own;
-pub mod pair;
 mod rising;
 #[cfg(test)]
 mod rounds;
@@ -23,8 +16,6 @@ mod sessions;
 pub mod stamped;
 #[cfg(test)]
 mod stamped_numbers;
-#[cfg(test)]
-mod threads;
 #[cfg(test)]
 mod waits;
 

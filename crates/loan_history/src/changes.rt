@@ -4,8 +4,8 @@ ghost use Rattle.loan_history.specs.Loans.{earlier_or as earlier_of, higher as h
 ghost use Rattle.loan_history.specs.Changes.{AreBelow, limits_after as limits_of, nets_with, nets_without, student_after as student_of, year_after as year_of};
 
 use crate::rows::{LimitsRow, ProgramNets, StudentRow, YearRow};
-use aid_types::Program;
 use crate::{BorrowerFacts, LimitFacts, LoanWhat};
+use aid_types::Program;
 
 /// The limits of a year once these are filed for it: the first stay.
 pub(crate) fn limits_after(row: &LimitsRow, limits: &LimitFacts, position: u32) -> LimitsRow

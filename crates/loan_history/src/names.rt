@@ -2,8 +2,8 @@
 ghost use Rattle.std.specs.Prelude.{◌≡◌};
 ghost use Rattle.loan_history.specs.Rules.{student_of, year_of};
 
-use aid_types::Student;
 use crate::LoanWhat;
+use aid_types::Student;
 
 /// What names a student's year.
 #[derive(Clone, Copy, PartialEq, Eq, PartialOrd, Ord, Debug)]

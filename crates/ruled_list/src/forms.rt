@@ -1,8 +1,7 @@
 // The rows of a desk.
-use crate::{OutcomeText, put_answer};
+use crate::{OutcomeText, RuledList, RuledVerdict, Rules, put_answer};
 use field_rows::{RowError, TableForm, TextRows, put_error, put_fine};
 use kept_list::{Forms, Rows};
-use crate::{RuledList, RuledVerdict, Rules};
 use std::alloc::{AllocError, Global};
 use std::marker::PhantomData;
 

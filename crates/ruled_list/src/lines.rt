@@ -2,10 +2,9 @@
 ghost use Rattle.std.specs.Prelude.{◌≡◌, ◌+◌, ◌≤◌, ◌++◌, IsOk, OnErr, OnOk, length, vec_capacity, vec_len};
 ghost use Rattle.ruled_list.specs.Lines.{line_of, standing_text};
 
-use crate::OutcomeText;
+use crate::{OutcomeText, RuledVerdict};
 use arrayvec::ArrayString;
 use field_rows::{push_count, push_number, refused_line};
-use crate::RuledVerdict;
 use std::alloc::AllocError;
 
 /// Appends the line that answers a row, counted from 1, by the verdict on its filing, where `front` filings stood before it. Where the

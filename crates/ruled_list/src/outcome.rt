@@ -2,8 +2,8 @@
 ghost use Rattle.std.specs.Prelude.{◌≡◌, ◌+◌, ◌≤◌, ◌++◌, ℕ, List};
 ghost use Rattle.arrayvec.specs.ArrayString.{array_string_len};
 
-use arrayvec::ArrayString;
 use crate::Rules;
+use arrayvec::ArrayString;
 
 /// Rules with the texts of what filings are admitted with.
 pub trait OutcomeText: Rules {

@@ -10,14 +10,13 @@ ghost use Rattle.work_history.specs.declared.filing.WorkFiling.{WorkFiling};
 ghost use Rattle.work_history.specs.AddsUp.{AddsUp};
 
 use crate::plan::WorkRound;
+use crate::run_headed_round;
 use crate::words::{list_of, round_of};
 use aid_edges::{Sink, Source};
 use disk_model::Disk;
 use fund_policy::Rule;
-use crate::run_headed_round;
 use kept_runs::run_list;
-use ruled_list::TableForms;
-use ruled_list::RuledList;
+use ruled_list::{RuledList, TableForms};
 use std::alloc::Global;
 use work_study::{SchoolPolicies, WorkStudy};
 

@@ -7,11 +7,11 @@ ghost use Rattle.work_history.specs.Rows.{AreSmallAwards, AreSmallFunds, award_r
 use crate::names::{AwardName, FundName, award_named, fund_named};
 use crate::rows::{AwardRow, FundRow, award_told, fund_told};
 use crate::written::{write_award, write_fund};
+use crate::{WorkFacts, WorkFiling};
 use aid_types::{School, Student, Year};
 use sorted_rows::Table;
 use std::alloc::{AllocError, Global};
 use std::marker::Model;
-use crate::{WorkFacts, WorkFiling};
 
 /// The filings of a work-study office with sorted rows that tell what is on file, and room for more. A contract sees the filings, the
 /// newest first, and the room. Each filing breaks no rule on those before it.

@@ -6,8 +6,8 @@ ghost use Rattle.work_history.specs.Rows.{AreAwards, AreFunds, award_name, award
 
 use crate::names::{AwardName, FundName};
 use crate::rows::{AwardRow, FundRow};
-use sorted_rows::Table;
 use crate::{WorkFiling, WorkWhat};
+use sorted_rows::Table;
 
 /// Writes the row of the fund that a filing is about, where the filing changes it.
 #[tactic(auto, using(crate::proofs::Funds::fund_filed))]

@@ -1,0 +1,165 @@
+// What is left where a disk fails or stops in the middle.
+ghost use Rattle.std.specs.Prelude.{◌≤◌};
+
+use crate::upgrade_files::{NEW, OLD};
+use crate::upgrade_runs::{Ran, disk, stopped, upgraded};
+use disk_model::{DiskStop, Fill, MemoryDisk};
+use kept_office::{KeptOffice, OpenError};
+use stamps::Stamp;
+use std::alloc::Global;
+use std::process::Abort;
+use std::test::Fail;
+
+/// More calls than an upgrade of two filings makes.
+const CALLS: u64 = 60;
+
+// The file is unborn, or that of 0, 1 or 2 filings under the plain stamp.
+fn assert_front(rt: &impl Abort, alloc: Global, left: MemoryDisk) -> Result<(), Fail> {
+    let again = disk(alloc, (left.image(), &[]), None)?;
+    match KeptOffice::recover(alloc, again) {
+        Ok(kept) => assert_plain(rt, kept),
+        Err((error, _disk)) => assert_eq!(rt; error, OpenError::NoOffice),
+    }
+    Ok(())
+}
+
+// At most two filings stand, each under the plain stamp, and the file is a front of the whole.
+fn assert_plain(rt: &impl Abort, kept: KeptOffice<MemoryDisk>) {
+    let front = kept.office().front();
+    assert!(rt; front <= 2);
+    for position in 1..=front {
+        assert_eq!(rt; kept.stamp(position), Some(Stamp::plain()));
+    }
+    assert_bytes(rt, kept.into_disk().image(), gate_of(front));
+}
+
+// Where the gate stands behind so many filings.
+fn gate_of(front: u32) -> usize
+    ensures { result ≤ 80 }
+{
+    match front {
+        0 => 16,
+        1 => 45,
+        _ => 80,
+    }
+}
+
+// The file ends with this gate, and begins as the whole does.
+fn assert_bytes(rt: &impl Abort, file: &[u8], gate: usize)
+    requires { gate ≤ 80 }
+{
+    assert_eq!(rt; file.len(), gate + 1);
+    assert_eq!(rt; &file[..gate], &NEW[..gate]);
+}
+
+// The target stops for good at each of its calls.
+#[test]
+fn a_target_that_stops(rt: HostRuntime) -> Result<(), Fail> {
+    for fill in [Fill::Unwritten, Fill::Written, Fill::With(0), Fill::With(1)] {
+        assert_stops(&rt, rt.alloc(), fill)?;
+    }
+    Ok(())
+}
+
+// The same where what isn't synced is left so.
+fn assert_stops(rt: &impl Abort, alloc: Global, fill: Fill) -> Result<(), Fail> {
+    let mut stopped_at = 0;
+    for call in 1..CALLS {
+        let after = stopped(alloc, (OLD, &[]), DiskStop { call, fill })?;
+        if is_target_fault(rt, alloc, after)? {
+            stopped_at = call;
+        }
+    }
+    assert!(rt; 10 <= stopped_at && stopped_at < CALLS - 1);
+    Ok(())
+}
+
+// Whether a fault of the target is said. Else all is copied.
+fn is_target_fault(rt: &impl Abort, alloc: Global, after: Ran) -> Result<bool, Fail> {
+    assert_eq!(rt; after.source.image(), OLD);
+    if after.status == 0 {
+        assert_eq!(rt; after.target.image(), NEW);
+        return Ok(false);
+    }
+    assert_fault(rt, &after, "fault disk target\n");
+    assert_front(rt, alloc, after.target)?;
+    Ok(true)
+}
+
+// A disk's fault is said so.
+fn assert_fault(rt: &impl Abort, after: &Ran, text: &str) {
+    assert_eq!(rt; after.status, 5);
+    assert_eq!(rt; after.out.text(), text.as_bytes());
+}
+
+// Each call of either disk fails once. A call of the target that isn't needed may fail unsaid.
+#[test]
+fn a_call_that_fails(rt: HostRuntime) -> Result<(), Fail> {
+    assert_source_fails(&rt, rt.alloc())?;
+    assert_target_fails(&rt, rt.alloc())
+}
+
+// Each call of the source fails once.
+fn assert_source_fails(rt: &impl Abort, alloc: Global) -> Result<(), Fail> {
+    let mut failed = 0;
+    for call in 1..CALLS {
+        if is_source_fault(rt, alloc, call)? {
+            failed = call;
+        }
+    }
+    assert!(rt; 2 <= failed && failed < CALLS - 1);
+    Ok(())
+}
+
+// Whether a fault of the source is said where this call fails. Else all is copied.
+fn is_source_fault(rt: &impl Abort, alloc: Global, call: u64) -> Result<bool, Fail> {
+    let after = upgraded(alloc, (OLD, &[call]), (b"", &[]), &[])?;
+    assert_eq!(rt; after.source.image(), OLD);
+    if after.status == 0 {
+        assert_eq!(rt; after.target.image(), NEW);
+        return Ok(false);
+    }
+    assert_fault(rt, &after, "fault disk source\n");
+    assert_eq!(rt; after.target.image(), b"".as_slice());
+    Ok(true)
+}
+
+// Each call of the target fails once.
+fn assert_target_fails(rt: &impl Abort, alloc: Global) -> Result<(), Fail> {
+    let mut failed = 0;
+    for call in 1..CALLS {
+        let after = upgraded(alloc, (OLD, &[]), (b"", &[call]), &[])?;
+        if is_target_fault(rt, alloc, after)? {
+            failed = call;
+        }
+    }
+    assert!(rt; 10 <= failed && failed < CALLS - 1);
+    Ok(())
+}
+
+// A source whose header is looked at a second time, and whose call fails then.
+#[test]
+fn a_second_look(rt: HostRuntime) -> Result<(), Fail> {
+    let mut failed = 0;
+    for call in 1..CALLS {
+        if is_look_fault(&rt, rt.alloc(), call)? {
+            failed = call;
+        }
+    }
+    assert!(rt; 2 <= failed);
+    Ok(())
+}
+
+// Whether a fault of a source of the new version is said where this call fails. Else its version is.
+fn is_look_fault(rt: &impl Abort, alloc: Global, call: u64) -> Result<bool, Fail> {
+    let after = upgraded(alloc, (NEW, &[call]), (b"", &[]), &[])?;
+    assert_eq!(rt; after.source.image(), NEW);
+    assert_eq!(rt; after.target.image(), b"".as_slice());
+    if after.status == 5 {
+        assert_eq!(rt; after.out.text(), b"fault disk source\n".as_slice());
+        return Ok(true);
+    }
+    assert_eq!(rt; after.status, 6);
+    assert_eq!(rt; after.out.text(), b"fault new version\n".as_slice());
+    Ok(false)
+}

@@ -1,0 +1,76 @@
+// A list of numbers beside a device that may fail.
+ghost use Rattle.std.specs.Prelude.{◌≡◌, ◌≤◌, ℕ, Bool, false};
+ghost use Rattle.office_lock.specs.Turning.{RoseBy};
+
+use office_lock::Turned;
+
+/// A device that counts its faults.
+pub trait Device {
+    ghost faults: { Self → ℕ };
+
+    ghost honest: { Self → Bool };
+
+    /// True if it worked.
+    fn poke(&mut self) -> bool
+        ensures later { faults self.old ≤ faults self.new }
+        ensures rose { result ≡ false → RoseBy 1 (faults self.old) (faults self.new) }
+        ensures honest { honest self.new ≡ honest self.old };
+}
+
+/// What a turn answers: the position of the ask or of what is undecided.
+#[derive(Clone, Copy, Drop, Debug, PartialEq, Eq)]
+pub enum Answer {
+    Accepted(u64),
+    Undecided(u64),
+    NoMemory,
+}
+
+/// The state.
+#[derive(Drop)]
+pub struct Counter<D: Device> {
+    pub device: D,
+    pub log: Vec<u64>,
+    pub waiting: Option<u64>,
+}
+
+impl<D: Device> Turned for Counter<D> {
+    ghost use Rattle.std.specs.Prelude.{Some, reverse};
+    ghost use Rattle.lock_tests.specs.Counts.{said};
+
+    type Ask = u64;
+
+    type Reply = Answer;
+
+    type Entry = u64;
+
+    type Note = ();
+
+    ghost stand = { λ s. record { list = reverse s.log.items; pending = s.waiting; faults = D.faults s.device; fixed = D.honest s.device } };
+
+    ghost own = { λ ask. Some ask };
+
+    ghost says = { said };
+
+    ghost meets = { λ old ask answer new. Unit {0} };
+
+    fn turn(&mut self, ask: u64) -> Answer {
+        if self.log.reserve(2).is_err() {
+            return Answer::NoMemory;
+        }
+        if let Some(entry) = self.waiting {
+            if !self.device.poke() {
+                return Answer::Undecided(self.log.len() as u64 + 1);
+            }
+            self.log.push_reserved(entry);
+            self.waiting = None;
+        }
+        if !self.device.poke() {
+            self.waiting = Some(ask);
+            return Answer::Undecided(self.log.len() as u64 + 1);
+        }
+        self.log.push_reserved(ask);
+        Answer::Accepted(self.log.len() as u64)
+    }
+
+    fn hear(&mut self, _note: ()) {}
+}
