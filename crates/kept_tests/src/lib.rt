@@ -8,6 +8,8 @@ ghost use Rattle.kept_tests.specs.Rising.{byte_rows, rising_judging, rising_sche
 mod counting_disk;
 mod forms;
 mod own;
+#[cfg(test)]
+mod reports;
 mod rising;
 #[cfg(test)]
 mod rounds;

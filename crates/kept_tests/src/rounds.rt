@@ -1,10 +1,13 @@
 //! Numbers that were planned on a list are filed over a disk or into a sink that fails at each of its calls: what a text answered
 //! stands, with the number that a fault left undecided or without it, and planned once more none is filed twice.
-use crate::{AllNumbers, ByteForms, BytesLeft, Rising};
+ghost use Rattle.std.specs.Prelude.{◌≡◌, None};
+
+use crate::reports::reported;
+use crate::{ByteForms, BytesLeft, Rising};
 use aid_edges::MemorySink;
 use disk_model::{DiskStop, Fill, MemoryDisk};
-use kept_list::{Forms, OpenError};
-use kept_session::{FileStop, SessionStop, file_planned, open, write_report};
+use kept_list::{Forms, KeptList, OpenError};
+use kept_session::{FileStop, SessionStop, file_planned, open};
 use std::alloc::Global;
 use std::process::Abort;
 use std::test::Fail;
@@ -36,10 +39,29 @@ fn disk(
     Ok(MemoryDisk::new(alloc, image.to_vec(alloc)?, failing.to_vec(alloc)?, stop)?)
 }
 
+// Files numbers that were planned on an open list. Gives how that ended, and the text.
+fn file(
+    alloc: Global,
+    kept: &mut KeptList<MemoryDisk, Rising>,
+    numbers: &[u8],
+    failing: &[u64],
+) -> Result<(Result<(), FileStop>, MemorySink), Fail>
+    requires { kept.old.pending ≡ None }
+{
+    let rows = ByteForms.read(alloc, numbers.to_vec(alloc)?)?;
+    let mut sink = MemorySink::new(alloc, failing.to_vec(alloc)?);
+    let ended = file_planned::<MemoryDisk, MemorySink, Rising, BytesLeft>(
+        alloc,
+        kept,
+        rows,
+        b"closed\n",
+        &mut sink,
+    );
+    Ok((ended, sink))
+}
+
 // Files the planned numbers into the list of the disk's file.
 fn run_round(alloc: Global, disk: MemoryDisk, failing: &[u64]) -> Result<Round, Fail> {
-    let rows = ByteForms.read(alloc, PLANNED.to_vec(alloc)?)?;
-    let mut sink = MemorySink::new(alloc, failing.to_vec(alloc)?);
     let mut kept = match open::<MemoryDisk, Rising>(alloc, disk) {
         Ok(kept) => kept,
         Err((error, disk)) => return Ok(Round {
@@ -48,13 +70,7 @@ fn run_round(alloc: Global, disk: MemoryDisk, failing: &[u64]) -> Result<Round, 
             disk,
         }),
     };
-    let ended = file_planned::<MemoryDisk, MemorySink, Rising, BytesLeft>(
-        alloc,
-        &mut kept,
-        rows,
-        b"closed\n",
-        &mut sink,
-    );
+    let (ended, sink) = file(alloc, &mut kept, PLANNED, failing)?;
     Ok(Round {
         ended: ended.map_err(SessionStop::Filing),
         text: sink.text().to_vec(alloc)?,
@@ -64,14 +80,8 @@ fn run_round(alloc: Global, disk: MemoryDisk, failing: &[u64]) -> Result<Round, 
 
 // The numbers that stand in a file.
 fn numbers(rt: &impl Abort, alloc: Global, image: &[u8]) -> Result<Vec<u8>, Fail> {
-    let mut sink = MemorySink::new(alloc, Vec::new(alloc));
-    let (ended, _) = write_report::<MemoryDisk, MemorySink, Rising, AllNumbers>(
-        alloc,
-        disk(alloc, image, &[], None)?,
-        &AllNumbers,
-        &mut sink,
-    );
-    assert!(rt; ended.is_ok());
+    let (ended, sink, _) = reported(alloc, disk(alloc, image, &[], None)?);
+    assert!(rt; ended);
     Ok(sink.text().to_vec(alloc)?)
 }
 
@@ -185,18 +195,10 @@ fn stands_where_a_disk_stops(rt: HostRuntime) -> Result<(), Fail> {
 #[test]
 fn makes_room_for_all_rows(rt: HostRuntime) -> Result<(), Fail> {
     let alloc = rt.alloc();
-    let rows = ByteForms.read(alloc, b"\x06\x07\x08\x09\x0a".to_vec(alloc)?)?;
-    let mut sink = MemorySink::new(alloc, [2].to_vec(alloc)?);
     let Ok(mut kept) = open::<MemoryDisk, Rising>(alloc, disk(alloc, OPENING, &[], None)?) else {
         return Err(Fail::new("not opened"));
     };
-    let ended = file_planned::<MemoryDisk, MemorySink, Rising, BytesLeft>(
-        alloc,
-        &mut kept,
-        rows,
-        b"closed\n",
-        &mut sink,
-    );
+    let (ended, _) = file(alloc, &mut kept, b"\x06\x07\x08\x09\x0a", &[2])?;
     assert_eq!(rt; ended, Err(FileStop::Write));
     assert_eq!(rt; kept.docket().room(), 3);
     Ok(())

@@ -1,8 +1,9 @@
 // Numbers are filed, kept and filed again, or only looked at.
-use crate::{AllNumbers, ByteForms, Rising, file_numbers};
+use crate::reports::reported;
+use crate::{ByteForms, Rising, file_numbers};
 use aid_edges::{MemorySink, SteadySource};
 use disk_model::MemoryDisk;
-use kept_session::{CheckTally, check, found, write_report};
+use kept_session::{CheckTally, check, found};
 use std::alloc::{AllocError, Global};
 use std::test::Fail;
 
@@ -50,18 +51,6 @@ fn filed(
     let mut sink = MemorySink::new(alloc, Vec::new(alloc));
     let (ended, disk) = file_numbers(alloc, disk, &mut source, &mut sink);
     Ok((ended.is_ok(), sink, disk))
-}
-
-// Reports all numbers: whether that ended well, and the report.
-fn reported(alloc: Global, disk: MemoryDisk) -> (bool, MemorySink, MemoryDisk) {
-    let mut sink = MemorySink::new(alloc, Vec::new(alloc));
-    let (ended, disk) = write_report::<MemoryDisk, MemorySink, Rising, AllNumbers>(
-        alloc,
-        disk,
-        &AllNumbers,
-        &mut sink,
-    );
-    (ended.is_ok(), sink, disk)
 }
 
 #[test]
