@@ -1,10 +1,10 @@
 //! The program of the auditor: it checks an export, or answers rows about clock-hour programs, and has no journal.
 #![tactic(auto)]
 
+use aid_audit::run_audit;
 use aid_edges::{ReadEdge, WriteEdge, say, words_of};
 use kept_runs::{RunStop, end};
 use kept_session::CheckStop;
-use aid_audit::run_audit;
 use std::io::ErrorKind;
 use std::process::ExitCode;
 

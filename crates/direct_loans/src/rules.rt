@@ -4,8 +4,7 @@ ghost use Rattle.direct_loans.specs.Ruling.{legal_loans_within, loan_ruling, loa
 
 use crate::table::Loans;
 use aid_types::{Key, Refusal};
-use loan_history::{LoanFiling, LoanOutcome, broken, outcome};
-use loan_history::LoanIndex;
+use loan_history::{LoanFiling, LoanIndex, LoanOutcome, broken, outcome};
 use ruled_list::Rules;
 use std::alloc::{AllocError, Global};
 

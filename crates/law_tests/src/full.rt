@@ -5,6 +5,7 @@ use aid_filings::{Filing, Outcome, PriorFacts, Verdict, What};
 use aid_types::{Key, Refusal, School, Student};
 use office_core::Office;
 use std::alloc::AllocError;
+use std::process::Abort;
 use std::test::Fail;
 
 /// How many filings an office holds.
@@ -20,14 +21,18 @@ fn file(office: &mut Office, filing: Filing) -> Result<Verdict, AllocError> {
     Ok(verdict)
 }
 
-#[test]
-fn a_full_office(rt: HostRuntime) -> Result<(), Fail> {
-    let mut office = Office::new(rt.alloc());
+// Files as many filings as an office holds.
+fn fill(rt: &impl Abort, office: &mut Office) -> Result<(), Fail> {
     office.reserve(FILINGS)?;
     for number in 0..FILINGS {
-        let verdict = file(&mut office, prior(number))?;
+        let verdict = file(office, prior(number))?;
         assert_eq!(rt; verdict, Verdict::Admit(Outcome::Noted), "{number}");
     }
+    Ok(())
+}
+
+// What a full office answers.
+fn assert_full(rt: &impl Abort, office: &Office) {
     assert_eq!(rt; office.front(), FILINGS);
     let full = Refusal {
         rule: 90,
@@ -40,6 +45,13 @@ fn a_full_office(rt: HostRuntime) -> Result<(), Fail> {
         outcome: Outcome::Noted,
     };
     assert_eq!(rt; office.judge(&prior(0)), first);
+}
+
+#[test]
+fn a_full_office(rt: HostRuntime) -> Result<(), Fail> {
+    let mut office = Office::new(rt.alloc());
+    fill(&rt, &mut office)?;
+    assert_full(&rt, &office);
     Ok(())
 }
 

@@ -1,9 +1,9 @@
 // Two desks that lend to one student at once, in either order.
 use crate::loan_runs::office;
 use aid_edges::{HoldGate, MemorySink, SteadySource};
+use desk_program::{RuledInput, run_ruled_desks};
 use direct_loans::Loans;
 use disk_model::MemoryDisk;
-use desk_program::{RuledInput, run_ruled_desks};
 use std::alloc::{AllocError, Global};
 use std::process::Abort;
 use std::sync::Wait;

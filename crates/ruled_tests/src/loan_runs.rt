@@ -1,8 +1,8 @@
 // Runs of the loan desk over a file in memory.
 use aid_edges::{MemorySink, SteadySource};
+use desk_program::run_ruled;
 use direct_loans::Loans;
 use disk_model::MemoryDisk;
-use desk_program::run_ruled;
 use std::alloc::Global;
 use std::process::Abort;
 use std::test::Fail;

@@ -5,8 +5,7 @@ use crate::{Left, Mark, MarkIndex, Marks};
 use aid_types::{Key, Refusal, School};
 use arrayvec::ArrayString;
 use itoa::Buffer;
-use ruled_list::OutcomeText;
-use ruled_list::Rules;
+use ruled_list::{OutcomeText, Rules};
 use std::alloc::{AllocError, Global};
 
 impl Rules for Marks {

@@ -6,11 +6,9 @@ use crate::table::WorkStudy;
 use aid_types::{Key, Refusal};
 use arrayvec::ArrayString;
 use field_rows::push_cents;
-use ruled_list::OutcomeText;
-use ruled_list::Rules;
+use ruled_list::{OutcomeText, Rules};
 use std::alloc::{AllocError, Global};
-use work_history::{WorkFiling, WorkOutcome, broken, outcome};
-use work_history::WorkIndex;
+use work_history::{WorkFiling, WorkIndex, WorkOutcome, broken, outcome};
 
 impl Rules for WorkStudy {
     type Outcome = WorkOutcome;
