@@ -1,5 +1,5 @@
 // Commands on the rows of a first day, on files and texts that are none, and what each fault leaves.
-use crate::runs::assert_runs;
+use crate::runs::{assert_run, assert_runs};
 use aid_edges::MemorySource;
 use kept_session::INPUT_LIMIT;
 use specimen::BOOK_TEXT;
@@ -200,9 +200,7 @@ fn books_that_are_none(rt: HostRuntime) -> Result<(), Fail> {
         let text = BOOK_TEXT.replace(alloc, old, new)?;
         for words in ["book 1", "check book", "generate 7 20"] {
             let disk = disk(alloc, EMPTY, &[], None)?;
-            let (status, sink, after) = ran(alloc, words, text.as_bytes(), disk, &[])?;
-            assert_eq!(rt; sink.text(), line.as_bytes(), "{new}");
-            assert_eq!(rt; status, 0);
+            let after = assert_run(&rt, alloc, disk, &[], (words, text.as_str(), 0, line))?;
             assert_eq!(rt; after.image(), EMPTY);
         }
     }
@@ -228,9 +226,7 @@ fn disk_faults_end_a_run(rt: HostRuntime) -> Result<(), Fail> {
     let alloc = rt.alloc();
     for (image, input, call, text, again, size) in DISK_FAULTS {
         let failing = disk(alloc, image, &[call], None)?;
-        let (status, sink, left) = ran(alloc, "file", input.as_bytes(), failing, &[])?;
-        assert_eq!(rt; status, 5, "call {call}");
-        assert_eq!(rt; sink.text(), text.as_bytes(), "call {call}");
+        let left = assert_run(&rt, alloc, failing, &[], ("file", input, 5, text))?;
         let after = assert_runs(&rt, alloc, left.image(), &[("file", input, 0, again)])?;
         assert!(rt; after.image().starts_with(&BOTH[..80]), "call {call}");
         assert_eq!(rt; after.image().len(), size, "call {call}");
@@ -284,9 +280,7 @@ fn write_faults_end_a_run(rt: HostRuntime) -> Result<(), Fail> {
     let alloc = rt.alloc();
     for (line, image, call, text, size) in WRITE_FAULTS {
         let disk = disk(alloc, image, &[], None)?;
-        let (status, sink, after) = ran(alloc, line, FIRST.as_bytes(), disk, &[call])?;
-        assert_eq!(rt; status, 4, "{line} {call}");
-        assert_eq!(rt; sink.text(), text.as_bytes(), "{line} {call}");
+        let after = assert_run(&rt, alloc, disk, &[call], (line, FIRST, 4, text))?;
         assert_eq!(rt; after.image().len(), size, "{line} {call}");
     }
     Ok(())

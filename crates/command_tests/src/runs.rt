@@ -14,13 +14,25 @@ pub(crate) fn assert_runs(
     runs: &[Run],
 ) -> Result<MemoryDisk, Fail> {
     let mut kept = disk(alloc, image, &[], None)?;
-    for &(line, input, want, text) in runs {
-        let (status, sink, next) = ran(alloc, line, input.as_bytes(), kept, &[])?;
-        assert_eq!(rt; sink.text(), text.as_bytes(), "{line}: {input}");
-        assert_eq!(rt; status, want, "{line}");
-        kept = next;
+    for &run in runs {
+        kept = assert_run(rt, alloc, kept, &[], run)?;
     }
     Ok(kept)
+}
+
+// A run over a disk ends so, where these writes of its text fail. Gives the disk that it leaves.
+pub(crate) fn assert_run(
+    rt: &impl Abort,
+    alloc: Global,
+    kept: MemoryDisk,
+    failing: &[u64],
+    run: (&str, &str, u8, &str),
+) -> Result<MemoryDisk, Fail> {
+    let (line, input, want, text) = run;
+    let (status, sink, next) = ran(alloc, line, input.as_bytes(), kept, failing)?;
+    assert_eq!(rt; sink.text(), text.as_bytes(), "{line}: {input}");
+    assert_eq!(rt; status, want, "{line}");
+    Ok(next)
 }
 
 // An office in which the specimen book stands.

@@ -6,52 +6,84 @@ use disk_model::MemoryDisk;
 use kept_list::{Docket, KeptList, ListReply};
 use stamped_list::Stamping;
 use stamps::{ClerkName, Stamp};
+use std::alloc::Global;
+use std::process::Abort;
 use std::test::Fail;
 
 // The file of the number 5 under the plain stamp and of 6 by `brown` on 2025-09-01, which is day 20,332.
 const FILE: &[u8] =
     b"\x01NUMBERS1\x02\0\0\0\0\0\0\x01\x06\0\0\0\0\0\0\0\0\x05\x01\x0b\0\0\0\x6c\x4f\0\0\x05brown\x06\0";
 
-#[test]
-fn numbers_are_stamped(rt: HostRuntime) -> Result<(), Fail> {
-    let alloc = rt.alloc();
-    let disk = MemoryDisk::new(alloc, Vec::new(alloc), Vec::new(alloc), None)?;
-    let mut list = match KeptList::<MemoryDisk, Stamping<Rising>>::found(alloc, disk) {
-        Ok(list) => list,
-        Err((error, _)) => return Err(Fail::from(error)),
-    };
-    list.reserve(3)?;
-    let brown = Stamp {
+type StampedNumbers = KeptList<MemoryDisk, Stamping<Rising>>;
+
+// The stamp of the second number.
+fn brown() -> Result<Stamp, Fail> {
+    Ok(Stamp {
         day: Day(20_332),
         clerk: ClerkName::new(b"brown").ok_or("a name")?,
-    };
-    let kept = [
-        (5, Stamp::plain(), true),
-        (6, brown, true),
-        (6, Stamp::plain(), false),
-    ];
-    for (number, stamp, is_kept) in kept {
-        match answer_number(&mut list, number, stamp) {
-            ListReply::Answered { verdict, .. } => assert_eq!(rt; is_added(verdict), is_kept),
-            _ => assert!(rt; false),
+    })
+}
+
+// A new list with room for three numbers.
+fn founded(alloc: Global) -> Result<StampedNumbers, Fail> {
+    let disk = MemoryDisk::new(alloc, Vec::new(alloc), Vec::new(alloc), None)?;
+    match StampedNumbers::found(alloc, disk) {
+        Ok(mut list) => {
+            list.reserve(3)?;
+            Ok(list)
         }
+        Err((error, _)) => Err(Fail::from(error)),
     }
-    let disk = list.into_disk();
-    assert_eq!(rt; disk.image(), FILE);
-    let list = match KeptList::<MemoryDisk, Stamping<Rising>>::recover(alloc, disk) {
-        Ok(list) => list,
-        Err((error, _)) => return Err(Fail::from(error)),
-    };
+}
+
+// The list of a disk's file.
+fn recovered(alloc: Global, disk: MemoryDisk) -> Result<StampedNumbers, Fail> {
+    match StampedNumbers::recover(alloc, disk) {
+        Ok(list) => Ok(list),
+        Err((error, _)) => Err(Fail::from(error)),
+    }
+}
+
+// A number is kept or refused.
+fn assert_answer(
+    rt: &impl Abort,
+    list: &mut StampedNumbers,
+    number: u8,
+    stamp: &Stamp,
+    is_kept: bool,
+) {
+    match answer_number(list, number, *stamp) {
+        ListReply::Answered { verdict, .. } => assert_eq!(rt; is_added(verdict), is_kept),
+        _ => assert!(rt; false),
+    }
+}
+
+// Two numbers stand, each with its stamp.
+fn assert_stamps(rt: &impl Abort, list: &StampedNumbers, brown: &Stamp) {
     assert_eq!(rt; list.docket().front(), 2);
     let stamps = [
         (0, None),
         (1, Some(Stamp::plain())),
-        (2, Some(brown)),
+        (2, Some(*brown)),
         (3, None),
     ];
     for (position, stamp) in stamps {
-        assert_eq!(rt; stamp_of(&list, position), stamp);
+        assert_eq!(rt; stamp_of(list, position), stamp);
     }
+}
+
+#[test]
+fn numbers_are_stamped(rt: HostRuntime) -> Result<(), Fail> {
+    let alloc = rt.alloc();
+    let (plain, brown) = (Stamp::plain(), brown()?);
+    let mut list = founded(alloc)?;
+    assert_answer(&rt, &mut list, 5, &plain, true);
+    assert_answer(&rt, &mut list, 6, &brown, true);
+    assert_answer(&rt, &mut list, 6, &plain, false);
+    let disk = list.into_disk();
+    assert_eq!(rt; disk.image(), FILE);
+    let list = recovered(alloc, disk)?;
+    assert_stamps(&rt, &list, &brown);
     Ok(())
 }
 
