@@ -43,12 +43,11 @@ fn disk(
 fn file(
     alloc: Global,
     kept: &mut KeptList<MemoryDisk, Rising>,
-    numbers: &[u8],
+    rows: BytesLeft,
     failing: &[u64],
 ) -> Result<(Result<(), FileStop>, MemorySink), Fail>
     requires { kept.old.pending ≡ None }
 {
-    let rows = ByteForms.read(alloc, numbers.to_vec(alloc)?)?;
     let mut sink = MemorySink::new(alloc, failing.to_vec(alloc)?);
     let ended = file_planned::<MemoryDisk, MemorySink, Rising, BytesLeft>(
         alloc,
@@ -62,6 +61,7 @@ fn file(
 
 // Files the planned numbers into the list of the disk's file.
 fn run_round(alloc: Global, disk: MemoryDisk, failing: &[u64]) -> Result<Round, Fail> {
+    let rows = ByteForms.read(alloc, PLANNED.to_vec(alloc)?)?;
     let mut kept = match open::<MemoryDisk, Rising>(alloc, disk) {
         Ok(kept) => kept,
         Err((error, disk)) => return Ok(Round {
@@ -70,7 +70,7 @@ fn run_round(alloc: Global, disk: MemoryDisk, failing: &[u64]) -> Result<Round, 
             disk,
         }),
     };
-    let (ended, sink) = file(alloc, &mut kept, PLANNED, failing)?;
+    let (ended, sink) = file(alloc, &mut kept, rows, failing)?;
     Ok(Round {
         ended: ended.map_err(SessionStop::Filing),
         text: sink.text().to_vec(alloc)?,
@@ -195,10 +195,11 @@ fn stands_where_a_disk_stops(rt: HostRuntime) -> Result<(), Fail> {
 #[test]
 fn makes_room_for_all_rows(rt: HostRuntime) -> Result<(), Fail> {
     let alloc = rt.alloc();
+    let rows = ByteForms.read(alloc, b"\x06\x07\x08\x09\x0a".to_vec(alloc)?)?;
     let Ok(mut kept) = open::<MemoryDisk, Rising>(alloc, disk(alloc, OPENING, &[], None)?) else {
         return Err(Fail::new("not opened"));
     };
-    let (ended, _) = file(alloc, &mut kept, b"\x06\x07\x08\x09\x0a", &[2])?;
+    let (ended, _) = file(alloc, &mut kept, rows, &[2])?;
     assert_eq!(rt; ended, Err(FileStop::Write));
     assert_eq!(rt; kept.docket().room(), 3);
     Ok(())
