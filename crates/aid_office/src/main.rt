@@ -2,7 +2,7 @@
 #![tactic(auto)]
 
 use aid_edges::{
-    FreeGate, ReadEdge, Sink, WriteEdge, fill_streams, hold, is_born, keep_in_folder, open_input,
+    FreeGate, ReadEdge, Sink, WriteEdge, fill_streams, is_born, keep_in_folder, open_input,
     open_journal, say, words_of,
 };
 use disk_model::HostDisk;
@@ -10,6 +10,7 @@ use filing_journal::OpenError;
 use fund_policy::{Rule, level, quarter, standard};
 use kept_runs::{RunStop, end};
 use kept_session::ReadStop;
+use page_cache::{take, take_to_read};
 use run_office::{DeskInput, run, run_desks};
 use run_upgrade::upgrade;
 use run_web::run_web;
@@ -87,7 +88,7 @@ fn open_inputs(
 fn open_source(rt: &HostRuntime, words: &[String]) -> Option<File> {
     let path = upgrade_file(words)?;
     match File::open(rt, path) {
-        Ok(file) => { if hold(rt, &file) { Some(file) } else { None } }
+        Ok(file) => { if take_to_read(rt, &file) { Some(file) } else { None } }
         Err(error) => {
             let _ = eprintln!(rt; "{path} can't be opened: {error}");
             None
@@ -171,7 +172,7 @@ fn main(rt: HostRuntime) -> ExitCode {
         }
     };
     let row = row_of(&words);
-    if come_to_journal(row, &words) && !hold(&rt, &file) {
+    if come_to_journal(row, &words) && !take(&rt, &file) {
         return disk_fault;
     }
     // Of a file that can't be read its folder is synced, and the run tells of the fault.

@@ -1,9 +1,10 @@
 // The way from a program's words to a journal that is open, and to its status.
-use aid_edges::{Sink, fill_streams, hold, is_born, keep_in_folder, open_journal, say, words_of};
+use aid_edges::{Sink, fill_streams, is_born, keep_in_folder, open_journal, say, words_of};
 use disk_model::HostDisk;
 use filing_journal::OpenError;
 use kept_runs::{RunStop, end};
 use kept_session::ReadStop;
+use page_cache::take;
 use std::fs::File;
 use std::io::ErrorKind;
 use std::process::ExitCode;
@@ -59,7 +60,7 @@ fn open_disk(rt: &HostRuntime, path: &str, words: &[String]) -> Option<HostDisk>
             return None;
         }
     };
-    if !hold(rt, &file) {
+    if !take(rt, &file) {
         return None;
     }
     // Of a file that can't be read its folder is synced, and the run tells of the fault.
