@@ -83,5 +83,6 @@ def read_minutes(top):
 def write_minutes(top, table):
     """Writes such a table into the repository."""
     rows = [("crate", *COSTS), *((name, *(f"{table[name][it]:.2f}" for it in COSTS)) for name in sorted(table))]
+    os.makedirs(os.path.dirname(f"{top}/{TABLE}"), exist_ok=True)
     with open(f"{top}/{TABLE}", "w", encoding="utf-8") as file:
         file.writelines("\t".join(row) + "\n" for row in rows)
