@@ -1,7 +1,7 @@
 """Hands on the reply lines of a run, tells on standard error what became of the rows, and writes those that don't stand to a file.
 Ends with the status of the run, and where that is 0 with 1 if a row doesn't stand.
 
-usage: rejected.py ROWS.csv LEFT.csv < LINES      behind the lines of the run stands `status N`; LEFT.csv may be empty
+usage: rejected ROWS.csv LEFT.csv < LINES      behind the lines of the run stands `status N`; LEFT.csv may be empty
 """
 import csv
 import signal
@@ -58,9 +58,10 @@ def main(path, left):
     return status or (1 if out else 0)
 
 
-if __name__ == "__main__":
-    # A run that is stopped at the keyboard still tells what became of its rows.
+def run(words):
+    """Hands on and counts; a run that is stopped at the keyboard, or whose reader is gone, still tells what became of its rows."""
     signal.signal(signal.SIGINT, signal.SIG_IGN)
-    ended = main(*sys.argv[1:])
+    signal.signal(signal.SIGPIPE, signal.SIG_IGN)
+    status = main(*words)
     sys.stdout = None
-    sys.exit(ended)
+    return status

@@ -1,17 +1,14 @@
-#!/usr/bin/env python3
 """Names rows that are filings and look wrong: of kinds that can't be mended once they stand, and of what no rule holds. The
 thresholds are its own. Ends with 1 where a row looks wrong.
 
-usage: lint.py < ROWS.csv
+usage: office lint < ROWS.csv
 """
 import csv
 import datetime
 import io
-import signal
 import sys
 
-sys.dont_write_bytecode = True
-import sheet
+from . import sheet
 
 day = datetime.date.fromisoformat
 csv.field_size_limit(sys.maxsize)
@@ -93,9 +90,8 @@ def main():
     return 1 if found else 0
 
 
-if __name__ == "__main__":
-    signal.signal(signal.SIGINT, signal.SIG_DFL)
-    signal.signal(signal.SIGPIPE, signal.SIG_DFL)
-    if len(sys.argv) > 1:
+def run(words):
+    """Looks at the rows on standard input."""
+    if words:
         sheet.refuse("lint takes no words: office lint < ROWS.csv", 2)
-    sys.exit(main())
+    return main()
