@@ -6,6 +6,7 @@ import os
 import sys
 
 from . import TOP, year_book
+from .say import visible
 
 SPECIMEN = os.path.join(TOP, "examples", "2025.toml")
 PAGE = os.path.join(TOP, "docs", "FILINGS.md")
@@ -76,21 +77,27 @@ def show(now, before, said):
             show_key(section, key, unit, holder[key], other.get(key, holder[key]), said[f"{section}.{key}".lstrip(".")])
 
 
+def end(sentence):
+    """Ends with a sentence on standard error."""
+    print(visible(sentence), file=sys.stderr)
+    raise SystemExit(1)
+
+
 def read(path):
     """The book of a file; without one the program ends with a sentence."""
     try:
         with open(path, "rb") as file:
             return year_book.read(file.read())
     except OSError as error:
-        sys.exit(f"show: {path} can't be read: {error.strerror}.")
+        end(f"show: {path} can't be read: {error.strerror}.")
     except year_book.NotABook as error:
-        sys.exit(f"show: {path} is no year book. {error}")
+        end(f"show: {path} is no year book. {error}")
 
 
 def run(words):
     """Prints the book of a path beside the one before it."""
     if len(words) not in (1, 2):
-        sys.exit("usage: office show BOOK.toml [BEFORE.toml]")
+        end("usage: office show BOOK.toml [BEFORE.toml]")
     path = words[1] if words[1:] else SPECIMEN
     before = read(path)
     now = read(words[0])
