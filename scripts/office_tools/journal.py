@@ -9,6 +9,8 @@ NAME = b"\1AIDPELL1"
 MOST = 8_192                    # bytes of a payload
 MOST_BEHIND = 12_293            # bytes behind a closed gate: a record without its gate, a gate and 4,096 zeros
 PIECE = 1 << 22
+# those of an aid office, of a loan office and of a work-study office
+KINDS = (*range(1, 33), *range(101, 133), *range(201, 233))
 CLERK = re.compile(rb"(?:[A-Za-z0-9._][A-Za-z0-9._-]{0,31})?\Z")
 DAYS = range(-25_567, 2_932_897)        # 1900-01-01 to 9999-12-31, as the count since 1970-01-01
 
@@ -20,7 +22,7 @@ def number(data, signed=False):
 
 def has_key(payload):
     """Whether a payload begins as a filing does: its kind, the school, and the number that the school gave it."""
-    return len(payload) >= 13 and 1 <= payload[0] <= 32 and number(payload[1:5]) <= 999_999 and 1 <= number(payload[5:13]) <= 999_999_999_999
+    return len(payload) >= 13 and payload[0] in KINDS and number(payload[1:5]) <= 999_999 and 1 <= number(payload[5:13]) <= 999_999_999_999
 
 
 def is_stamped(payload):
@@ -73,8 +75,9 @@ def is_left_so(file, gate):
     data = file.read(MOST_BEHIND + 2)
     if data[0] != 0 or len(data) - 1 > MOST_BEHIND:
         return False
-    stamped = first is not None and is_stamped(first)
-    return not goes_on(data, is_stamped if stamped else has_key)
+    # a filing behind a stamp has no key in front: where a clerk is named its length would be part of a school's code that is too great
+    plain = first is not None and has_key(first)
+    return not goes_on(data, has_key if plain else is_stamped)
 
 
 def hurt_gate(path, live=None):

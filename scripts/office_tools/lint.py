@@ -9,6 +9,7 @@ import io
 import sys
 
 from . import sheet
+from .say import refuse, visible
 
 day = datetime.date.fromisoformat
 csv.field_size_limit(sys.maxsize)
@@ -85,7 +86,7 @@ def main():
     rows = [row for row in csv.reader(io.StringIO(text, newline="")) if row]
     found = [(number, row[0], sentence) for number, row in enumerate(rows, 1) for sentence in looks_wrong(*row)]
     for number, kind, sentence in found:
-        print(f"{number} {kind}: {sentence}")
+        print(f"{number} {kind}: {visible(sentence)}")
     print(f"looked at {len(rows)} rows, {len({number for number, *_ in found})} look wrong")
     return 1 if found else 0
 
@@ -93,5 +94,5 @@ def main():
 def run(words):
     """Looks at the rows on standard input."""
     if words:
-        sheet.refuse("lint takes no words: office lint < ROWS.csv", 2)
+        refuse("lint takes no words: office lint < ROWS.csv", 2)
     return main()

@@ -9,7 +9,7 @@ import datetime
 import sys
 from collections import Counter, defaultdict
 
-from .sheet import refuse
+from .say import refuse
 from .svg import Picture, ticks
 
 PROGRAMS = {"unsub": "#4e79a7", "sub": "#a0cbe8", "plus": "#f28e2b", "pell": "#59a14f", "fseog": "#b6992d", "teach": "#e15759"}
@@ -182,7 +182,10 @@ KINDS = {
 def main(which, year, name):
     """Draws the report on standard input."""
     read, write, draw, title = KINDS[which]
-    told = read(sys.stdin.read())
+    try:
+        told = read(sys.stdin.read())
+    except (ValueError, OverflowError):
+        refuse("this is no such report: it has other columns, or was cut short")
     if name == "-":
         print(f"{title}, {year}" if year else title)
         write(told)

@@ -14,7 +14,8 @@ import sys
 from collections import Counter, defaultdict
 
 from . import sheet
-from .sheet import Bad, heading, refuse
+from .say import refuse, visible
+from .sheet import Bad, heading
 
 NAMES = {
     "number": "number reference filing_number", "student": "student student_id student_number", "program": "program fund",
@@ -142,7 +143,7 @@ def main(path):
     both = alone(office, ledger, names)
     for side, lines in zip(("office", "ledger"), both):
         for line in lines:
-            print(f"in the {side} alone: {told(line, place)}")
+            print(f"in the {side} alone: {visible(told(line, place))}")
     return 1 if any(both) else 0
 
 

@@ -8,7 +8,8 @@ import re
 import sys
 
 from . import TOP, sheet
-from .sheet import Bad, heading, refuse
+from .say import refuse, say
+from .sheet import Bad, heading
 
 PAGE = os.path.join(TOP, "docs", "FILINGS.md")
 # Usual headings beside the names of the page.
@@ -134,15 +135,14 @@ def main(kind=None, school=None, number=None):
         making.take(at, line, {of[name]: (name, cell) for name, cell in cells.items() if name in of})
     if making.wrong:
         for sentence in making.wrong[:MOST]:
-            print(f"office: {sentence}", file=sys.stderr)
+            say(sentence)
         more = len(making.wrong) - MOST
         refuse("no row was made" + (f"; {more} more are wrong" if more > 0 else ""))
     for row in making.made:
         print(row)
     sys.stdout.flush()
     count = "1 row was" if len(making.made) == 1 else f"{len(making.made)} rows were"
-    text = f"office: {count} made: keep and file this text, again if need be, and don't make it anew"
-    print(text, file=sys.stderr)
+    say(f"{count} made: keep and file this text, again if need be, and don't make it anew")
 
 
 def run(words):
