@@ -82,9 +82,9 @@ def judged(program, words, is_good):
     return status or (0 if re.search(is_good, last[0]) else 1)
 
 
-def check(what):
+def check(words):
     """Judges rows or a book without an office: 1 where something is wrong."""
-    return judged("aid_office", [copies.needs_scratch("none.journal"), "check", what], rb" errors 0$|^1 fine$")
+    return judged("aid_office", [copies.needs_scratch("none.journal"), "check", *words], rb" errors 0$|^1 fine$")
 
 
 def audit(word):

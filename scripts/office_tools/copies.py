@@ -284,7 +284,7 @@ def look_before_found(path):
         refuse(f"{path} has {len(front)} bytes, which founding would write over: move it away first", 6)
 
 
-def found(office):
+def found(office, *_):
     """Makes the file of a new office for its owner alone, and founds the office. Other words leave no file."""
     path = office.journal
     look_before_found(path)
