@@ -217,6 +217,7 @@ def since(office, path):
         refuse(f"there is no file {path}: name a copy that backup made", 2)
     if not os.path.isfile(office.journal):
         refuse(f"{office.journal} is no file that can be read", 5)
+    office.refuse_hurt(path)
     status, text = needs_copy(office, ["file"], path)
     if status:
         office.write(text)
