@@ -3,19 +3,13 @@ import csv
 import datetime
 import io
 import re
-import sys
 
+MOST_DIGITS = 30     # more than any number of a filing has
 MARKS = ((b"\xef\xbb\xbf", "utf-8"), (b"\xff\xfe", "utf-16-le"), (b"\xfe\xff", "utf-16-be"))
 
 
 class Bad(Exception):
     """A cell, or a sheet, that can't be read: what is wrong with it."""
-
-
-def refuse(sentence, status=1):
-    """Ends with a sentence on standard error."""
-    print(f"office: {sentence}", file=sys.stderr)
-    sys.exit(status)
 
 
 def text_of(data):
@@ -72,7 +66,7 @@ def read(data):
 def amount(cell):
     """An amount as $1,145.00, 1145, 1145.5 or 1145.00, with two decimals."""
     found = re.fullmatch(r"\$?(\d{1,3}(?:,\d{3})+|\d+)(?:\.(\d{1,2}))?", cell.replace(" ", ""), re.ASCII)
-    if not found:
+    if not found or len(cell) > MOST_DIGITS:
         raise Bad("is no amount of dollars and cents")
     return f"{int(found[1].replace(',', ''))}.{(found[2] or '').ljust(2, '0')}"
 
@@ -93,7 +87,7 @@ def day(cell):
 def whole(cell):
     """A whole number as 1145, 1,145, $1,145 or 1145.0."""
     found = re.fullmatch(r"(-?)\$?(\d{1,3}(?:,\d{3})+|\d+)(?:\.0*)?", cell.replace(" ", ""), re.ASCII)
-    if not found:
+    if not found or len(cell) > MOST_DIGITS:
         raise Bad("is no whole number")
     number = int(found[2].replace(",", ""))
     return str(-number if found[1] else number)

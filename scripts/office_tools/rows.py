@@ -1,19 +1,17 @@
-#!/usr/bin/env python3
 """Makes rows that the office files of a spreadsheet's CSV with headings. All of them, or none.
 
-usage: rows.py [KIND [SCHOOL [NUMBER]]] < SHEET.csv      KIND and SCHOOL where the sheet has no such columns, NUMBER for
+usage: office rows [KIND [SCHOOL [NUMBER]]] < SHEET.csv      KIND and SCHOOL where the sheet has no such columns, NUMBER for
 its first row where it has no numbers
 """
 import os
 import re
-import signal
 import sys
 
-sys.dont_write_bytecode = True
-import sheet
-from sheet import Bad, heading, refuse
+from . import TOP, sheet
+from .say import refuse, say
+from .sheet import Bad, heading
 
-PAGE = os.path.join(os.path.dirname(os.path.dirname(os.path.abspath(__file__))), "docs", "FILINGS.md")
+PAGE = os.path.join(TOP, "docs", "FILINGS.md")
 # Usual headings beside the names of the page.
 ALSO = {
     "filing_number": "number", "desk": "school", "school_code": "school", "student_id": "student", "student_number": "student",
@@ -137,20 +135,19 @@ def main(kind=None, school=None, number=None):
         making.take(at, line, {of[name]: (name, cell) for name, cell in cells.items() if name in of})
     if making.wrong:
         for sentence in making.wrong[:MOST]:
-            print(f"office: {sentence}", file=sys.stderr)
+            say(sentence)
         more = len(making.wrong) - MOST
         refuse("no row was made" + (f"; {more} more are wrong" if more > 0 else ""))
     for row in making.made:
         print(row)
     sys.stdout.flush()
     count = "1 row was" if len(making.made) == 1 else f"{len(making.made)} rows were"
-    text = f"office: {count} made: keep and file this text, again if need be, and don't make it anew"
-    print(text, file=sys.stderr)
+    say(f"{count} made: keep and file this text, again if need be, and don't make it anew")
 
 
-if __name__ == "__main__":
-    signal.signal(signal.SIGINT, signal.SIG_DFL)
-    signal.signal(signal.SIGPIPE, signal.SIG_DFL)
-    if len(sys.argv) > 4 or any(not re.fullmatch(r"0|[1-9]\d*", word, re.ASCII) for word in sys.argv[2:]):
+def run(words):
+    """Makes rows of the sheet on standard input."""
+    if len(words) > 3 or any(not re.fullmatch(r"0|[1-9]\d*", word, re.ASCII) for word in words[1:]):
         refuse("rows takes a kind, a school and a first number at most", 2)
-    main(*sys.argv[1:])
+    main(*words)
+    return 0

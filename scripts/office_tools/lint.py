@@ -1,17 +1,15 @@
-#!/usr/bin/env python3
 """Names rows that are filings and look wrong: of kinds that can't be mended once they stand, and of what no rule holds. The
 thresholds are its own. Ends with 1 where a row looks wrong.
 
-usage: lint.py < ROWS.csv
+usage: office lint < ROWS.csv
 """
 import csv
 import datetime
 import io
-import signal
 import sys
 
-sys.dont_write_bytecode = True
-import sheet
+from . import sheet
+from .say import refuse, visible
 
 day = datetime.date.fromisoformat
 csv.field_size_limit(sys.maxsize)
@@ -88,14 +86,13 @@ def main():
     rows = [row for row in csv.reader(io.StringIO(text, newline="")) if row]
     found = [(number, row[0], sentence) for number, row in enumerate(rows, 1) for sentence in looks_wrong(*row)]
     for number, kind, sentence in found:
-        print(f"{number} {kind}: {sentence}")
+        print(f"{number} {kind}: {visible(sentence)}")
     print(f"looked at {len(rows)} rows, {len({number for number, *_ in found})} look wrong")
     return 1 if found else 0
 
 
-if __name__ == "__main__":
-    signal.signal(signal.SIGINT, signal.SIG_DFL)
-    signal.signal(signal.SIGPIPE, signal.SIG_DFL)
-    if len(sys.argv) > 1:
-        sheet.refuse("lint takes no words: office lint < ROWS.csv", 2)
-    sys.exit(main())
+def run(words):
+    """Looks at the rows on standard input."""
+    if words:
+        refuse("lint takes no words: office lint < ROWS.csv", 2)
+    return main()
