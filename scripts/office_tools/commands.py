@@ -4,7 +4,7 @@ import signal
 import sys
 from dataclasses import dataclass
 
-from . import asking, copies, explain, intake, lint, plot, programs, reconcile, rows, running, show, tables
+from . import asking, before, copies, explain, lint, plot, programs, reconcile, rows, running, show, tables
 from .office import Office
 from .say import refuse, say
 
@@ -13,7 +13,7 @@ usage: office JOURNAL COMMAND, where JOURNAL is the file that keeps the office
   found                        founds an office there
   book NUMBER < BOOK.toml      files a year book under school 0 and this number
   file < ROWS.csv              files rows, and answers each by a line
-  intake ROWS.csv [LEFT.csv]   the same; 1 where LEFT gets rows not on file
+  intake ROWS.csv [LEFT.csv] [--again]    1 where LEFT gets rows not on file
   desks ROWS.csv..             files 1 to 16 files at once
   fund SCHOOL YEAR TERM AMOUNT level|quarter NUMBER      awards a fund of FSEOG
   generate SEED STUDENTS < BOOK.toml      files a made-up year, to try it with
@@ -37,7 +37,7 @@ usage: office COMMAND, without a journal
   help, --version, demo        demo files a worked year into an office that goes
   check rows|book < FILE       judges rows or a book; ends with 1 on an error
   explain [ROWS.csv] < LINES   says refusals, errors and faults in words
-  lint < ROWS.csv              names filings that look wrong; 1 where some do
+  [JOURNAL] lint < ROWS.csv    names filings that look wrong or are paid twice
   rows [KIND [SCHOOL [NUMBER]]] < SHEET.csv    makes rows of a sheet's CSV
   show BOOK.toml [BEFORE.toml] prints a year book in words and units
   plot standing|awards|returns|lifetime [YEAR] [PICTURE.svg | -] < REPORT
@@ -97,11 +97,12 @@ def dry(office, words):
     """Tries a command on a copy of which nothing stays."""
     what = words[0] if words else ""
     if what == "intake":
-        takes(words, 2, 3, "JOURNAL dry intake ROWS.csv [LEFT.csv]")
-        return intake.intake(office, *words[1:], copy=copies.try_on_copy(office))
+        return before.take_in(office, *words[1:], is_dry=True)
     if what not in ("file", "book", "fund", "desks", "generate", "quote", "report"):
         refuse("dry takes file, intake, book, fund, desks or generate with its words", 2)
     office.words = words
+    if what in ("file", "desks"):
+        return before.try_rows(office)
     return office.run_plainly(copies.try_on_copy(office))
 
 
@@ -129,9 +130,9 @@ def serve(office):
 # Commands with so many words behind them, at least and at most, that are the script's own.
 OWN = {
     "upgrade": (copies.upgrade, 1, 1, "upgrade OLD"), "next": (tables.next_number, 1, 1, "next SCHOOL"),
-    "why": (asking.why, 4, 4, "why SCHOOL STUDENT YEAR TERM"), "intake": (intake.intake, 1, 2, "intake ROWS.csv [LEFT.csv]"),
+    "why": (asking.why, 4, 4, "why SCHOOL STUDENT YEAR TERM"), "intake": (before.take_in, 1, 3, "intake ROWS.csv [LEFT.csv] [--again]"),
     "backup": (copies.backup, 1, 1, "backup COPY"), "since": (copies.since, 1, 1, "since COPY"), "salvage": (copies.salvage, 1, 1, "salvage NEW"),
-    "csv": (tables.csv, 1, 2, "csv REPORT [YEAR]"),
+    "csv": (tables.csv, 1, 2, "csv REPORT [YEAR]"), "lint": (lint.lint_office, 0, 0, "lint < ROWS.csv"),
 }
 
 

@@ -84,16 +84,21 @@ def tell(rows, told, left, status):
     return status or (1 if out else 0)
 
 
-def intake(office, path, left="", copy=None):
-    """Files rows, on a copy where one is said, and tells by the status whether all of them stand. LEFT gets the others."""
+def intake(office, path, left="", is_dry=False, before=None):
+    """Files rows, or tries them on a copy, and tells by the status whether all of them stand. LEFT gets the others. Nothing is filed
+    where what looks at the rows before gives a status."""
     if not (os.path.isfile(path) and os.access(path, os.R_OK)):
         refuse(f"{path} is no file that can be read: mend the path, or its rights", 2)
     if left:
         look_at_left(left, (office.journal, path))
     rows, told, status = rows_of(path), Told(), 130
-    hurt = None if copy else office.hurt()
+    hurt = None if is_dry else office.hurt()
     try:
-        if hurt is None:
+        status = before(rows) if before else 0
+        if status:
+            pass
+        elif hurt is None:
+            copy = copies.try_on_copy(office) if is_dry else None
             with open(path, "rb") as given:
                 status = office.run(["file"], copy, given=given, take=told.take, keeps_on=True)
             office.say_status(status)

@@ -1,0 +1,76 @@
+"""Looks at rows before they are filed: names payments and awards that are on file already under another number."""
+import shutil
+import sys
+
+from . import copies, intake, listing, twice
+from .say import refuse, say
+
+# A journal that can't be opened is told by the run that files.
+TOLD_LATER = (6, 7)
+
+
+def paid_again(journal, rows):
+    """The rows that give again what is on file, with nothing asked where no row gives."""
+    if not any(twice.moves(row) for row in rows):
+        return []
+    return twice.of_list(rows, listing.of_journal(journal))
+
+
+def look(journal, rows, name=twice.plainly):
+    """Says which rows give again. The status: 1 where some do, and that of a list that can't be had."""
+    try:
+        again = paid_again(journal, rows)
+    except listing.NotListed as failed:
+        if failed.status in TOLD_LATER:
+            return 0
+        say("what is on file can't be listed, so whether it is paid twice isn't known")
+        return failed.status
+    for sentence in twice.sentences(again, rows, name):
+        say(sentence)
+    return 1 if again else 0
+
+
+def take_in(office, *words, is_dry=False):
+    """Files the rows of a file, or tries them on a copy, and nothing where they pay twice and `--again` isn't said."""
+    paths = [word for word in words if word != "--again"]
+    if not 1 <= len(paths) <= 2:
+        refuse("usage: office JOURNAL intake ROWS.csv [LEFT.csv] [--again]", 2)
+
+    def before(rows):
+        status = look(office.journal, rows)
+        if status:
+            say("nothing was filed: where it is to be paid once more, say --again behind intake")
+        return status
+
+    return intake.intake(office, *paths, is_dry=is_dry, before=None if "--again" in words else before)
+
+
+def names_of(paths, counts):
+    """How a row is named by its number among those of all files."""
+    def name(number):
+        for path, count in zip(paths, counts):
+            if number <= count:
+                return f"row {number}" if len(paths) == 1 else f"{path}, row {number}"
+            number -= count
+        return f"row {number}"
+    return name
+
+
+def try_rows(office):
+    """Tries `file` or `desks` on a copy, and names rows that give again: 1 where some do."""
+    paths = office.words[1:]
+    if office.words == ["file"]:
+        paths = [copies.needs_scratch("rows")]
+        with open(paths[0], "wb") as file:
+            shutil.copyfileobj(sys.stdin.buffer, file)
+    copy = copies.try_on_copy(office)
+    if office.words == ["file"]:
+        with open(paths[0], "rb") as given:
+            status = office.run(office.words, copy, given=given)
+    else:
+        status = office.run(office.words, copy)
+    office.say_status(status)
+    if status:
+        return status
+    files = [intake.rows_of(path) for path in paths]
+    return look(office.journal, [row for rows in files for row in rows], names_of(paths, list(map(len, files))))
