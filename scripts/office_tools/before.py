@@ -1,8 +1,9 @@
 """Looks at rows before they are filed: names payments and awards that are on file already under another number."""
+import os
 import shutil
 import sys
 
-from . import copies, intake, listing, twice
+from . import columns, copies, intake, listing, sheet, twice
 from .say import refuse, say
 
 # A journal that can't be opened is told by the run that files.
@@ -35,6 +36,7 @@ def take_in(office, *words, is_dry=False):
     paths = [word for word in words if word != "--again"]
     if not 1 <= len(paths) <= 2:
         refuse("usage: office JOURNAL intake ROWS.csv [LEFT.csv] [--again]", 2)
+    refuse_sheet(paths[0])
 
     def before(rows):
         status = look(office.journal, rows)
@@ -43,6 +45,16 @@ def take_in(office, *words, is_dry=False):
         return status
 
     return intake.intake(office, *paths, is_dry=is_dry, before=None if "--again" in words else before)
+
+
+def refuse_sheet(path):
+    """Refuses a spreadsheet in place of rows, once for all its lines."""
+    if not os.path.isfile(path) or not os.access(path, os.R_OK):
+        return
+    names = columns.headings_in(sheet.text_of(copies.text_of(path)))
+    if names:
+        shown = ", ".join(names[:4]) + (", .." if names[4:] else "")
+        refuse(f"{path} is a spreadsheet with headings ({shown}), and no row of it was filed: make rows of it by office rows KIND SCHOOL NUMBER < {path}, and file these")
 
 
 def names_of(paths, counts):

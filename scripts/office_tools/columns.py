@@ -1,10 +1,12 @@
 """The columns of each kind of filing, from the page of filings, and the other headings under which a sheet may have them."""
+import csv
+import io
 import os
 import re
 from dataclasses import dataclass
 
 from . import TOP
-from .sheet import heading
+from .sheet import heading, parted
 
 PAGE = os.path.join(TOP, "docs", "FILINGS.md")
 # Other headings of a column, and of which kinds they are; without a kind of all that have the column.
@@ -65,3 +67,12 @@ def listed(kinds):
         for name in names_of(kind, columns):
             other = ", ".join(word.replace("_", " ") for word in others(kind, name))
             yield f"{kind} {name}{': ' if other else ''}{other}"
+
+
+def headings_in(text):
+    """The headings of a spreadsheet, where a text isn't rows but begins with two of them or more."""
+    text, mark = parted(text)
+    first = next((cells for cells in csv.reader(io.StringIO(text, newline=""), delimiter=mark) if any(cells)), [])
+    kinds = read()
+    known = [cell for cell in first if any(fits(kind, columns, cell.lstrip("#")) for kind, columns in kinds.items())]
+    return [cell.strip() for cell in first if cell.strip()] if len(known) > 1 and first[0].strip() not in kinds else []

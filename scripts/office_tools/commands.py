@@ -4,7 +4,7 @@ import signal
 import sys
 from dataclasses import dataclass
 
-from . import asking, before, copies, explain, lint, plot, programs, reconcile, rows, running, show, tables
+from . import asking, before, book_line, copies, explain, lint, plot, programs, reconcile, rows, running, show, tables
 from .office import Office
 from .say import refuse, say
 
@@ -103,7 +103,8 @@ def dry(office, words):
     office.words = words
     if what in ("file", "desks"):
         return before.try_rows(office)
-    return office.run_plainly(copies.try_on_copy(office))
+    run = book_line.run_book if what in ("book", "generate") else Office.run_plainly
+    return run(office, copies.try_on_copy(office))
 
 
 def serve(office):
@@ -165,7 +166,7 @@ def on_journal(words, options):
         return office.read_only()
     if command in ("list", "student", "need", "quotes", "payments", "withdrawal", "upto"):
         return office.sheet()
-    return office.run_plainly()
+    return book_line.run_book(office) if command in ("book", "generate") else office.run_plainly()
 
 
 def other_desk(program, path, words, options, desk, usage, again):
@@ -211,7 +212,7 @@ def demo(words):
 
 def check(words):
     """Judges rows or a book."""
-    return asking.check(words[0])
+    return book_line.check_book() if words == ["book"] else asking.check("rows")
 
 
 def print_help(_words):

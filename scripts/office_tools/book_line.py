@@ -1,0 +1,156 @@
+"""Names the line of a year book at which its first error stands, with the text there, behind the line that the program answers.
+
+usage: office JOURNAL book NUMBER < BOOK.toml, and so `dry book`, `check book` and `generate`
+"""
+import re
+import shutil
+import sys
+import tomllib
+
+from . import copies, year_book
+from .office import Office
+from .say import say
+
+HEADER = re.compile(r"\s*\[(\[)?\s*([^\[\]]+?)\s*\]")
+KEY = re.compile(r"\s*((?:[A-Za-z0-9_-]+|\"[^\"]*\"|'[^']*')(?:\s*\.\s*(?:[A-Za-z0-9_-]+|\"[^\"]*\"|'[^']*'))*)\s*=")
+BOOK = re.compile(r"1 book ([1-6])(?: (.*))?")
+
+
+def bare(path):
+    """A path of keys without quotes and blanks."""
+    return ".".join(part.strip().strip("\"'") for part in path.split("."))
+
+
+def places(text):
+    """The line of each key by its path, and of each header; rows of a table are counted from 1 behind its name."""
+    found, section, rows = {}, "", {}
+    for number, line in enumerate(text.split("\n"), 1):
+        header, key = HEADER.match(line), KEY.match(line)
+        if header:
+            section = bare(header[2])
+            if header[1]:
+                rows[section] = rows.get(section, 0) + 1
+                section = f"{section} {rows[section]}"
+            found.setdefault(section, number)
+        elif key:
+            found.setdefault(f"{section}.{bare(key[1])}".lstrip("."), number)
+    return found
+
+
+def fields():
+    """The path of each field by its number, as FILINGS.md counts them; of a column with its table in front."""
+    paths = []
+    for section, *most, keys in year_book.SECTIONS:
+        paths += [section] * len(most) + [f"{section}.{key}".lstrip(".") for key in keys]
+    return dict(enumerate(paths, 1))
+
+
+def first_bad_row(book, table, column, error):
+    """The number of the first row of a table in which a column is missing, no number, or out of its range."""
+    low, high, _ = next(keys for name, *_, keys in year_book.SECTIONS if name == table)[column]
+    for number, row in enumerate(book[table], 1):
+        value = row.get(column)
+        bad = {2: value is None, 3: value is not None and not year_book.is_number(value), 4: year_book.is_number(value) and not low <= value <= high}
+        if bad[error]:
+            return number
+    return None
+
+
+def of_field(text, error, path):
+    """The line of a field that is missing, or isn't what it must be: of a missing one that of the section or row in which it isn't."""
+    found, book = places(text), tomllib.loads(text)
+    section, _, key = path.rpartition(".")
+    if section in year_book.TABLES:
+        section = f"{section} {first_bad_row(book, section, key, error)}"
+    if path in year_book.TABLES:
+        section, key = f"{path} 1", ""
+    return found.get(f"{section}.{key}".strip("."), found.get(section))
+
+
+def of_no_toml(data):
+    """The line at which a text is no TOML, and why, if it can be told."""
+    try:
+        tomllib.loads(data.decode("utf-8-sig"))
+    except UnicodeDecodeError as error:
+        return data.count(b"\n", 0, error.start) + 1, "it isn't UTF-8"
+    except tomllib.TOMLDecodeError as error:
+        why, _, place = str(error).rpartition(" (at ")
+        line = re.match(r"line (\d+)", place)
+        return (int(line[1]) if line else data.rstrip(b"\n").count(b"\n") + 1), why[:1].lower() + why[1:]
+    except (RecursionError, ValueError):
+        pass
+    big = re.search(rb"\d{19}", data)
+    return (data.count(b"\n", 0, big.start()) + 1 if big else None), "a number has more than 64 bits"
+
+
+def line_of(data, error, detail):
+    """The number of the line, from 1, at which a book has this error, and what is said of it; no number where it can't be told."""
+    if error == 1:
+        return of_no_toml(data)
+    text = data.decode("utf-8-sig")
+    if error == 5:
+        table, row = map(int, detail.split())
+        name = year_book.TABLES[table - 1]
+        return places(text).get(f"{name} {row}"), f"row {row} of {name} doesn't begin the table, or go on from the row before it, as it must"
+    if error == 6:
+        path = re.sub(r"^(business|age|bracket)\.", r"\1 1.", detail)
+        lines = [line for key, line in places(text).items() if re.sub(r" \d+(?=\.|$)", "", key) == detail or key == path]
+        return min(lines, default=None), f"{detail} is no key of a book"
+    path = fields()[int(detail)]
+    says = {2: "isn't there", 3: "isn't of its kind", 4: "is out of its range"}[error]
+    return of_field(text, error, path), f"field {detail}, {path}, {says}"
+
+
+def sentence(data, line):
+    """What is said behind the program's line, if it tells an error of a book."""
+    found = BOOK.fullmatch(line)
+    if not found:
+        return None
+    number, says = line_of(data, int(found[1]), found[2] or "")
+    if number is None:
+        return says
+    there = data.decode("utf-8-sig", "replace").split("\n")[number - 1].strip()
+    return f"line {number}, `{there[:100]}`: {says}"
+
+
+def say_where(path, lines):
+    """Says where the first error of the book in a file stands, which one of the lines that answer it tells."""
+    data = copies.text_of(path)
+    for line in lines:
+        said = sentence(data, line.decode("utf-8", "replace"))
+        if said:
+            say(said)
+
+
+def kept_input():
+    """Standard input in a file of this run, or nothing where there is no room for it."""
+    path = copies.scratch("book")
+    if path is None:
+        return None
+    with open(path, "wb") as file:
+        shutil.copyfileobj(sys.stdin.buffer, file)
+    return path
+
+
+def run_book(office, copy=None):
+    """Runs a command that reads a book on the journal, or on a copy of it, and says where the book's first error stands."""
+    if copies.scratch("book") is None:
+        return office.run_plainly(copy)
+    if copy is None:
+        office.refuse_hurt(office.journal)
+    path, lines = kept_input(), []
+    with open(path, "rb") as given:
+        status = office.run(office.words, copy, given=given, take=lines.append)
+    office.say_status(status)
+    say_where(path, lines)
+    return status
+
+
+def check_book():
+    """Judges a book without an office, and says where its first error stands: 1 where there is one."""
+    office, lines = Office(copies.needs_scratch("none.journal"), ["check", "book"]), []
+    path = kept_input()
+    with open(path, "rb") as given:
+        status = office.run(office.words, given=given, take=lines.append)
+    say_where(path, lines)
+    return status or (0 if lines[-1:] == [b"1 fine"] else 1)
