@@ -38,6 +38,11 @@ def read():
     return {kind: [Column(*cells) for cells in LINE.findall(table)] for kind, table in (part.split("\n", 1) for part in parts)}
 
 
+def is_nothing_where_empty(kind, column):
+    """Whether an empty cell is 0: of the amounts of an application alone."""
+    return kind == "apply" and column.says.endswith(", in dollars")
+
+
 def names_of(kind, columns):
     """All columns of a kind by name, with the key in front, and the days of breaks behind a calendar's."""
     return [*KEY, *(column.name for column in columns), *(BREAKS if kind == "calendar" else [])]

@@ -3,11 +3,12 @@
 usage: office rows [KIND [SCHOOL [NUMBER]]] [--year-begins | --year-ends] < SHEET.csv      KIND and SCHOOL where the sheet has no such
 columns, NUMBER for its first row where it has no numbers; a plain year of a heading as Award Year is the one in which it begins or ends
        office rows --names [KIND]      the headings that a sheet may have
+       office rows KIND --template     a sheet to fill in
 """
 import re
 import sys
 
-from . import columns, sheet
+from . import columns, sheet, template
 from .columns import BREAKS, KEY
 from .say import refuse, say
 from .sheet import Bad, heading
@@ -27,6 +28,7 @@ class Sheet:
 
     def __init__(self, headings, kind, school, number, years):
         self.kinds = columns.read()
+        self.nothing = {kind: {column.name for column in of_kind if columns.is_nothing_where_empty(kind, column)} for kind, of_kind in self.kinds.items()}
         self.headings, self.kind, self.school, self.number, self.years = headings, kind, school, number, years
         self.made, self.wrong, self.keys, self.of, self.asked = [], [], {}, {}, False
 
@@ -112,6 +114,8 @@ class Sheet:
             return self.school
         if name == "number" and self.number is not None:
             return str(int(self.number) + at)
+        if name in row and name in self.nothing[kind]:
+            return "0"
         if name in row:
             self.bad(f"line {line}: {name} is empty")
         else:
@@ -133,7 +137,7 @@ def main(kind, school, number, years):
         refuse(f"the sheet can't be read: {bad}")
     making = Sheet([name for name in names if name and not name.startswith("#")], kind, school, number, years)
     making.look_at_headings()
-    for at, (line, cells) in enumerate(rows):
+    for at, (line, cells) in enumerate(row for row in rows if not template.is_note(row[1])):
         making.take(at, line, {name: cells[name] for name in making.headings})
     if making.wrong:
         for sentence in making.wrong[:MOST]:
@@ -161,6 +165,8 @@ def run(words):
     if "--names" in words:
         show_names([word for word in words if word != "--names"])
         return 0
+    if "--template" in words:
+        return template.run([word for word in words if word != "--template"])
     plain, years = [word for word in words if word not in YEARS], {YEARS[word] for word in words if word in YEARS}
     if len(plain) > 3 or len(years) > 1 or any(not re.fullmatch(r"0|[1-9]\d*", word, re.ASCII) for word in plain[1:]):
         refuse("rows takes a kind, a school and a first number at most, and one of --year-begins and --year-ends", 2)
