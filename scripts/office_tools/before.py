@@ -1,9 +1,10 @@
 """Looks at rows before they are filed: names payments and awards that are on file already under another number."""
+import functools
 import os
 import shutil
 import sys
 
-from . import columns, copies, intake, listing, sheet, twice
+from . import approval, columns, copies, intake, listing, sheet, twice
 from .say import refuse, say
 
 # A journal that can't be opened is told by the run that files.
@@ -33,6 +34,7 @@ def look(journal, rows, name=twice.plainly):
 
 def take_in(office, *words, is_dry=False):
     """Files the rows of a file, or tries them on a copy, and nothing where they pay twice and `--again` isn't said."""
+    words, flags = approval.parted(words) if is_dry else (words, [])
     paths = [word for word in words if word != "--again"]
     if not 1 <= len(paths) <= 2:
         refuse("usage: office JOURNAL intake ROWS.csv [LEFT.csv] [--again]", 2)
@@ -44,7 +46,8 @@ def take_in(office, *words, is_dry=False):
             say("nothing was filed: where it is to be paid once more, say --again behind intake")
         return status
 
-    return intake.intake(office, *paths, is_dry=is_dry, before=None if "--again" in words else before)
+    after = functools.partial(approval.show_intake, flags=flags) if is_dry else None
+    return intake.intake(office, *paths, is_dry=is_dry, before=None if "--again" in words else before, after=after, is_quiet=bool(flags))
 
 
 def refuse_sheet(path):

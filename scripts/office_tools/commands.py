@@ -4,7 +4,7 @@ import signal
 import sys
 from dataclasses import dataclass
 
-from . import asking, before, book_line, copies, explain, lint, plot, programs, reconcile, rows, running, show, tables
+from . import approval, asking, before, book_line, copies, explain, lint, plot, programs, reconcile, rows, running, show, tables
 from .office import Office
 from .say import refuse, say
 
@@ -100,6 +100,8 @@ def dry(office, words):
         return before.take_in(office, *words[1:], is_dry=True)
     if what not in ("file", "book", "fund", "desks", "generate", "quote", "report"):
         refuse("dry takes file, intake, book, fund, desks or generate with its words", 2)
+    if what == "fund":
+        return approval.dry_fund(office, words)
     office.words = words
     if what in ("file", "desks"):
         return before.try_rows(office)
@@ -181,8 +183,9 @@ def other_desk(program, path, words, options, desk, usage, again):
     if not os.path.exists(path):
         refuse(f"there is no file {path}: mend the path, or found a {again[0]} there by: office {desk} {path} found", 2)
     running.State.files = f"what is on file in {path} stands: run the same again{again[1]}"
-    if words[0] == "round":
+    if "round" in words[:2]:
         office.stands = "stands, so take further numbers"
+        return approval.work_round(office, words[words.index("round"):], words[0] == "dry")
     return office.run_plainly()
 
 
@@ -197,8 +200,8 @@ def loans(words, options):
 def work(words, options):
     """The work-study fund."""
     words = options_in(words, options)
-    takes(words, 1, 5, "work JOURNAL found|file|round ..")
-    usage = "found, file < ROWS.csv, or round SCHOOL YEAR NUMBER < STUDENTS.csv", [("file", 0, 0), ("round", 3, 3)]
+    takes(words, 1, 7, "work JOURNAL found|file|[dry] round ..")
+    usage = "found, file < ROWS.csv, or [dry] round SCHOOL YEAR NUMBER [--table | --csv] < STUDENTS.csv", [("file", 0, 0), ("round", 3, 4), ("dry", 4, 5)]
     again = "work-study office", ", a round under further numbers"
     return other_desk("work_office", words[0], options_in(words[1:], options), options, "work", usage, again)
 
