@@ -6,10 +6,10 @@ import csv
 import sys
 from dataclasses import dataclass
 
-from . import copies, listing
-from .say import say
+from . import copies, ids, listing
+from .say import say, visible
 
-FLAGS = ("--table", "--csv")
+FLAGS = ("--table", "--csv", "--names")
 HEADING = ("student", "school", "year", "term", "program", "amount", "net", "left")
 WIDTHS = (12, 6, 4, 4, 10, 12, 12, 12)
 # A release that no award of 4,000 dollars at most has room for: it is refused, and its refusal tells what isn't earned of the award.
@@ -30,10 +30,11 @@ class Line:
     net: int
     left: int | None = None
 
-    def cells(self):
-        """The cells of the table."""
+    def cells(self, known=None):
+        """The cells of the table, with the id and the name where they are asked for."""
         left = "-" if self.left is None else money(self.left)
-        return (self.student, self.school, self.year, self.term, self.program, money(self.amount), money(self.net), left)
+        cells = (self.student, self.school, self.year, self.term, self.program, money(self.amount), money(self.net), left)
+        return cells + (known.told(self.student) if known else ())
 
 
 def money(cents):
@@ -80,6 +81,11 @@ def of_fund(found, lines):
     return found
 
 
+def heading(known):
+    """The names of the columns."""
+    return (*HEADING, "id", "name") if known else HEADING
+
+
 def totals(found):
     """The sum of each program, in the order in which they come."""
     sums = {}
@@ -89,10 +95,11 @@ def totals(found):
     return sums
 
 
-def table_lines(found, left_of, notes):
+def table_lines(found, left_of, notes, known=None):
     """The table in text: a line each, the sum of each program, what else is to be known, and where it is signed."""
-    for cells in (HEADING, *(one.cells() for one in found)):
-        yield " ".join(cell.rjust(width) for cell, width in zip(cells, WIDTHS))
+    for cells in (heading(known), *(one.cells(known) for one in found)):
+        line = " ".join(cell.rjust(width) for cell, width in zip(cells, WIDTHS))
+        yield "  ".join([line, *(visible(cell) for cell in cells[len(WIDTHS):] if cell)])
     for program, (count, total) in totals(found).items():
         yield f"total {program}: {money(total)} in {count}"
     yield f"net is of the program in the year, at all schools; left is of {left_of}"
@@ -101,26 +108,34 @@ def table_lines(found, left_of, notes):
     yield "Approved by ________________________________  Date ____________"
 
 
-def show(found, flags, left_of, notes=()):
+def show(found, flags, left_of, journal, notes=()):
     """Prints the table: behind the lines of the program, alone, or as comma-separated values alone."""
+    known = ids.needed(journal) if "--names" in flags else None
     if "--csv" in flags:
-        csv.writer(sys.stdout, lineterminator="\n").writerows([HEADING, *(one.cells() for one in found)])
+        csv.writer(sys.stdout, lineterminator="\n").writerows([heading(known), *(one.cells(known) for one in found)])
         return
     if "--table" not in flags:
         print()
-    for line in table_lines(found, left_of, notes):
+    for line in table_lines(found, left_of, notes, known):
         print(line)
 
 
-def parted(words):
-    """The words without the flags of a table, and these."""
+def parted(words, journal):
+    """The words without the flags of a table, and these. Names that can't be told are refused before anything is done."""
+    if "--names" in words:
+        ids.needed(journal)
     return [word for word in words if word not in FLAGS], [word for word in words if word in FLAGS]
+
+
+def is_alone(flags):
+    """Whether the table is asked for without the lines of the program."""
+    return "--table" in flags or "--csv" in flags
 
 
 def gathered(office, words, copy, flags, given=None):
     """The status and the reply lines of a run, which are printed too where the table isn't asked for alone."""
     lines = []
-    if not flags:
+    if not is_alone(flags):
         return office.run(words, copy, given=given, take=lines.append, keeps_on=True), lines
     text = copies.needs_scratch("lines")
     with open(text, "wb") as out:
@@ -131,12 +146,12 @@ def gathered(office, words, copy, flags, given=None):
 def without_table(flags, status, failed):
     """Says that there is no table: the status is that of the run, or of the table where it was asked for alone."""
     say("the table can't be made, since what is on file can't be listed")
-    return status or (failed if flags else 0)
+    return status or (failed if is_alone(flags) else 0)
 
 
 def dry_fund(office, words):
     """Tries a round of a fund on a copy, and prints who gets what."""
-    words, flags = parted(words)
+    words, flags = parted(words, office.journal)
     copy = copies.try_on_copy(office)
     status, lines = gathered(office, words, copy, flags)
     office.say_status(status)
@@ -148,11 +163,11 @@ def dry_fund(office, words):
         return without_table(flags, status, failed.status)
     refused = sum(line.split()[2:3] == [b"refused"] for line in lines)
     notes = [f"{refused} payments are refused, and count as spent in what is left"] if refused else []
-    show(of_fund(found, lines), flags, f"the fund of {words[4]} dollars", notes)
+    show(of_fund(found, lines), flags, f"the fund of {words[4]} dollars", office.journal, notes)
     return status
 
 
-def show_intake(copy, told, flags):
+def show_intake(copy, told, flags, journal):
     """Prints who gets what of rows that were tried on a copy, and how many rows aren't on file then. The status."""
     positions = set(told.positions.values())
     try:
@@ -162,7 +177,7 @@ def show_intake(copy, told, flags):
     words = list(told.words.values())
     counts = [(len(positions) - len(found), "other rows are filed"), (words.count(b"again"), "rows were on file before"),
               (words.count(b"refused") + words.count(b"error"), "rows aren't filed")]
-    show(found, flags, "the cost of attendance at the school", [f"{count} {what}" for count, what in counts if count])
+    show(found, flags, "the cost of attendance at the school", journal, [f"{count} {what}" for count, what in counts if count])
     return 0
 
 
@@ -198,7 +213,7 @@ def awards(office, journal, school, year, students):
 
 def work_round(office, words, is_dry):
     """Awards the rest of a work-study fund, or tries that on a copy, and prints who gets what."""
-    words, flags = parted(words)
+    words, flags = parted(words, office.journal)
     rows = copies.needs_scratch("students")
     with open(rows, "wb") as file:
         while piece := sys.stdin.buffer.read(copies.PIECE):
@@ -218,5 +233,5 @@ def work_round(office, words, is_dry):
         return without_table(flags, status, 1)
     new = sorted((students[student], int(student)) for student in after if student not in before)
     found = [Line(str(student), place[0], place[1], "-", "work-study", after[str(student)], after[str(student)]) for _, student in new]
-    show(of_fund(found, lines), flags, "the fund")
+    show(of_fund(found, lines), flags, "the fund", office.journal)
     return status

@@ -34,7 +34,7 @@ def look(journal, rows, name=twice.plainly):
 
 def take_in(office, *words, is_dry=False):
     """Files the rows of a file, or tries them on a copy, and nothing where they pay twice and `--again` isn't said."""
-    words, flags = approval.parted(words) if is_dry else (words, [])
+    words, flags = approval.parted(words, office.journal) if is_dry else (words, [])
     paths = [word for word in words if word != "--again"]
     if not 1 <= len(paths) <= 2:
         refuse("usage: office JOURNAL intake ROWS.csv [LEFT.csv] [--again]", 2)
@@ -46,8 +46,8 @@ def take_in(office, *words, is_dry=False):
             say("nothing was filed: where it is to be paid once more, say --again behind intake")
         return status
 
-    after = functools.partial(approval.show_intake, flags=flags) if is_dry else None
-    return intake.intake(office, *paths, is_dry=is_dry, before=None if "--again" in words else before, after=after, is_quiet=bool(flags))
+    after = functools.partial(approval.show_intake, flags=flags, journal=office.journal) if is_dry else None
+    return intake.intake(office, *paths, is_dry=is_dry, before=None if "--again" in words else before, after=after, is_quiet=approval.is_alone(flags))
 
 
 def refuse_sheet(path):

@@ -4,7 +4,7 @@ import signal
 import sys
 from dataclasses import dataclass
 
-from . import approval, asking, before, book_line, copies, explain, lint, plot, programs, reconcile, rows, running, show, tables
+from . import approval, asking, before, book_line, copies, explain, ids, lint, plot, programs, reconcile, rows, running, show, tables
 from .office import Office
 from .say import refuse, say
 
@@ -136,6 +136,7 @@ OWN = {
     "why": (asking.why, 4, 4, "why SCHOOL STUDENT YEAR TERM"), "intake": (before.take_in, 1, 3, "intake ROWS.csv [LEFT.csv] [--again]"),
     "backup": (copies.backup, 1, 1, "backup COPY"), "since": (copies.since, 1, 1, "since COPY"), "salvage": (copies.salvage, 1, 1, "salvage NEW"),
     "csv": (tables.csv, 1, 2, "csv REPORT [YEAR]"), "lint": (lint.lint_office, 0, 0, "lint < ROWS.csv"),
+    "ids": (ids.check, 0, 0, "ids"), "rows": (rows.run_office, 0, 5, "rows [KIND [SCHOOL [NUMBER]]] < SHEET.csv"),
 }
 
 
@@ -154,6 +155,8 @@ def on_journal(words, options):
         is_path(words[1])
     if command == "serve":
         return serve(office)
+    if "--names" in words and command in ("report", "csv", *ids.SHEETS):
+        return ids.show(office, [word for word in words if word != "--names"])
     size = lambda: os.path.getsize(path) if os.path.isfile(path) else "no"
     running.say_at_work(lambda: f"; {path} has {size()} bytes")
     if command in OWN:
@@ -200,8 +203,8 @@ def loans(words, options):
 def work(words, options):
     """The work-study fund."""
     words = options_in(words, options)
-    takes(words, 1, 7, "work JOURNAL found|file|[dry] round ..")
-    usage = "found, file < ROWS.csv, or [dry] round SCHOOL YEAR NUMBER [--table | --csv] < STUDENTS.csv", [("file", 0, 0), ("round", 3, 4), ("dry", 4, 5)]
+    takes(words, 1, 9, "work JOURNAL found|file|[dry] round ..")
+    usage = "found, file < ROWS.csv, or [dry] round SCHOOL YEAR NUMBER [--table | --csv] [--names] < STUDENTS.csv", [("file", 0, 0), ("round", 3, 6), ("dry", 4, 7)]
     again = "work-study office", ", a round under further numbers"
     return other_desk("work_office", words[0], options_in(words[1:], options), options, "work", usage, again)
 

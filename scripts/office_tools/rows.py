@@ -4,11 +4,12 @@ usage: office rows [KIND [SCHOOL [NUMBER]]] [--year-begins | --year-ends] < SHEE
 columns, NUMBER for its first row where it has no numbers; a plain year of a heading as Award Year is the one in which it begins or ends
        office rows --names [KIND]      the headings that a sheet may have
        office rows KIND --template     a sheet to fill in
+       office JOURNAL rows ..          the same, where students may stand by their ids (ids.py)
 """
 import re
 import sys
 
-from . import columns, sheet, template
+from . import columns, ids, sheet, template
 from .columns import BREAKS, KEY
 from .say import refuse, say
 from .sheet import Bad, heading
@@ -26,10 +27,10 @@ def reader(column):
 class Sheet:
     """Rows in the making, and what is wrong with the sheet."""
 
-    def __init__(self, headings, kind, school, number, years):
+    def __init__(self, headings, kind, school, number, years, known):
         self.kinds = columns.read()
         self.nothing = {kind: {column.name for column in of_kind if columns.is_nothing_where_empty(kind, column)} for kind, of_kind in self.kinds.items()}
-        self.headings, self.kind, self.school, self.number, self.years = headings, kind, school, number, years
+        self.headings, self.kind, self.school, self.number, self.years, self.known = headings, kind, school, number, years, known
         self.made, self.wrong, self.keys, self.of, self.asked = [], [], {}, {}, False
 
     def look_at_headings(self):
@@ -89,6 +90,10 @@ class Sheet:
         """The text of a cell that isn't empty."""
         if name == "year":
             return sheet.said_year(cell, heading(told) == "year", self.years)
+        if name == "student" and self.known.by_number and not cell.isdecimal():
+            cell = self.known.number_of(cell)
+            if not cell.isdecimal():
+                raise Bad("is no whole number, and no id that is known")
         return read(cell)
 
     def cell(self, at, line, kind, row, name, read, breaks):
@@ -129,13 +134,13 @@ class Sheet:
         self.keys.setdefault(key, line)
 
 
-def main(kind, school, number, years):
-    """Makes rows of the sheet on standard input."""
+def main(kind, school, number, years, known):
+    """Makes rows of the sheet on standard input, in which a student may stand by an id that is known."""
     try:
         names, rows = sheet.read(sys.stdin.buffer.read())
     except Bad as bad:
         refuse(f"the sheet can't be read: {bad}")
-    making = Sheet([name for name in names if name and not name.startswith("#")], kind, school, number, years)
+    making = Sheet([name for name in names if name and not name.startswith("#")], kind, school, number, years, known)
     making.look_at_headings()
     for at, (line, cells) in enumerate(row for row in rows if not template.is_note(row[1])):
         making.take(at, line, {name: cells[name] for name in making.headings})
@@ -160,8 +165,8 @@ def show_names(words):
         print(line)
 
 
-def run(words):
-    """Makes rows of the sheet on standard input, or prints the headings that it may have."""
+def run(words, known=None):
+    """Makes rows of the sheet on standard input, or prints the headings that it may have, or a sheet to fill in."""
     if "--names" in words:
         show_names([word for word in words if word != "--names"])
         return 0
@@ -171,5 +176,10 @@ def run(words):
     if len(plain) > 3 or len(years) > 1 or any(not re.fullmatch(r"0|[1-9]\d*", word, re.ASCII) for word in plain[1:]):
         refuse("rows takes a kind, a school and a first number at most, and one of --year-begins and --year-ends", 2)
     kind, school, number = (plain + [None] * 3)[:3]
-    main(kind, school, number, years.pop() if years else None)
+    main(kind, school, number, years.pop() if years else None, known or ids.Known())
     return 0
+
+
+def run_office(office, *words):
+    """The same with the ids of the file beside an office."""
+    return run(words, ids.needed(office.journal))
