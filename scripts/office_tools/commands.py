@@ -4,7 +4,7 @@ import signal
 import sys
 from dataclasses import dataclass
 
-from . import approval, asking, before, book_line, copies, explain, ids, lint, plot, programs, reconcile, rows, running, show, tables
+from . import approval, asking, before, book_line, copies, explain, ids, lint, plot, programs, reconcile, rows, running, show, tables, what_if
 from .office import Office
 from .say import refuse, say
 
@@ -98,8 +98,11 @@ def dry(office, words):
     what = words[0] if words else ""
     if what == "intake":
         return before.take_in(office, *words[1:], is_dry=True)
+    if what == "need":
+        takes(words, 3, 3, "JOURNAL dry need STUDENT YEAR < APPLY.csv")
+        return what_if.dry_need(office, *words[1:])
     if what not in ("file", "book", "fund", "desks", "generate", "quote", "report"):
-        refuse("dry takes file, intake, book, fund, desks or generate with its words", 2)
+        refuse("dry takes file, intake, book, fund, desks, generate or need with its words", 2)
     if what == "fund":
         return approval.dry_fund(office, words)
     office.words = words
