@@ -4,7 +4,7 @@ import signal
 import sys
 from dataclasses import dataclass
 
-from . import approval, asking, before, book_line, copies, explain, ids, lint, plot, programs, reconcile, rows, running, show, tables, what_if
+from . import approval, asking, before, book_line, copies, explain, ids, letter, lint, plot, programs, reconcile, rows, running, show, tables, what_if
 from .office import Office
 from .say import refuse, say
 
@@ -52,7 +52,7 @@ AUDIT_, SHEET_, LOANS_ and WORK_PROGRAM name another build. Status 0 is success,
 """
 FILES = ("book", "file", "intake", "desks", "fund", "generate")
 JOURNALS = (*FILES, "at", "found", "serve", "dry", "quote", "why", "report", "csv", "list", "student", "need", "quotes", "payments", "withdrawal",
-            "upto", "next", "backup", "since", "salvage", "upgrade")
+            "letter", "ids", "upto", "next", "backup", "since", "salvage", "upgrade")
 
 
 @dataclass
@@ -139,6 +139,7 @@ OWN = {
     "why": (asking.why, 4, 4, "why SCHOOL STUDENT YEAR TERM"), "intake": (before.take_in, 1, 3, "intake ROWS.csv [LEFT.csv] [--again]"),
     "backup": (copies.backup, 1, 1, "backup COPY"), "since": (copies.since, 1, 1, "since COPY"), "salvage": (copies.salvage, 1, 1, "salvage NEW"),
     "csv": (tables.csv, 1, 2, "csv REPORT [YEAR]"), "lint": (lint.lint_office, 0, 0, "lint < ROWS.csv"),
+    "letter": (letter.letter, 4, 4, "letter SCHOOL STUDENT YEAR TERM"),
     "ids": (ids.check, 0, 0, "ids"), "rows": (rows.run_office, 0, 5, "rows [KIND [SCHOOL [NUMBER]]] < SHEET.csv"),
 }
 
