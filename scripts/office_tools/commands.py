@@ -18,7 +18,7 @@ usage: office JOURNAL COMMAND, where JOURNAL is the file that keeps the office
   fund SCHOOL YEAR TERM AMOUNT level|quarter NUMBER      awards a fund of FSEOG
   generate SEED STUDENTS < BOOK.toml      files a made-up year, to try it with
   serve PORT WORKERS SESSIONS  answers HTTP on 127.0.0.1 (docs/HTTP.md)
-  dry COMMAND..                tries file, intake, book, fund, desks or generate
+  dry COMMAND..                tries what files, or need STUDENT YEAR < APPLY
   at DAY CLERK COMMAND..       stamps what any of these files with day and name
   upgrade OLD                  founds an office of what OLD (version 1) holds
 on a copy, so also while another run holds JOURNAL:
@@ -27,9 +27,9 @@ on a copy, so also while another run holds JOURNAL:
   report standing|awards|returns|export YEAR, report lifetime|stamps
   csv REPORT..                 a report as comma-separated values
   list, student STUDENT, need STUDENT YEAR, quotes|payments SCHOOL YEAR TERM,
-  withdrawal SCHOOL STUDENT YEAR TERM    sheets that people read
+  withdrawal|letter SCHOOL STUDENT YEAR TERM    sheets that people read
   upto POSITION SHEET..        a sheet as it was then (docs/SHEETS.md)
-  next SCHOOL                  the number of the school's next row
+  next SCHOOL, ids             a school's next number; checks JOURNAL.ids.csv
   backup COPY                  copies the office, and opens the copy
   since COPY                   whether all that COPY holds still stands
   salvage NEW                  makes an office of what stands before damage
@@ -38,7 +38,7 @@ usage: office COMMAND, without a journal
   check rows|book < FILE       judges rows or a book; ends with 1 on an error
   explain [ROWS.csv] < LINES   says refusals, errors and faults in words
   [JOURNAL] lint < ROWS.csv    names filings that look wrong or are paid twice
-  rows [KIND [SCHOOL [NUMBER]]] < SHEET.csv    makes rows of a sheet's CSV
+  rows [KIND [SCHOOL [NUMBER]]] < SHEET.csv    rows of a sheet; rows --names
   show BOOK.toml [BEFORE.toml] prints a year book in words and units
   plot standing|awards|returns|lifetime [YEAR] [PICTURE.svg | -] < REPORT
   reconcile LEDGER.csv < PAYMENTS   compares a ledger with payments or awards
