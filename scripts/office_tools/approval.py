@@ -3,10 +3,11 @@
 usage: office JOURNAL dry fund .. | dry intake .. | work JOURNAL [dry] round ..     [--table | --csv] behind the words
 """
 import csv
+import re
 import sys
 from dataclasses import dataclass
 
-from . import copies, ids, listing
+from . import copies, ids, listing, tables
 from .say import say, visible
 
 FLAGS = ("--table", "--csv", "--names")
@@ -15,7 +16,6 @@ WIDTHS = (12, 6, 4, 4, 10, 12, 12, 12)
 # A release that no award of 4,000 dollars at most has room for: it is refused, and its refusal tells what isn't earned of the award.
 TOO_MUCH = 9_999
 NO_AWARD, PAST_AWARD, USED_NUMBER = b"216", b"219", b"15"
-LAST = 999_999_999_999
 
 
 @dataclass
@@ -168,12 +168,14 @@ def dry_fund(office, words):
 
 
 def show_intake(copy, told, flags, journal):
-    """Prints who gets what of rows that were tried on a copy, and how many rows aren't on file then. The status."""
+    """Prints who gets what of rows that were tried on a copy, if anybody does, and how many rows aren't on file then. The status."""
     positions = set(told.positions.values())
     try:
         found = payments(listing.of_copy(copy), positions)
     except listing.NotListed as failed:
         return without_table(flags, 0, failed.status)
+    if not found and not is_alone(flags):
+        return 0
     words = list(told.words.values())
     counts = [(len(positions) - len(found), "other rows are filed"), (words.count(b"again"), "rows were on file before"),
               (words.count(b"refused") + words.count(b"error"), "rows aren't filed")]
@@ -186,7 +188,7 @@ def students_of(path):
     found = {}
     with open(path, newline="", encoding="utf-8-sig", errors="replace") as file:
         for row in csv.reader(file):
-            if len(row) == 4 and row[0].isdecimal() and row[1].lstrip("-").isdecimal():
+            if len(row) == 4 and tables.is_number(row[0], tables.LAST, 1) and re.fullmatch("-?[0-9]{1,7}", row[1]):
                 found.setdefault(row[0], int(row[1]))
     return found
 
@@ -194,7 +196,7 @@ def students_of(path):
 def awards(office, journal, school, year, students):
     """The unearned part of the award of each student who has one, in cents, by refusals on a copy of a journal. Nothing where they don't tell."""
     probe, rows, text = (copies.needs_scratch(name) for name in ("probe", "releases", "told"))
-    for number in range(LAST, LAST - 9, -1):
+    for number in range(tables.LAST, tables.LAST - 9, -1):
         if not copies.copy_to(journal, probe):
             return None
         with open(rows, "w", encoding="ascii") as file:

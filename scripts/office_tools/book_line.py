@@ -45,10 +45,15 @@ def fields():
     return dict(enumerate(paths, 1))
 
 
-def first_bad_row(book, table, column, error):
-    """The number of the first row of a table in which a column is missing, no number, or out of its range."""
+def first_bad_row(text, table, column, error):
+    """The number of the first row of a table in which a column is missing, no number, or out of its range. Nothing where it can't be told, as
+    of a text that the office alone reads."""
+    try:
+        rows = [row for row in tomllib.loads(text)[table] if isinstance(row, dict)]
+    except (ValueError, KeyError, TypeError):
+        return None
     low, high, _ = next(keys for name, *_, keys in year_book.SECTIONS if name == table)[column]
-    for number, row in enumerate(book[table], 1):
+    for number, row in enumerate(rows, 1):
         value = row.get(column)
         bad = {2: value is None, 3: value is not None and not year_book.is_number(value), 4: year_book.is_number(value) and not low <= value <= high}
         if bad[error]:
@@ -58,13 +63,14 @@ def first_bad_row(book, table, column, error):
 
 def of_field(text, error, path):
     """The line of a field that is missing, or isn't what it must be: of a missing one that of the section or row in which it isn't."""
-    found, book = places(text), tomllib.loads(text)
+    found = places(text)
     section, _, key = path.rpartition(".")
     if section in year_book.TABLES:
-        section = f"{section} {first_bad_row(book, section, key, error)}"
+        section = f"{section} {first_bad_row(text, section, key, error)}"
     if path in year_book.TABLES:
         section, key = f"{path} 1", ""
-    return found.get(f"{section}.{key}".strip("."), found.get(section))
+    lines = [found.get(name) for name in (f"{section}.{key}".strip("."), section, section.split(" ")[0])]
+    return next((line for line in lines if line), None)
 
 
 def of_no_toml(data):
@@ -79,8 +85,8 @@ def of_no_toml(data):
         return (int(line[1]) if line else data.rstrip(b"\n").count(b"\n") + 1), why[:1].lower() + why[1:]
     except (RecursionError, ValueError):
         pass
-    big = re.search(rb"\d{19}", data)
-    return (data.count(b"\n", 0, big.start()) + 1 if big else None), "a number has more than 64 bits"
+    big = next((each for each in re.finditer(rb"\d{19,}", data) if len(each[0]) > 19 or int(each[0]) >= 2**63), None)
+    return (data.count(b"\n", 0, big.start()) + 1, "a number has more than 64 bits") if big else (None, "the text is no TOML")
 
 
 def line_of(data, error, detail):

@@ -31,7 +31,7 @@ class Sheet:
         self.kinds = columns.read()
         self.nothing = {kind: {column.name for column in of_kind if columns.is_nothing_where_empty(kind, column)} for kind, of_kind in self.kinds.items()}
         self.headings, self.kind, self.school, self.number, self.years, self.known = headings, kind, school, number, years, known
-        self.made, self.wrong, self.keys, self.of, self.asked = [], [], {}, {}, False
+        self.made, self.wrong, self.keys, self.of, self.asked, self.missing = [], [], {}, {}, False, set()
 
     def look_at_headings(self):
         """Refuses a sheet of which no row can be made."""
@@ -123,7 +123,9 @@ class Sheet:
             return "0"
         if name in row:
             self.bad(f"line {line}: {name} is empty")
-        else:
+        elif (kind, name) not in self.missing:
+            # of a column that isn't there one line is told
+            self.missing.add((kind, name))
             self.bad(f"line {line}: {kind} has a column {columns.said(kind, name)}, and the sheet hasn't: add one")
         return ""
 

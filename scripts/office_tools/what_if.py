@@ -8,13 +8,12 @@ import io
 import re
 import sys
 
-from . import copies, explain, listing, sheet
+from . import copies, explain, listing, sheet, tables
 from .approval import cents, money
 from .office import Office
 from .say import refuse, say
 
 LIMIT = 93          # the rule that a correction would leave a limit exceeded
-LAST = 999_999_999_999
 TRIES = 60
 VALUE = re.compile(r"(.*\S)\s{2,}(\S+)")
 MARK = " <--"
@@ -96,7 +95,7 @@ class Terms:
             if row[0] == "calendar" and row[5] == "1":
                 self.extra.add((row[1], row[3], row[4]))
             students.add(row[3])
-        self.other = next(str(number) for number in range(LAST, 0, -1) if str(number) not in students)
+        self.other = next(str(number) for number in range(tables.LAST, 0, -1) if str(number) not in students)
         self.adjust = {}
 
     def take(self, lines):

@@ -66,6 +66,9 @@ class Lines(unittest.TestCase):
 
     def test_what_has_no_line(self):
         self.assertEqual(book_line.sentence(b"form = 1\nyear = 2025\n", "1 book 2 3"), "field 3, pell.maximum, isn't there")
+        # an array that ends with a comma in front of its end in a table of one line is TOML of 1.1, which the office reads
+        self.assertEqual(book_line.sentence(b"form = 1\nage = [{ from = 1,\n }]\n", "1 book 4 44"), "line 2, `age = [{ from = 1,`: field 44, age.from, is out of its range")
+        self.assertEqual(book_line.sentence(b"form = 1\n", "1 book 1"), "the text is no TOML")
         self.assertIn("UTF-8", book_line.sentence(b"form = 1\n# \xff\n", "1 book 1"))
 
 
