@@ -36,10 +36,10 @@ def main():
     if sys.version_info < OLDEST:
         sys.exit("office: Python 3.11 or later is needed, and python3 is older")
     fill_streams()
-    from office_tools import commands, copies, running, say
+    from office_tools import copies, dispatch, running, say
     running.take_signals()
     try:
-        status = flushed(commands.run, sys.argv[1:])
+        status = flushed(dispatch.run, sys.argv[1:])
     except BrokenPipeError:
         status = 141
     except OSError as error:

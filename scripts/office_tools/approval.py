@@ -4,13 +4,13 @@ usage: office JOURNAL dry fund .. | dry intake .. | work JOURNAL [dry] round .. 
 """
 import csv
 import re
+import shutil
 import sys
 from dataclasses import dataclass
 
-from . import copies, ids, listing, tables
+from . import copies, filing, ids, listing, tables
 from .say import say, visible
 
-FLAGS = ("--table", "--csv", "--names")
 HEADING = ("student", "school", "year", "term", "program", "amount", "net", "left")
 WIDTHS = (12, 6, 4, 4, 10, 12, 12, 12)
 # A release that no award of 4,000 dollars at most has room for: it is refused, and its refusal tells what isn't earned of the award.
@@ -108,23 +108,22 @@ def table_lines(found, left_of, notes, known=None):
     yield "Approved by ________________________________  Date ____________"
 
 
-def show(found, flags, left_of, journal, notes=()):
+def show(office, found, left_of, notes=()):
     """Prints the table: behind the lines of the program, alone, or as comma-separated values alone."""
-    known = ids.needed(journal) if "--names" in flags else None
-    if "--csv" in flags:
+    known = ids.needed(office.journal) if "--names" in office.flags else None
+    if "--csv" in office.flags:
         csv.writer(sys.stdout, lineterminator="\n").writerows([heading(known), *(one.cells(known) for one in found)])
         return
-    if "--table" not in flags:
+    if "--table" not in office.flags:
         print()
     for line in table_lines(found, left_of, notes, known):
         print(line)
 
 
-def parted(words, journal):
-    """The words without the flags of a table, and these. Names that can't be told are refused before anything is done."""
-    if "--names" in words:
-        ids.needed(journal)
-    return [word for word in words if word not in FLAGS], [word for word in words if word in FLAGS]
+def look_at_names(office):
+    """Refuses names that can't be told, before anything is done."""
+    if "--names" in office.flags:
+        ids.needed(office.journal)
 
 
 def is_alone(flags):
@@ -132,15 +131,30 @@ def is_alone(flags):
     return "--table" in flags or "--csv" in flags
 
 
-def gathered(office, words, copy, flags, given=None):
-    """The status and the reply lines of a run, which are printed too where the table isn't asked for alone."""
-    lines = []
-    if not is_alone(flags):
-        return office.run(words, copy, given=given, take=lines.append, keeps_on=True), lines
+class Answers(filing.Filed):
+    """The reply lines of a run, with what is on file of them."""
+
+    def __init__(self, office):
+        super().__init__(office)
+        self.lines = []
+
+    def take(self, line):
+        """Takes a reply line."""
+        super().take(line)
+        self.lines.append(line)
+
+
+def gathered(office, words, copy, given=None):
+    """The status and the answers of a run, which are printed too where the table isn't asked for alone."""
+    answers = Answers(office)
+    if not is_alone(office.flags):
+        return office.run(words, copy, given=given, take=answers.take, keeps_on=True), answers
     text = copies.needs_scratch("lines")
     with open(text, "wb") as out:
         status = office.run(words, copy, given=given, out=out)
-    return status, copies.text_of(text).splitlines()
+    for line in copies.text_of(text).splitlines():
+        answers.take(line)
+    return status, answers
 
 
 def without_table(flags, status, failed):
@@ -149,37 +163,37 @@ def without_table(flags, status, failed):
     return status or (failed if is_alone(flags) else 0)
 
 
-def dry_fund(office, words):
+def dry_fund(office, *words):
     """Tries a round of a fund on a copy, and prints who gets what."""
-    words, flags = parted(words, office.journal)
+    look_at_names(office)
     copy = copies.try_on_copy(office)
-    status, lines = gathered(office, words, copy, flags)
+    status, answers = gathered(office, ["fund", *words], copy)
     office.say_status(status)
     if status:
         return status
     try:
-        found = payments(listing.of_copy(copy), accepted(lines))
+        found = payments(listing.of_copy(copy), accepted(answers.lines))
     except listing.NotListed as failed:
-        return without_table(flags, status, failed.status)
-    refused = sum(line.split()[2:3] == [b"refused"] for line in lines)
+        return without_table(office.flags, answers.status(office.lenient), failed.status)
+    refused = answers.counts[b"refused"]
     notes = [f"{refused} payments are refused, and count as spent in what is left"] if refused else []
-    show(of_fund(found, lines), flags, f"the fund of {words[4]} dollars", office.journal, notes)
-    return status
+    show(office, of_fund(found, answers.lines), f"the fund of {words[3]} dollars", notes)
+    return answers.status(office.lenient)
 
 
-def show_intake(copy, told, flags, journal):
+def show_intake(office, copy, told):
     """Prints who gets what of rows that were tried on a copy, if anybody does, and how many rows aren't on file then. The status."""
     positions = set(told.positions.values())
     try:
         found = payments(listing.of_copy(copy), positions)
     except listing.NotListed as failed:
-        return without_table(flags, 0, failed.status)
-    if not found and not is_alone(flags):
+        return without_table(office.flags, 0, failed.status)
+    if not found and not is_alone(office.flags):
         return 0
     words = list(told.words.values())
     counts = [(len(positions) - len(found), "other rows are filed"), (words.count(b"again"), "rows were on file before"),
               (words.count(b"refused") + words.count(b"error"), "rows aren't filed")]
-    show(found, flags, "the cost of attendance at the school", journal, [f"{count} {what}" for count, what in counts if count])
+    show(office, found, "the cost of attendance at the school", [f"{count} {what}" for count, what in counts if count])
     return 0
 
 
@@ -213,27 +227,36 @@ def awards(office, journal, school, year, students):
     return None
 
 
-def work_round(office, words, is_dry):
-    """Awards the rest of a work-study fund, or tries that on a copy, and prints who gets what."""
-    words, flags = parted(words, office.journal)
-    rows = copies.needs_scratch("students")
+def run_round(office, place, copy=None):
+    """Awards the rest of a work-study fund, on a copy where one is said, and prints who gets what."""
+    rows, journal = copies.needs_scratch("students"), copy or office.journal
     with open(rows, "wb") as file:
-        while piece := sys.stdin.buffer.read(copies.PIECE):
-            file.write(piece)
-    if not is_dry:
-        office.refuse_hurt(office.journal)
-    journal = copies.try_on_copy(office) if is_dry else office.journal
-    students, place = students_of(rows), words[1:3]
-    before = awards(office, journal, *place, students) if all(word.isdecimal() for word in place) else None
+        shutil.copyfileobj(sys.stdin.buffer, file)
+    students = students_of(rows)
+    before = awards(office, journal, *place[:2], students)
     with open(rows, "rb") as given:
-        status, lines = gathered(office, words, journal, flags, given)
+        status, answers = gathered(office, ["round", *place], journal, given)
     office.say_status(status)
     if status:
         return status
-    after = None if before is None else awards(office, journal, *place, students)
+    after = None if before is None else awards(office, journal, *place[:2], students)
     if after is None:
-        return without_table(flags, status, 1)
+        return without_table(office.flags, answers.status(office.lenient), 1)
     new = sorted((students[student], int(student)) for student in after if student not in before)
-    found = [Line(str(student), place[0], place[1], "-", "work-study", after[str(student)], after[str(student)]) for _, student in new]
-    show(of_fund(found, lines), flags, "the fund", office.journal)
-    return status
+    found = [Line(str(student), *place[:2], "-", "work-study", after[str(student)], after[str(student)]) for _, student in new]
+    show(office, of_fund(found, answers.lines), "the fund")
+    return answers.status(office.lenient)
+
+
+def work_round(office, *place):
+    """Awards the rest of a work-study fund."""
+    look_at_names(office)
+    office.refuse_hurt(office.journal)
+    office.stands = "stands, so take further numbers"
+    return run_round(office, place)
+
+
+def dry_round(office, *place):
+    """Tries that on a copy."""
+    look_at_names(office)
+    return run_round(office, place, copies.try_on_copy(office))

@@ -32,13 +32,10 @@ def look(journal, rows, name=twice.plainly):
     return 1 if again else 0
 
 
-def take_in(office, *words, is_dry=False):
+def take_in(office, path, left="", is_dry=False):
     """Files the rows of a file, or tries them on a copy, and nothing where they pay twice and `--again` isn't said."""
-    words, flags = approval.parted(words, office.journal) if is_dry else (words, [])
-    paths = [word for word in words if word != "--again"]
-    if not 1 <= len(paths) <= 2:
-        refuse("usage: office JOURNAL intake ROWS.csv [LEFT.csv] [--again]", 2)
-    refuse_sheet(paths[0])
+    refuse_sheet(path)
+    approval.look_at_names(office)
 
     def before(rows):
         status = look(office.journal, rows)
@@ -46,8 +43,13 @@ def take_in(office, *words, is_dry=False):
             say("nothing was filed: where it is to be paid once more, say --again behind intake")
         return status
 
-    after = functools.partial(approval.show_intake, flags=flags, journal=office.journal) if is_dry else None
-    return intake.intake(office, *paths, is_dry=is_dry, before=None if "--again" in words else before, after=after, is_quiet=approval.is_alone(flags))
+    after = functools.partial(approval.show_intake, office) if is_dry else None
+    return intake.intake(office, path, left, is_dry, None if "--again" in office.flags else before, after, approval.is_alone(office.flags))
+
+
+def try_intake(office, path, left=""):
+    """Tries `intake` on a copy, and prints who gets what."""
+    return take_in(office, path, left, True)
 
 
 def refuse_sheet(path):
@@ -71,21 +73,18 @@ def names_of(paths, counts):
     return name
 
 
-def try_rows(office):
+def try_rows(office, *paths):
     """Tries `file` or `desks` on a copy, and names rows that give again: 1 where some do."""
-    paths = office.words[1:]
-    if office.words == ["file"]:
+    if not paths:
         paths = [copies.needs_scratch("rows")]
         with open(paths[0], "wb") as file:
             shutil.copyfileobj(sys.stdin.buffer, file)
-    copy = copies.try_on_copy(office)
-    if office.words == ["file"]:
-        with open(paths[0], "rb") as given:
-            status = office.run(office.words, copy, given=given)
-    else:
-        status = office.run(office.words, copy)
-    office.say_status(status)
-    if status:
+        with open(paths[0], "rb") as file:
+            # the program reads it in place of standard input
+            os.dup2(file.fileno(), 0)
+    status = office.file(copies.try_on_copy(office))
+    if status > 1:
         return status
     files = [intake.rows_of(path) for path in paths]
-    return look(office.journal, [row for rows in files for row in rows], names_of(paths, list(map(len, files))))
+    found = look(office.journal, [row for rows in files for row in rows], names_of(paths, list(map(len, files))))
+    return status or (0 if found == 1 and office.lenient else found)

@@ -2,14 +2,13 @@
 
 usage: office JOURNAL book NUMBER < BOOK.toml, and so `dry book`, `check book` and `generate`
 """
+import os
 import re
 import shutil
 import sys
 import tomllib
 
 from . import copies, year_book
-from .office import Office
-from .say import say
 
 HEADER = re.compile(r"\s*\[(\[)?\s*([^\[\]]+?)\s*\]")
 KEY = re.compile(r"\s*((?:[A-Za-z0-9_-]+|\"[^\"]*\"|'[^']*')(?:\s*\.\s*(?:[A-Za-z0-9_-]+|\"[^\"]*\"|'[^']*'))*)\s*=")
@@ -119,44 +118,17 @@ def sentence(data, line):
     return f"line {number}, `{there[:100]}`: {says}"
 
 
-def say_where(path, lines):
-    """Says where the first error of the book in a file stands, which one of the lines that answer it tells."""
-    data = copies.text_of(path)
-    for line in lines:
-        said = sentence(data, line.decode("utf-8", "replace"))
-        if said:
-            say(said)
-
-
-def kept_input():
-    """Standard input in a file of this run, or nothing where there is no room for it."""
+def keep_input():
+    """Keeps standard input in a file of this run, which is read in its place. Where there is no room for one it stays as it is."""
     path = copies.scratch("book")
-    if path is None:
-        return None
-    with open(path, "wb") as file:
-        shutil.copyfileobj(sys.stdin.buffer, file)
-    return path
+    if path:
+        with open(path, "wb") as file:
+            shutil.copyfileobj(sys.stdin.buffer, file)
+        with open(path, "rb") as file:
+            os.dup2(file.fileno(), 0)
 
 
-def run_book(office, copy=None):
-    """Runs a command that reads a book on the journal, or on a copy of it, and says where the book's first error stands."""
-    if copies.scratch("book") is None:
-        return office.run_plainly(copy)
-    if copy is None:
-        office.refuse_hurt(office.journal)
-    path, lines = kept_input(), []
-    with open(path, "rb") as given:
-        status = office.run(office.words, copy, given=given, take=lines.append)
-    office.say_status(status)
-    say_where(path, lines)
-    return status
-
-
-def check_book():
-    """Judges a book without an office, and says where its first error stands: 1 where there is one."""
-    office, lines = Office(copies.needs_scratch("none.journal"), ["check", "book"]), []
-    path = kept_input()
-    with open(path, "rb") as given:
-        status = office.run(office.words, given=given, take=lines.append)
-    say_where(path, lines)
-    return status or (0 if lines[-1:] == [b"1 fine"] else 1)
+def where(line):
+    """Where the first error of the book that was kept stands, which this line tells, or nothing."""
+    path = copies.scratch("book")
+    return sentence(copies.text_of(path), line.decode("utf-8", "replace")) if path and os.path.exists(path) else None

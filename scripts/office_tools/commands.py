@@ -1,257 +1,175 @@
-"""Which words go where: the commands of an office in a journal, and those without one."""
-import os
-import signal
-import sys
+"""The table of commands: the words of each, what it is for, and what runs it. Help, completion, the man page and the judging of words go by it."""
 from dataclasses import dataclass
 
-from . import approval, asking, before, book_line, copies, explain, ids, letter, lint, plot, programs, reconcile, rows, running, show, tables, what_if
-from .office import Office
-from .say import refuse, say
+from . import approval, asking, before, copies, explain, guide, ids, letter, lint, plot, programs, reconcile, rows, serving, settings, show, tables
+from .words import CLERK, DAY, NUMBER, ROUND_NUMBER, SCHOOL, SOME_SCHOOL, STUDENT, TERM, YEAR, Argument, choice, number, optional, path, rest
 
-HELP = """\
-usage: office JOURNAL COMMAND, where JOURNAL is the file that keeps the office
-  found                        founds an office there
-  book NUMBER < BOOK.toml      files a year book under school 0 and this number
-  file < ROWS.csv              files rows, and answers each by a line
-  intake ROWS.csv [LEFT.csv] [--again]    1 where LEFT gets rows not on file
-  desks ROWS.csv..             files 1 to 16 files at once
-  fund SCHOOL YEAR TERM AMOUNT level|quarter NUMBER      awards a fund of FSEOG
-  generate SEED STUDENTS < BOOK.toml      files a made-up year, to try it with
-  serve PORT WORKERS SESSIONS  answers HTTP on 127.0.0.1 (docs/HTTP.md)
-  dry COMMAND..                tries what files, or need STUDENT YEAR < APPLY
-  at DAY CLERK COMMAND..       stamps what any of these files with day and name
-  upgrade OLD                  founds an office of what OLD (version 1) holds
-on a copy, so also while another run holds JOURNAL:
-  quote SCHOOL STUDENT YEAR TERM    the greatest Pell payment in whole dollars
-  why SCHOOL STUDENT YEAR TERM      that quote, and why not one dollar more
-  report standing|awards|returns|export YEAR, report lifetime|stamps
-  csv REPORT..                 a report as comma-separated values
-  list, student STUDENT, need STUDENT YEAR, quotes|payments SCHOOL YEAR TERM,
-  withdrawal|letter SCHOOL STUDENT YEAR TERM    sheets that people read
-  upto POSITION SHEET..        a sheet as it was then (docs/SHEETS.md)
-  next SCHOOL, ids             a school's next number; checks JOURNAL.ids.csv
-  backup COPY                  copies the office, and opens the copy
-  since COPY                   whether all that COPY holds still stands
-  salvage NEW                  makes an office of what stands before damage
-usage: office COMMAND, without a journal
-  help, --version, demo        demo files a worked year into an office that goes
-  check rows|book < FILE       judges rows or a book; ends with 1 on an error
-  explain [ROWS.csv] < LINES   says refusals, errors and faults in words
-  [JOURNAL] lint < ROWS.csv    names filings that look wrong or are paid twice
-  rows [KIND [SCHOOL [NUMBER]]] < SHEET.csv    rows of a sheet; rows --names
-  show BOOK.toml [BEFORE.toml] prints a year book in words and units
-  plot standing|awards|returns|lifetime [YEAR] [PICTURE.svg | -] < REPORT
-  reconcile LEDGER.csv < PAYMENTS   compares a ledger with payments or awards
-  pay-rows SCHOOL YEAR TERM NUMBER < QUOTES    makes rows that pay these
-  carry NUMBER < LIFETIME      makes rows of prior use for the next office
-  audit < EXPORT, clock < ROWS.csv     the auditor (docs/AUDIT.md)
-  loans JOURNAL .., work JOURNAL ..    further desks (docs/LOANS.md, WORK.md)
-Rows: docs/FILINGS.md. Answers: docs/ANSWERS.md. Care: docs/KEEPING.md. OFFICE_,
-AUDIT_, SHEET_, LOANS_ and WORK_PROGRAM name another build. Status 0 is success,
-1 that something was found or isn't on file, 2 other words, 3 to 10 a fault.
-"""
-FILES = ("book", "file", "intake", "desks", "fund", "generate")
-JOURNALS = (*FILES, "at", "found", "serve", "dry", "quote", "why", "report", "csv", "list", "student", "need", "quotes", "payments", "withdrawal",
-            "letter", "ids", "upto", "next", "backup", "since", "salvage", "upgrade")
+AID, SHEETS, LOANS, WORK, AUDIT = programs.PROGRAMS
 
 
-@dataclass
-class Options:
-    """What stands in front of a command."""
-    cut: bool = False
+@dataclass(frozen=True)
+class Command:
+    """A command: its words, what it is for, and the function that runs it, on an office or, without a journal, on the words behind."""
+    name: str
+    run: object
+    arguments: tuple
+    purpose: str
+    example: str
+    input: str = ""         # what is read from standard input
+    program: str = ""       # the program that these very words are handed to
+    files: bool = False     # whether it files into the journal
+    copy: bool = False      # whether it runs on a copy of it
+    flags: tuple = ()       # words with hyphens that may stand behind, each with what it does
+
+    @property
+    def usage(self):
+        """Its words."""
+        given = f"< {self.input}" if self.input else ""
+        return " ".join(filter(None, [self.name, *(argument.usage for argument in self.arguments), given]))
+
+    def fits(self, words):
+        """Whether there are as many words behind it as it takes."""
+        least = sum(not argument.may_miss for argument in self.arguments)
+        return least <= len(words) <= sum(argument.most for argument in self.arguments)
 
 
-def options_in(words, options):
-    """Takes the options in front of some words, and returns the rest."""
-    while words and words[0] == "--cut":
-        options.cut = True
-        words = words[1:]
-    return words
+def filed(office, *_):
+    """Files what the program files."""
+    return office.file()
 
 
-def takes(words, least, most, usage):
-    """Ends with a usage where there aren't so many words."""
-    if not least <= len(words) <= most:
-        refuse(f"usage: office {usage}", 2)
+def read(office, *_):
+    """Reads on a copy."""
+    return office.read_only()
 
 
-def is_path(path):
-    """Refuses a path that is none."""
-    if path.startswith("-"):
-        refuse(f"a path may not begin with -: write ./{path} for a file of that name", 2)
+def sheet(office, *_):
+    """A sheet of a copy."""
+    return office.sheet()
 
 
-def look_at(path, command):
-    """Refuses such a path, and one at which the program would make an empty file in vain."""
-    is_path(path)
-    if os.path.exists(path) or command in ("found", "upgrade"):
-        return
-    if path == "check":
-        refuse("usage: office check rows|book < FILE", 2)
-    if path in JOURNALS:
-        refuse(f"JOURNAL comes first: office JOURNAL {path}", 2)
-    refuse(f"there is no file {path}: mend the path, or found an office there by: office {path} found", 2)
+def filing(name, arguments, purpose, example, given="", program=AID):
+    """A command that files."""
+    return Command(name, filed, arguments, purpose, example, given, program, files=True)
 
 
-def dry(office, words):
-    """Tries a command on a copy of which nothing stays."""
-    what = words[0] if words else ""
-    if what == "intake":
-        return before.take_in(office, *words[1:], is_dry=True)
-    if what == "need":
-        takes(words, 3, 3, "JOURNAL dry need STUDENT YEAR < APPLY.csv")
-        return what_if.dry_need(office, *words[1:])
-    if what not in ("file", "book", "fund", "desks", "generate", "quote", "report"):
-        refuse("dry takes file, intake, book, fund, desks, generate or need with its words", 2)
-    if what == "fund":
-        return approval.dry_fund(office, words)
-    office.words = words
-    if what in ("file", "desks"):
-        return before.try_rows(office)
-    run = book_line.run_book if what in ("book", "generate") else Office.run_plainly
-    return run(office, copies.try_on_copy(office))
+def reading(name, arguments, purpose, example, run=read):
+    """A command that a program runs on a copy."""
+    return Command(name, run, arguments, purpose, example, program=SHEETS if run is sheet else AID, copy=True, flags=NAMES)
 
 
-def serve(office):
-    """Becomes the server, so that a signal reaches it."""
-    words, name = office.words, office.program
-    if not programs.place(name):
-        refuse("a server needs the built program, since a run of the sources ends after a minute: rt ci proves and builds it", 127)
-    office.refuse_hurt(office.journal)
-    if len(words) == 4:
-        stamp = f", files at {office.stamp[1]} by {office.stamp[2]}" if office.stamp else ""
-        say(
-            f"opens {office.journal} and serves it on http://127.0.0.1:{words[1]} by {words[2]} workers for {words[3]} connections each{stamp}, "
-            f"in process {os.getpid()}; kill {os.getpid()} ends it, and what was answered stands"
-        )
-    line, _ = programs.line_of(name, [office.journal, *office.stamp, *words], ())
-    for each in (signal.SIGPIPE, signal.SIGXFSZ):
-        signal.signal(each, signal.SIG_DFL)
-    try:
-        os.execv(line[0], line)
-    except OSError as error:
-        refuse(f"{line[0]} can't be run: {error.strerror}", 127)
+def own(name, run, arguments, purpose, example, copy=True, **more):
+    """A command of the script alone."""
+    return Command(name, run, arguments, purpose, example, copy=copy, **more)
 
 
-# Commands with so many words behind them, at least and at most, that are the script's own.
-OWN = {
-    "upgrade": (copies.upgrade, 1, 1, "upgrade OLD"), "next": (tables.next_number, 1, 1, "next SCHOOL"),
-    "why": (asking.why, 4, 4, "why SCHOOL STUDENT YEAR TERM"), "intake": (before.take_in, 1, 3, "intake ROWS.csv [LEFT.csv] [--again]"),
-    "backup": (copies.backup, 1, 1, "backup COPY"), "since": (copies.since, 1, 1, "since COPY"), "salvage": (copies.salvage, 1, 1, "salvage NEW"),
-    "csv": (tables.csv, 1, 2, "csv REPORT [YEAR]"), "lint": (lint.lint_office, 0, 0, "lint < ROWS.csv"),
-    "letter": (letter.letter, 4, 4, "letter SCHOOL STUDENT YEAR TERM"),
-    "ids": (ids.check, 0, 0, "ids"), "rows": (rows.run_office, 0, 5, "rows [KIND [SCHOOL [NUMBER]]] < SHEET.csv"),
+AGAIN = ("--again", "files also what is on file under another number"),
+NAMES = ("--names", "shows the id and the name of each student, of JOURNAL.ids.csv"),
+TABLE = ("--table", "prints the table of who gets what alone"), ("--csv", "prints it as comma-separated values"), *NAMES
+ROWS, COPY, NEW, OLD = path("ROWS.csv"), path("COPY"), path("NEW"), path("OLD")
+PLACE, OF_TERM = (SCHOOL, STUDENT, YEAR, TERM), (SOME_SCHOOL, YEAR, TERM)
+REPORTS = {
+    "standing": "where each student with an application in the year stands", "awards": "what each student has of each program in each term",
+    "returns": "what withdrawals return", "lifetime": "the lifetime use of each student", "stamps": "when each filing was filed, and by whom",
 }
+YEARLY = ("standing", "awards", "returns", "export")
 
 
-def on_journal(words, options):
-    """Runs a command of an office."""
-    path, words = words[0], options_in(words[1:], options)
-    stamp = words[:3] if words[:1] == ["at"] and len(words) >= 4 else []
-    words = options_in(words[len(stamp):], options)
-    command = words[0] if words else ""
-    look_at(path, command)
-    office = Office(path, words, stamp=stamp, options=options)
-    if command in FILES:
-        running.State.files = f"what is on file in {path} stands: run the same again"
-    if command == "upgrade" and len(words) == 2:
-        running.State.files = f"{words[1]} is as it was: run the same again"
-        is_path(words[1])
-    if command == "serve":
-        return serve(office)
-    if "--names" in words and command in ("report", "csv", *ids.SHEETS):
-        return ids.show(office, [word for word in words if word != "--names"])
-    size = lambda: os.path.getsize(path) if os.path.isfile(path) else "no"
-    running.say_at_work(lambda: f"; {path} has {size()} bytes")
-    if command in OWN:
-        run, least, most, usage = OWN[command]
-        takes(words[1:], least, most, f"JOURNAL {usage}")
-        return run(office, *words[1:])
-    if command == "dry":
-        return dry(office, words[1:])
-    if command == "found":
-        return copies.found(office)
-    if command in ("quote", "report"):
-        return office.read_only()
-    if command in ("list", "student", "need", "quotes", "payments", "withdrawal", "upto"):
-        return office.sheet()
-    return book_line.run_book(office) if command in ("book", "generate") else office.run_plainly()
+def of_year(which):
+    """The arguments of a report."""
+    return (YEAR,) if which in YEARLY else ()
 
 
-def other_desk(program, path, words, options, desk, usage, again):
-    """Runs a command of a desk with a journal of its own."""
-    is_path(path)
-    office = Office(path, words, program, options=options)
-    running.say_at_work(lambda: f"; {path} has {os.path.getsize(path) if os.path.isfile(path) else 'no'} bytes")
-    if words == ["found"]:
-        return copies.found(office)
-    if not any(words[:1] == [name] and least <= len(words) - 1 <= most for name, least, most in usage[1]):
-        refuse(f"usage: office {desk} JOURNAL {usage[0]}", 2)
-    if not os.path.exists(path):
-        refuse(f"there is no file {path}: mend the path, or found a {again[0]} there by: office {desk} {path} found", 2)
-    running.State.files = f"what is on file in {path} stands: run the same again{again[1]}"
-    if "round" in words[:2]:
-        office.stands = "stands, so take further numbers"
-        return approval.work_round(office, words[words.index("round"):], words[0] == "dry")
-    return office.run_plainly()
+# Of an office in a journal. A stamp may stand in front of each: `at DAY CLERK`.
+ON_JOURNAL = [
+    Command("found", lambda office: copies.found(office), (), "founds an office there", "found", program=AID),
+    filing("book", (NUMBER,), "files a year book under school 0 and this number", "book 1 < examples/2025.toml", "BOOK.toml"),
+    filing("file", (), "files rows; 1 where one isn't on file", "file < examples/year.csv", "ROWS.csv"),
+    own("intake", before.take_in, (ROWS, path("LEFT.csv", may_miss=True)), "the same of a file; LEFT gets rows not on file", "intake examples/year.csv left.csv", copy=False, files=True, flags=AGAIN),
+    filing("desks", (path("ROWS.csv", most=16),), "files 1 to 16 files at once", "desks examples/first.csv examples/year.csv"),
+    filing(
+        "fund", (SCHOOL, YEAR, TERM, number("AMOUNT", 1, 99_999_999), choice("level", "quarter"), ROUND_NUMBER), "awards a fund of FSEOG",
+        "fund 110 2025 1 600 level 50",
+    ),
+    filing("generate", (number("SEED", 0, 999_999_999_999), number("STUDENTS", 1, 20_000)), "files a made-up year, to try it with", "generate 7 20 < examples/2025.toml", "BOOK.toml"),
+    Command(
+        "serve", lambda office, *_: serving.serve(office), (number("PORT", 1, 65_535), number("WORKERS", 1, 16), number("SESSIONS", 1, 1_000_000)),
+        "answers HTTP on 127.0.0.1 (docs/HTTP.md)", "serve 8080 4 1000000", program=AID, files=True,
+    ),
+    own("dry", None, (rest("COMMAND", "file, intake, book, fund, desks, generate, or need STUDENT YEAR < APPLY.csv, with its words"),), "tries a command that files, on a copy", "dry file < examples/year.csv", flags=(*AGAIN, *TABLE)),
+    own("at", None, (DAY, CLERK, rest("COMMAND", "a command with its words")), "stamps what it files with day and name", "at 2025-09-01 brown file < examples/year.csv", copy=False),
+    own("upgrade", copies.upgrade, (OLD,), "founds an office of what OLD (version 1) holds", "upgrade old.journal", copy=False),
+    own("settings", settings.settings, (), "what is set", "settings", copy=False),
+    own("settings stamps", lambda office, word: settings.settings(office, "stamps", word), (choice("required", "optional"),), "sets whether a filing needs a stamp", "settings stamps required", copy=False),
+    reading("quote", PLACE, "the greatest Pell payment in whole dollars", "quote 110 5001 2025 1", lambda office, *place: asking.quote(office, *place)),
+    own("why", asking.why, PLACE, "that quote, and why not one dollar more", "why 120 5001 2025 1", program=AID),
+    *(reading(f"report {which}", of_year(which), purpose, " ".join([f"report {which}", "2025"][: 2 if which in YEARLY else 1])) for which, purpose in (REPORTS | {"export": "all filings, for an auditor"}).items()),
+    *(own(f"csv {which}", lambda office, *year, which=which: tables.csv(office, which, *year), of_year(which), f"{purpose}, as CSV", " ".join([f"csv {which}", "2025"][: 2 if which in YEARLY else 1]), flags=NAMES) for which, purpose in REPORTS.items()),
+    reading("list", (), "what was filed, each filing as a row", "list", sheet),
+    reading("student", (STUDENT,), "all about one student", "student 5001", sheet),
+    reading("need", (STUDENT, YEAR), "how an index and its award came about", "need 5001 2025", sheet),
+    reading("quotes", OF_TERM, "what may be paid to each student of a term", "quotes 110 2025 1", sheet),
+    reading("payments", OF_TERM, "what moved in a term", "payments 120 2025 2", sheet),
+    reading("withdrawal", (SOME_SCHOOL, STUDENT, YEAR, TERM), "the worksheet of a withdrawal", "withdrawal 120 5001 2025 2", sheet),
+    reading("upto", (number("POSITION", 1, 4_294_967_295), rest("SHEET", "a sheet, or report, with its words")), "a sheet as it was then (docs/SHEETS.md)", "upto 10 quotes 110 2025 1", sheet),
+    own("letter", letter.letter, (SOME_SCHOOL, STUDENT, YEAR, TERM), "a letter to a student who withdrew", "letter 120 5001 2025 2"),
+    own("lint", lint.lint_office, (), "names filings that look wrong, or are paid twice", "lint < examples/year.csv", input="ROWS.csv"),
+    own("rows", rows.run_office, (Argument("WORD", "the words of rows", lambda word: "", True, 9),), "makes rows of a sheet's CSV, in which ids may stand", "rows pay 110 600 < sheet.csv", copy=False, input="SHEET.csv"),
+    own("ids", ids.check, (), "checks the ids and names in JOURNAL.ids.csv", "ids", copy=False),
+    own("next", tables.next_number, (SCHOOL,), "the number of the school's next row", "next 110"),
+    own("backup", copies.backup, (Argument("COPY", "a new file", lambda word: ""),), "copies the office, and opens the copy", "backup copy.journal"),
+    own("since", copies.since, (Argument("COPY", "a copy that backup made", lambda word: ""),), "whether all that COPY holds still stands", "since copy.journal"),
+    own("salvage", copies.salvage, (Argument("NEW", "a new file", lambda word: ""),), "makes an office of what stands before damage", "salvage saved.journal"),
+]
+
+OF_LOANS = [
+    Command("found", lambda office: copies.found(office), (), "founds a loan office there", "found", program=LOANS),
+    filing("file", (), "files rows", "file < examples/loans.csv", "ROWS.csv", LOANS),
+    filing("desks", (path("ROWS.csv", most=16),), "files 1 to 16 files at once", "desks examples/loans.csv", program=LOANS),
+]
+OF_ROUND = (choice("101", "102"), YEAR, ROUND_NUMBER)
+OF_WORK = [
+    Command("found", lambda office: copies.found(office), (), "founds a work-study office there", "found", program=WORK),
+    filing("file", (), "files rows", "file < examples/work.csv", "ROWS.csv", WORK),
+    Command("round", approval.work_round, OF_ROUND, "awards the rest of a fund", "round 101 2025 10 < examples/work-round.csv", "STUDENTS.csv", WORK, files=True, flags=TABLE),
+    Command("dry round", approval.dry_round, OF_ROUND, "tries a round, on a copy", "dry round 101 2025 10 < examples/work-round.csv", "STUDENTS.csv", copy=True, flags=TABLE),
+]
+DESKS = {"loans": (LOANS, OF_LOANS, "loan office", ""), "work": (WORK, OF_WORK, "work-study office", ", a round under further numbers")}
+WORDS = rest("WORD", "words")
+
+# Without a journal. What judges its own words takes any.
+TOOLS = [
+    Command("help", lambda words: guide.help_on(words), (Argument("COMMAND", "a command", lambda word: "", True, 2),), "all words, or those of a command with an example", "help report awards"),
+    Command("--version", lambda words: programs.version(), (), "which program runs", "--version"),
+    Command("demo", lambda words: asking.demo(), (), "files a worked year into an office that goes", "demo"),
+    Command("check", lambda words: asking.check(*words), (choice("rows", "book"),), "judges rows or a book; 1 on an error", "check rows < examples/year.csv", "FILE"),
+    Command("explain", explain.run, (path("ROWS.csv", may_miss=True),), "says refusals, errors and faults in words", "explain examples/year.csv < lines.txt", "LINES"),
+    Command("lint", lint.run, (), "names filings that look wrong; 1 where some do", "lint < examples/year.csv", "ROWS.csv"),
+    Command("rows", rows.run, tuple(Argument(name, "", lambda word: "", True) for name in ("KIND", "SCHOOL", "NUMBER")), "rows of a sheet; --template too", "rows pay 110 600 < sheet.csv", "SHEET.csv"),
+    Command("show", show.run, (path("BOOK.toml"), path("BEFORE.toml", may_miss=True)), "prints a year book in words and units", "show examples/2026.toml"),
+    Command(
+        "plot", plot.run, (choice("standing", "awards", "returns", "lifetime"), optional(YEAR), path("PICTURE.svg", may_miss=True)), "draws a report, in text where PICTURE is -",
+        "plot awards 2025 - < awards.txt", "REPORT",
+    ),
+    Command("reconcile", reconcile.run, (path("LEDGER.csv"),), "compares a ledger with payments or awards", "reconcile ledger.csv < payments.csv", "PAYMENTS"),
+    Command("pay-rows", tables.pay_rows, (SOME_SCHOOL, YEAR, TERM, NUMBER), "makes rows that pay these", "pay-rows 110 2025 1 600 < quotes.csv", "QUOTES"),
+    Command("carry", tables.carry, (NUMBER,), "makes rows of prior use for the next office", "carry 100 < lifetime.txt", "LIFETIME"),
+    Command("audit", lambda words: asking.audit("audit"), (), "checks an export (docs/AUDIT.md)", "audit < export.txt", "EXPORT"),
+    Command("clock", lambda words: asking.audit("clock"), (), "answers rows of clock-hour programs", "clock < rows.csv", "ROWS.csv"),
+    Command("loans", None, (path("JOURNAL"), rest("..", "found, file or desks")), "the Direct Loan desk (docs/LOANS.md)", "loans loans.journal found"),
+    Command("work", None, (path("JOURNAL"), rest("..", "found, file or round")), "the work-study fund (docs/WORK.md)", "work work.journal found"),
+    Command("completion", lambda words: guide.completion(), (choice("bash"),), "prints what completes these words in a shell", "completion bash > office.bash"),
+    Command("man", lambda words: guide.man(), (), "prints this as a manual page", "man > office.1"),
+]
+# Tools that say themselves what is wrong with their words.
+JUDGE_THEMSELVES = ("lint", "rows", "show", "plot", "reconcile", "pay-rows", "carry")
 
 
-def loans(words, options):
-    """The Direct Loan desk."""
-    words = options_in(words, options)
-    takes(words, 1, 18, "loans JOURNAL found|file|desks ..")
-    usage = "found, file < ROWS.csv, or desks ROWS.csv.. with 1 to 16 files", [("file", 0, 0), ("desks", 1, 16)]
-    return other_desk("loan_office", words[0], options_in(words[1:], options), options, "loans", usage, ("loan office", ""))
+def table_of(commands):
+    """The commands by name."""
+    return {command.name: command for command in commands}
 
 
-def work(words, options):
-    """The work-study fund."""
-    words = options_in(words, options)
-    takes(words, 1, 9, "work JOURNAL found|file|[dry] round ..")
-    usage = "found, file < ROWS.csv, or [dry] round SCHOOL YEAR NUMBER [--table | --csv] [--names] < STUDENTS.csv", [("file", 0, 0), ("round", 3, 6), ("dry", 4, 7)]
-    again = "work-study office", ", a round under further numbers"
-    return other_desk("work_office", words[0], options_in(words[1:], options), options, "work", usage, again)
-
-
-def demo(words):
-    """A worked year in an office that goes."""
-    takes(words, 0, 0, "demo")
-    running.say_at_work(str)
-    return asking.demo()
-
-
-def check(words):
-    """Judges rows or a book."""
-    return book_line.check_book() if words == ["book"] else asking.check("rows")
-
-
-def print_help(_words):
-    """All words."""
-    print(HELP, end="")
-    return 0
-
-
-# Commands without a journal.
-TOOLS = {
-    "help": print_help, "--help": print_help, "-h": print_help, "--version": lambda _: programs.version(), "version": lambda _: programs.version(),
-    "demo": demo, "explain": explain.run, "lint": lint.run, "rows": rows.run, "show": show.run, "plot": plot.run, "reconcile": reconcile.run,
-    "pay-rows": tables.pay_rows, "carry": tables.carry,
-}
-DESKS = {"loans": loans, "work": work}
-
-
-def run(words):
-    """Runs the command of some words, and returns its status."""
-    options = Options()
-    words = options_in(words, options) or ["help"]
-    name, behind = words[0], words[1:]
-    if name in ("audit", "clock"):
-        takes(words, 1, 1, "audit < EXPORT, or office clock < ROWS.csv")
-        return asking.audit(words)
-    if name in TOOLS:
-        return TOOLS[name](behind)
-    if name in DESKS:
-        return DESKS[name](behind, options)
-    if name == "check" and behind in (["rows"], ["book"]):
-        return check(behind)
-    return on_journal(words, options)
+def first_words(commands):
+    """The first words of some commands."""
+    return list(dict.fromkeys(command.name.split()[0] for command in commands))

@@ -3,7 +3,7 @@ import csv
 import os
 import sys
 
-from . import copies, running
+from . import copies, filing, running
 from .say import refuse, say
 
 # The bytes of a field may be any, and a field may be as long as a row.
@@ -86,15 +86,15 @@ def tell(rows, told, left, status):
     return status or (1 if out else 0)
 
 
-def filed(office, copy, path, told, is_quiet):
+def run_file(office, copy, path, take, is_quiet):
     """Files the rows of a file, and takes the reply lines, which are printed too unless it is to be quiet."""
     with open(path, "rb") as given:
         if not is_quiet:
-            return office.run(["file"], copy, given=given, take=told.take, keeps_on=True)
+            return office.run(["file"], copy, given=given, take=take, keeps_on=True)
         with open(copies.needs_scratch("lines"), "wb") as out:
             status = office.run(["file"], copy, given=given, out=out)
     for line in copies.text_of(copies.scratch("lines")).splitlines():
-        told.take(line)
+        take(line)
     return status
 
 
@@ -106,14 +106,21 @@ def intake(office, path, left="", is_dry=False, before=None, after=None, is_quie
     if left:
         look_at_left(left, (office.journal, path))
     rows, told, status = rows_of(path), Told(), 130
+    filed = filing.Filed(office, not is_dry and not office.stamp, len(rows))
+    running.State.tells = filed.progress
     hurt = None if is_dry else office.hurt()
+
+    def take(line):
+        told.take(line)
+        filed.take(line)
+
     try:
         status = before(rows) if before else 0
         if status:
             pass
         elif hurt is None:
             copy = copies.try_on_copy(office) if is_dry else None
-            status = filed(office, copy, path, told, is_quiet)
+            status = run_file(office, copy, path, take, is_quiet)
             office.say_status(status)
             if after and not status:
                 status = after(copy, told)
@@ -122,4 +129,4 @@ def intake(office, path, left="", is_dry=False, before=None, after=None, is_quie
             office.say_hurt(hurt)
     finally:
         status = tell(rows, told, left, status)
-    return status
+    return 0 if status == 1 and office.lenient else status

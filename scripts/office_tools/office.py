@@ -2,10 +2,10 @@
 import os
 import sys
 
-from . import copies, journal, running
+from . import book_line, copies, filing, journal, running
 from .say import STATUSES, refuse, say, say_known, visible
 
-READS = ("file", "round", "book", "generate", "check")     # commands that read standard input
+READS = ("file", "round", "book", "generate")       # commands that read standard input
 
 
 class Office:
@@ -13,22 +13,31 @@ class Office:
 
     def __init__(self, path, words, program="aid_office", stamp=(), options=None):
         self.journal, self.words, self.program, self.stamp = path, words, program, list(stamp)
-        self.options = options
+        self.options, self.flags = options, []
         self.stands = "is answered again"
-        self.salvages = program in ("aid_office", "sheet_desk")
+        self.takes_stamp = self.salvages = program == "aid_office"
 
     @property
     def cut(self):
         """Whether what stands behind a hurt gate may be cut off."""
         return bool(self.options and self.options.cut)
 
+    @property
+    def lenient(self):
+        """Whether a run in which not all stands may end with 0."""
+        return bool(self.options and self.options.lenient)
+
+    def line(self, words, path=None):
+        """The words of a program: the journal, or a copy, then the stamp, and these."""
+        path = path or self.journal
+        # a path that begins with a hyphen would be a flag
+        return [f"./{path}" if path.startswith("-") else path, *self.stamp, *words]
+
     def run(self, words, path=None, out=None, given=None, take=None, keeps_on=False):
         """The status of the program on these words, with the stamp in front, and on a copy where its path is said."""
-        front = [path or self.journal, *self.stamp]
-        # a path that begins with a hyphen would be a flag
-        front[0] = f"./{front[0]}" if front[0].startswith("-") else front[0]
-        files = range(len(front) + 1, len(front) + len(words)) if words[:1] in (["desks"], ["upgrade"]) else ()
-        return running.run(self.program, [*front, *words], (0, *files), given, out, take=take, keeps_on=keeps_on)
+        line = self.line(words, path)
+        files = range(len(line) - len(words) + 1, len(line)) if words[:1] in (["desks"], ["upgrade"]) else ()
+        return running.run(self.program, line, (0, *files), given, out, take=take, keeps_on=keeps_on)
 
     def say_status(self, status, path=None):
         """A sentence on a status of the program, with the path of the journal, or another one, and the next step."""
@@ -38,17 +47,26 @@ class Office:
         else:
             say_known(STATUSES, status, journal=path, stands=self.stands)
 
-    def run_plainly(self, path=None):
-        """Runs the command on the journal itself, or on a copy of it, and ends as the program does."""
-        if path is None:
+    def file(self, copy=None):
+        """Runs a command that files, on a copy where one is said. 1 where the program's status is 0 and something isn't on file."""
+        if copy is None:
             self.refuse_hurt(self.journal)
-        status = self.run(self.words, path, given=self.input())
+        reads = self.words[0] in READS
+        filed = filing.Filed(self, copy is None and self.takes_stamp and not self.stamp)
+        if running.is_told():
+            filed.total = filing.rows_told(self.words)
+            running.State.tells = filed.progress
+        if self.words[0] in ("book", "generate"):
+            book_line.keep_input()
+        status = self.run(self.words, copy, given=running.INPUT if reads else None, take=filed.take)
+        self.say_status(status)
+        return status or filed.status(self.lenient)
+
+    def plainly(self, copy):
+        """Runs the command on a copy, and ends as the program does."""
+        status = self.run(self.words, copy)
         self.say_status(status)
         return status
-
-    def input(self):
-        """What the command reads: standard input, or nothing."""
-        return running.INPUT if self.words[:1] and self.words[0] in READS else None
 
     def refuse_hurt(self, path):
         """Refuses to run on a journal in which more stands behind the closed gate than a run leaves, for the program would cut it off."""
@@ -109,7 +127,7 @@ class Office:
 
     def sheet(self):
         """A sheet of a copy. 1 where there is nothing to tell of these names, or there are fewer filings."""
-        self.program = "sheet_desk"
+        self.program, self.stamp = "sheet_desk", []
         status = self.read_only()
         if status:
             return status
@@ -120,7 +138,8 @@ class Office:
 
     def needs(self, words, program=None, tell=sys.stderr):
         """The text of a command on a copy, whose status has to be 0."""
-        self.program = program or self.program
+        if program:
+            self.program, self.stamp = program, []
         status, text = copies.needs_copy(self, words)
         if status:
             print(visible(text.decode("utf-8", "replace"), "\n"), end="", file=tell)

@@ -4,6 +4,7 @@ import signal
 import subprocess
 import sys
 import threading
+import time
 
 from . import programs
 from .say import say
@@ -22,6 +23,7 @@ class State:
     """What a signal has to know: the program that runs, and what a run that files says where it is stopped."""
     child = None
     files = ""
+    tells = None        # a function that says how far the work is
 
 
 def on_signal(number, _frame):
@@ -40,17 +42,22 @@ def take_signals():
             signal.signal(each, on_signal)
 
 
-def say_at_work(tells):
-    """On a terminal says every ten seconds that the work goes on, with what this function tells of it."""
-    if not sys.stderr.isatty():
-        return
-    done = threading.Event()
+def is_told():
+    """Whether somebody at a terminal is told how far the work is."""
+    return sys.stderr.isatty()
 
+
+def say_at_work(what):
+    """On a terminal says every ten seconds that the work on this goes on, and how far it is."""
     def watch():
-        while not done.wait(EVERY):
-            say(f"at work{tells()}")
+        seconds = 0
+        while True:
+            time.sleep(EVERY)
+            seconds += EVERY
+            say(f"at work on {what} for {seconds} seconds{f'; {State.tells()}' if State.tells else ''}")
 
-    threading.Thread(target=watch, daemon=True).start()
+    if is_told():
+        threading.Thread(target=watch, daemon=True).start()
 
 
 def lines_in(text, take):

@@ -8,7 +8,6 @@ NAMES = {
     "standing": "student formula index way award paid used", "awards": "school student term program net",
     "returns": "school student term percent returned owed post due", "lifetime": "student prior used", "stamps": "position day clerk",
 }
-YEARLY = ("standing", "awards", "returns")
 LAST = 999_999_999_999
 
 
@@ -20,8 +19,6 @@ def whole_lines(text):
 
 def csv(office, which, *year):
     """A report as comma-separated values."""
-    if which not in NAMES or (which in YEARLY) != bool(year):
-        refuse("csv takes a report: csv standing YEAR, csv awards YEAR, csv returns YEAR, csv lifetime, csv stamps", 2)
     lines = whole_lines(office.needs(["report", which, *year]))
     names = NAMES[which].split()
     if lines is not None and which == "stamps":
@@ -40,8 +37,6 @@ def is_number(word, most, least=0):
 
 def next_number(office, school):
     """One more than the greatest number of a school's rows."""
-    if not is_number(school, 999_999):
-        refuse("next takes a school, 0 to 999999", 2)
     lines = whole_lines(office.needs(["list"], "sheet_desk"))
     if lines is None:
         refuse(f"the list of {office.journal} was cut short: run it again")

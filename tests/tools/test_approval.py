@@ -62,9 +62,6 @@ class Tables(unittest.TestCase):
     def test_money(self):
         self.assertEqual([approval.money(each) for each in (0, 5, 100, 123456, -5, -250)], ["0.00", "0.05", "1.00", "1234.56", "-0.05", "-2.50"])
 
-    def test_flags(self):
-        self.assertEqual(approval.parted(["fund", "--csv", "110"], "none"), (["fund", "110"], ["--csv"]))
-
 
 if __name__ == "__main__":
     unittest.main()
