@@ -17,6 +17,7 @@ def fill_streams():
             os.fstat(number)
         except OSError:
             os.open(os.devnull, flags)
+    sys.stdin = sys.stdin or open(0, closefd=False)
     sys.stdout = sys.stdout or open(1, "w", closefd=False)
     sys.stderr = sys.stderr or open(2, "w", closefd=False)
 

@@ -85,10 +85,10 @@ def judged(program, words, is_good, explains=None):
     return status or (0 if re.search(is_good, last[0]) else 1)
 
 
-def check(what):
+def check(words):
     """Judges rows or a book without an office: 1 where something is wrong."""
-    words = [copies.needs_scratch("none.journal"), "check", what]
-    if what == "rows":
+    words = [copies.needs_scratch("none.journal"), "check", *words]
+    if words[2:] == ["rows"]:
         return judged("aid_office", words, rb" errors 0$")
     book_line.keep_input()
     return judged("aid_office", words, rb"^1 fine$", book_line.where)

@@ -217,6 +217,7 @@ def since(office, path):
         refuse(f"there is no file {path}: name a copy that backup made", 2)
     if not os.path.isfile(office.journal):
         refuse(f"{office.journal} is no file that can be read", 5)
+    office.refuse_hurt(path)
     status, text = needs_copy(office, ["file"], path)
     if status:
         office.write(text)
@@ -284,7 +285,7 @@ def look_before_found(path):
         refuse(f"{path} has {len(front)} bytes, which founding would write over: move it away first", 6)
 
 
-def found(office):
+def found(office, *_):
     """Makes the file of a new office for its owner alone, and founds the office. Other words leave no file."""
     path = office.journal
     look_before_found(path)

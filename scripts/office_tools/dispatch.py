@@ -5,7 +5,7 @@ import time
 from dataclasses import dataclass
 
 from . import approval, before, copies, ids, running, settings, what_if
-from .commands import AID, DESKS, JUDGE_THEMSELVES, ON_JOURNAL, TOOLS, first_words, table_of
+from .commands import DESKS, JUDGE_THEMSELVES, ON_JOURNAL, TOOLS, first_words, table_of
 from .office import Office
 from .say import refuse, say
 from .words import CLERK, DAY, first_wrong, near, number, rest

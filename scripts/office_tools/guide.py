@@ -87,7 +87,7 @@ def help_on(words):
     return 0
 
 
-def man():
+def man(_words):
     """Prints the manual page."""
     from .commands import ON_JOURNAL as commands, TOOLS
     escaped = lambda text: text.replace("\\", "\\e").replace("-", "\\-")
@@ -100,7 +100,7 @@ def man():
     return 0
 
 
-def completion():
+def completion(_words):
     """Prints what completes these words in bash."""
     from .commands import ON_JOURNAL as commands, TOOLS, first_words
     groups = {}

@@ -47,8 +47,8 @@ def is_built(name):
 
 
 def kept_build(words):
-    """The path that scripts/unproved_build.sh prints, or nothing."""
-    script = os.path.join(TOP, "scripts", "unproved_build.sh")
+    """The path that scripts/unproved_build prints, or nothing."""
+    script = os.path.join(TOP, "scripts", "unproved_build")
     try:
         ended = subprocess.run([script, *words], stdin=subprocess.DEVNULL, stdout=subprocess.PIPE, stderr=subprocess.DEVNULL, cwd=TOP)
     except OSError:

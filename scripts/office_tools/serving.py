@@ -6,7 +6,7 @@ from . import programs, settings
 from .say import refuse, say
 
 
-def serve(office):
+def serve(office, *_):
     """Becomes the server."""
     _, port, workers, sessions = office.words
     if not programs.place(office.program):
