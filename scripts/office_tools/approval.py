@@ -4,11 +4,11 @@ usage: office JOURNAL dry fund .. | dry intake .. | work JOURNAL [dry] round .. 
 """
 import csv
 import re
-import shutil
 import sys
 from dataclasses import dataclass
 
 from . import copies, filing, ids, listing, tables
+from .amounts import cents, money
 from .say import say, visible
 
 HEADING = ("student", "school", "year", "term", "program", "amount", "net", "left")
@@ -35,16 +35,6 @@ class Line:
         left = "-" if self.left is None else money(self.left)
         cells = (self.student, self.school, self.year, self.term, self.program, money(self.amount), money(self.net), left)
         return cells + (known.told(self.student) if known else ())
-
-
-def money(cents):
-    """Dollars and cents."""
-    return f"{'-' if cents < 0 else ''}{abs(cents) // 100}.{abs(cents) % 100:02}"
-
-
-def cents(text):
-    """Cents of dollars with two decimals."""
-    return int(text.replace(".", ""))
 
 
 def accepted(lines):
@@ -229,9 +219,8 @@ def awards(office, journal, school, year, students):
 
 def run_round(office, place, copy=None):
     """Awards the rest of a work-study fund, on a copy where one is said, and prints who gets what."""
-    rows, journal = copies.needs_scratch("students"), copy or office.journal
-    with open(rows, "wb") as file:
-        shutil.copyfileobj(sys.stdin.buffer, file)
+    copies.needs_scratch("students")
+    rows, journal = copies.keep_input("students"), copy or office.journal
     students = students_of(rows)
     before = awards(office, journal, *place[:2], students)
     with open(rows, "rb") as given:

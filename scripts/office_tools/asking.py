@@ -90,7 +90,7 @@ def check(words):
     words = [copies.needs_scratch("none.journal"), "check", *words]
     if words[2:] == ["rows"]:
         return judged("aid_office", words, rb" errors 0$")
-    book_line.keep_input()
+    copies.keep_input("book")
     return judged("aid_office", words, rb"^1 fine$", book_line.where)
 
 

@@ -1,8 +1,6 @@
 """Looks at rows before they are filed: names payments and awards that are on file already under another number."""
 import functools
 import os
-import shutil
-import sys
 
 from . import approval, columns, copies, intake, listing, sheet, twice
 from .say import refuse, say
@@ -59,7 +57,10 @@ def refuse_sheet(path):
     names = columns.headings_in(sheet.text_of(copies.text_of(path)))
     if names:
         shown = ", ".join(names[:4]) + (", .." if names[4:] else "")
-        refuse(f"{path} is a spreadsheet with headings ({shown}), and no row of it was filed: make rows of it by office rows KIND SCHOOL NUMBER < {path}, and file these")
+        refuse(
+            f"{path} is a spreadsheet with headings ({shown}), and no row of it was filed: make rows of it by office rows KIND SCHOOL NUMBER "
+            f"< {path}, and file these",
+        )
 
 
 def names_of(paths, counts):
@@ -76,12 +77,8 @@ def names_of(paths, counts):
 def try_rows(office, *paths):
     """Tries `file` or `desks` on a copy, and names rows that give again: 1 where some do."""
     if not paths:
-        paths = [copies.needs_scratch("rows")]
-        with open(paths[0], "wb") as file:
-            shutil.copyfileobj(sys.stdin.buffer, file)
-        with open(paths[0], "rb") as file:
-            # the program reads it in place of standard input
-            os.dup2(file.fileno(), 0)
+        copies.needs_scratch("rows")
+        paths = [copies.keep_input("rows")]
     status = office.file(copies.try_on_copy(office))
     if status > 1:
         return status

@@ -4,8 +4,6 @@ usage: office JOURNAL book NUMBER < BOOK.toml, and so `dry book`, `check book` a
 """
 import os
 import re
-import shutil
-import sys
 import tomllib
 
 from . import copies, year_book
@@ -116,16 +114,6 @@ def sentence(data, line):
         return says
     there = data.decode("utf-8-sig", "replace").split("\n")[number - 1].strip()
     return f"line {number}, `{there[:100]}`: {says}"
-
-
-def keep_input():
-    """Keeps standard input in a file of this run, which is read in its place. Where there is no room for one it stays as it is."""
-    path = copies.scratch("book")
-    if path:
-        with open(path, "wb") as file:
-            shutil.copyfileobj(sys.stdin.buffer, file)
-        with open(path, "rb") as file:
-            os.dup2(file.fileno(), 0)
 
 
 def where(line):

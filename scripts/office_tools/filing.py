@@ -8,7 +8,6 @@ import sys
 from . import book_line, copies, settings
 from .say import say
 
-MOST_INPUT = 1 << 24
 csv.field_size_limit(sys.maxsize)
 
 
@@ -75,7 +74,7 @@ def count_rows(data):
 def rows_told(words):
     """How many rows a command will read, where its input is ordinary files."""
     if words[0] == "file" and stat.S_ISREG(os.fstat(0).st_mode):
-        return count_rows(os.pread(0, MOST_INPUT + 1, os.lseek(0, 0, os.SEEK_CUR)))
+        return count_rows(os.pread(0, copies.MOST_INPUT + 1, os.lseek(0, 0, os.SEEK_CUR)))
     if words[0] == "desks" and all(map(os.path.isfile, words[1:])):
         return sum(count_rows(copies.text_of(path)) for path in words[1:])
     return None

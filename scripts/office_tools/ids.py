@@ -46,7 +46,7 @@ class Known:
         if not tables.is_number(number, tables.LAST, 1):
             self.wrong.append(f"line {line}: `{number}` is no number of a student")
         elif not ID.fullmatch(student_id):
-            self.wrong.append(f"line {line}: `{student_id}` is no id: it is 1 to 40 letters, digits, dots, low lines and hyphens, and no digits alone")
+            self.wrong.append(f"line {line}: `{student_id}` is no id: 1 to 40 letters, digits, dots, low lines and hyphens, and no digits alone")
         elif any(ord(sign) < 32 for sign in name):
             self.wrong.append(f"line {line}: the name has more than one line")
         elif number in self.by_number:

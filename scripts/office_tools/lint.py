@@ -9,16 +9,13 @@ import io
 import sys
 
 from . import before, listing, sheet, twice
+from .amounts import cents
 from .say import refuse, visible
 
 day = datetime.date.fromisoformat
 csv.field_size_limit(sys.maxsize)
 # Cents of a student's year by the law's annual limits of loans (34 CFR 685.203) and TEACH (34 CFR 686.21), which the office doesn't hold.
 MOST = {"sub": 550_000, "unsub": 2_050_000, "teach": 400_000}
-
-
-def cents(text):
-    return int(text.replace(".", ""))
 
 
 def around(year):

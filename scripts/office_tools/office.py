@@ -2,7 +2,7 @@
 import os
 import sys
 
-from . import book_line, copies, filing, journal, running
+from . import copies, filing, journal, running
 from .say import STATUSES, refuse, say, say_known, visible
 
 READS = ("file", "round", "book", "generate")       # commands that read standard input
@@ -57,7 +57,7 @@ class Office:
             filed.total = filing.rows_told(self.words)
             running.State.tells = filed.progress
         if self.words[0] in ("book", "generate"):
-            book_line.keep_input()
+            copies.keep_input("book")
         status = self.run(self.words, copy, given=running.INPUT if reads else None, take=filed.take)
         self.say_status(status)
         return status or filed.status(self.lenient)

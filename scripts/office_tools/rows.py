@@ -29,7 +29,7 @@ class Sheet:
 
     def __init__(self, headings, kind, school, number, years, known):
         self.kinds = columns.read()
-        self.nothing = {kind: {column.name for column in of_kind if columns.is_nothing_where_empty(kind, column)} for kind, of_kind in self.kinds.items()}
+        self.nothing = {(kind, each.name) for kind, of_kind in self.kinds.items() for each in of_kind if columns.is_nothing_where_empty(kind, each)}
         self.headings, self.kind, self.school, self.number, self.years, self.known = headings, kind, school, number, years, known
         self.made, self.wrong, self.keys, self.of, self.asked, self.missing = [], [], {}, {}, False, set()
 
@@ -74,7 +74,7 @@ class Sheet:
         self.look_at_columns(at, line, kind, told, of)
         row = {of[name]: (name, cell) for name, cell in told.items() if of[name]}
         breaks = [name for name in BREAKS if kind == "calendar" and row.get(name, ("", ""))[1]]
-        reads = {name: sheet.whole for name in KEY[1:]} | {column.name: reader(column) for column in self.kinds[kind]} | dict.fromkeys(breaks, sheet.day)
+        reads = dict.fromkeys(KEY[1:], sheet.whole) | {column.name: reader(column) for column in self.kinds[kind]} | dict.fromkeys(breaks, sheet.day)
         cells = [kind, *(self.cell(at, line, kind, row, name, read, len(breaks)) for name, read in reads.items())]
         self.made.append(",".join(cells))
         self.look_at_key(line, tuple(cells[1:3]))
@@ -84,7 +84,8 @@ class Sheet:
         is_one = self.kind is not None and self.kind_heading is None
         for name in sorted(name for name in told if of[name] is None):
             if at == 0 if is_one else told[name]:
-                self.bad(f"line {line}: {kind} has no column {name}: put a # in front of its heading to leave it out; office rows --names {kind} has all")
+                way = f"put a # in front of its heading to leave it out; office rows --names {kind} has all"
+                self.bad(f"line {line}: {kind} has no column {name}: {way}")
 
     def read(self, name, read, told, cell):
         """The text of a cell that isn't empty."""
@@ -119,7 +120,7 @@ class Sheet:
             return self.school
         if name == "number" and self.number is not None:
             return str(int(self.number) + at)
-        if name in row and name in self.nothing[kind]:
+        if name in row and (kind, name) in self.nothing:
             return "0"
         if name in row:
             self.bad(f"line {line}: {name} is empty")

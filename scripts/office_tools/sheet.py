@@ -118,7 +118,8 @@ def said_year(cell, is_ours, means):
         return year
     before, behind = (f"{first}-{(first + 1) % 100:02}" for first in (int(year) - 1, int(year)))
     if not means:
-        raise Asked(f"may be {before} or {behind}: write it so, or say --year-ends, by which it is {before} as COD calls it, or --year-begins, by which it is {behind}")
+        ways = f"--year-ends, by which it is {before} as COD calls it, or --year-begins, by which it is {behind}"
+        raise Asked(f"may be {before} or {behind}: write it so, or say {ways}")
     return str(int(year) - 1)
 
 

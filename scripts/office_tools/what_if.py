@@ -9,7 +9,7 @@ import re
 import sys
 
 from . import copies, explain, listing, sheet, tables
-from .approval import cents, money
+from .amounts import cents, money
 from .office import Office
 from .say import refuse, say
 
@@ -186,7 +186,7 @@ def show_adjusted(office, row, terms, award):
 
 def dry_need(office, student, year):
     """Shows what an application would change."""
-    row = row_in(sheet.text_of(sys.stdin.buffer.read()), student, year)
+    row = row_in(sheet.text_of(sys.stdin.buffer.read(copies.MOST_INPUT)), student, year)
     terms = Terms(row, listing.of_journal(office.journal))
     copies.try_on_copy(office)
     old = sheet_of_copy("need", student, year)

@@ -5,7 +5,7 @@ import unittest
 
 sys.dont_write_bytecode = True
 sys.path.insert(0, os.path.join(os.path.dirname(os.path.dirname(os.path.dirname(os.path.abspath(__file__)))), "scripts"))
-from office_tools import approval, listing
+from office_tools import amounts, approval, listing
 
 ROWS = [
     ("originate,110,1,5,2025,10000", "noted"), ("pay,110,2,5,2025,1,pell,1000.00", "paid 1000.00 50000"), ("pay,120,2,5,2025,1,unsub,900.00", "paid 900.00 50000"),
@@ -59,8 +59,9 @@ class Tables(unittest.TestCase):
         self.assertTrue(text[-1].startswith("Approved by ____") and "Date ____" in text[-1])
         self.assertEqual({len(line) for line in text[:5]}, {sum(approval.WIDTHS) + 7})
 
-    def test_money(self):
-        self.assertEqual([approval.money(each) for each in (0, 5, 100, 123456, -5, -250)], ["0.00", "0.05", "1.00", "1234.56", "-0.05", "-2.50"])
+    def test_amounts(self):
+        self.assertEqual([amounts.cents(each) for each in ("0.00", "1145.00", "0.05")], [0, 114500, 5])
+        self.assertEqual([amounts.money(each) for each in (0, 5, 100, 123456, -5, -250)], ["0.00", "0.05", "1.00", "1234.56", "-0.05", "-2.50"])
 
 
 if __name__ == "__main__":

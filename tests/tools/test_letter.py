@@ -1,4 +1,6 @@
 """Letters on withdrawals, of sheets whose figures were worked by hand (34 CFR 668.22)."""
+import contextlib
+import io
 import os
 import sys
 import unittest
@@ -56,7 +58,7 @@ class Letters(unittest.TestCase):
 
     def test_no_sheet(self):
         for lines in [[], ["none"], ["a", "b", "c", "d"]]:
-            with self.assertRaises(SystemExit):
+            with self.assertRaises(SystemExit), contextlib.redirect_stderr(io.StringIO()):
                 letter.Worksheet(lines)
 
 
