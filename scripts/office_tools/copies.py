@@ -331,7 +331,7 @@ def upgrade(office, old):
         status = office.run(office.words)
         say_known(UPGRADED, status, new=new, old=old)
         return status
-    part = part_of(new, "an upgrade")
+    part, was_there = part_of(new, "an upgrade"), is_there(new)
     try:
         opened_alone(part, os.O_EXCL).close()
     except OSError as error:
@@ -339,7 +339,8 @@ def upgrade(office, old):
     Left.parts.append(part)
     status = office.run(office.words, part)
     if status == 0:
-        os.replace(part, new)
+        # what was there as the run began holds no office
+        os.replace(part, new) if was_there else name_new(part, new)
         sync(folder_of(new))
         return 0
     if not say_known(UPGRADED, status, new=new, old=old):

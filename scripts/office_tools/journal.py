@@ -73,6 +73,9 @@ def is_left_so(file, gate):
     first = record_at(file.read(5 + MOST), 0)
     file.seek(gate)
     data = file.read(MOST_BEHIND + 2)
+    if not data:
+        # another run has cut the file meanwhile
+        return True
     if data[0] != 0 or len(data) - 1 > MOST_BEHIND:
         return False
     # a filing behind a stamp has no key in front: where a clerk is named its length would be part of a school's code that is too great

@@ -23,6 +23,6 @@ def serve(office, *_):
     for each in (signal.SIGPIPE, signal.SIGXFSZ):
         signal.signal(each, signal.SIG_DFL)
     try:
-        os.execv(line[0], line)
+        os.execvp(line[0], line)
     except OSError as error:
         refuse(f"{line[0]} can't be run: {error.strerror}", 127)

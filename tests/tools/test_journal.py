@@ -85,6 +85,8 @@ class HurtGates(unittest.TestCase):
         copy = self.path(data[:gate] + b"\0" + data[gate + 1 :], "copy")
         self.assertIsNone(journal.hurt_gate(copy, self.path(data)))
         self.assertEqual(journal.hurt_gate(copy, copy), gate)
+        with open(copy, "rb") as file:
+            self.assertTrue(journal.is_left_so(file, len(data)))
 
     def test_stamps(self):
         """A stamp is a day and a clerk's name, as the words of a run say them."""
