@@ -2,7 +2,7 @@
 import os
 import re
 
-from . import TOP, copies, explain, running
+from . import TOP, book_line, copies, explain, running
 from .office import Office
 from .say import AUDITED, say, say_known
 
@@ -75,16 +75,23 @@ def demo():
     return status
 
 
-def judged(program, words, is_good):
-    """The status of a program that judges standard input, and 1 where its last line isn't a good one."""
+def judged(program, words, is_good, explains=None):
+    """The status of a program that judges standard input, and 1 where its last line isn't a good one, which is explained where it can be."""
     last = [b""]
     status = running.run(program, words, given=running.INPUT, take=lambda line: last.__setitem__(0, line))
+    why = explains(last[0]) if explains else None
+    if why:
+        say(why)
     return status or (0 if re.search(is_good, last[0]) else 1)
 
 
 def check(words):
     """Judges rows or a book without an office: 1 where something is wrong."""
-    return judged("aid_office", [copies.needs_scratch("none.journal"), "check", *words], rb" errors 0$|^1 fine$")
+    words = [copies.needs_scratch("none.journal"), "check", *words]
+    if words[2:] == ["rows"]:
+        return judged("aid_office", words, rb" errors 0$")
+    copies.keep_input("book")
+    return judged("aid_office", words, rb"^1 fine$", book_line.where)
 
 
 def audit(word):

@@ -1,7 +1,7 @@
 """The table of commands: the words of each, what it is for, and what runs it. Help, completion, the man page and the judging of words go by it."""
 from dataclasses import dataclass
 
-from . import asking, copies, explain, guide, intake, lint, plot, programs, reconcile, rows, serving, settings, show, tables
+from . import approval, asking, before, copies, explain, guide, ids, letter, lint, plot, programs, reconcile, rows, serving, settings, show, tables
 from .words import CLERK, DAY, NUMBER, ROUND_NUMBER, SCHOOL, SOME_SCHOOL, STUDENT, TERM, YEAR, Argument, choice, number, optional, path, rest
 
 AID, SHEETS, LOANS, WORK, AUDIT = programs.PROGRAMS
@@ -19,6 +19,7 @@ class Command:
     program: str = ""       # the program that these very words are handed to
     files: bool = False     # whether it files into the journal
     copy: bool = False      # whether it runs on a copy of it
+    flags: tuple = ()       # words with hyphens that may stand behind, each with what it does
 
     @property
     def usage(self):
@@ -54,7 +55,7 @@ def filing(name, arguments, purpose, example, given="", program=AID):
 
 def reading(name, arguments, purpose, example, run=read):
     """A command that a program runs on a copy."""
-    return Command(name, run, arguments, purpose, example, program=SHEETS if run is sheet else AID, copy=True)
+    return Command(name, run, arguments, purpose, example, program=SHEETS if run is sheet else AID, copy=True, flags=NAMES)
 
 
 def own(name, run, arguments, purpose, example, copy=True, **more):
@@ -62,6 +63,9 @@ def own(name, run, arguments, purpose, example, copy=True, **more):
     return Command(name, run, arguments, purpose, example, copy=copy, **more)
 
 
+AGAIN = ("--again", "files also what is on file under another number"),
+NAMES = ("--names", "shows the id and the name of each student, of JOURNAL.ids.csv"),
+TABLE = ("--table", "prints the table of who gets what alone"), ("--csv", "prints it as comma-separated values"), *NAMES
 ROWS, FILES, BOOK = path("ROWS.csv"), path("ROWS.csv", most=16), path("BOOK.toml")
 A_WORD = lambda word: ""        # nothing is wrong with any
 A_COPY, A_NEW = Argument("COPY", "a file", A_WORD), Argument("NEW", "a new file", A_WORD)
@@ -69,7 +73,7 @@ PLACE, OF_TERM = (SCHOOL, STUDENT, YEAR, TERM), (SOME_SCHOOL, YEAR, TERM)
 FUND = SCHOOL, YEAR, TERM, number("AMOUNT", 1, 99_999_999), choice("level", "quarter"), ROUND_NUMBER
 MADE_UP = number("SEED", 0, 999_999_999_999), number("STUDENTS", 1, 20_000)
 SERVER = number("PORT", 1, 65_535), number("WORKERS", 1, 16), number("SESSIONS", 1, 1_000_000)
-TRIED = rest("COMMAND", "file, intake, book, fund, desks or generate with its words")
+TRIED = rest("COMMAND", "file, intake, book, fund, desks or generate with its words, or need STUDENT YEAR < APPLY.csv")
 STAMPED = DAY, CLERK, rest("COMMAND", "a command with its words")
 THEN = number("POSITION", 1, 4_294_967_295), rest("SHEET", "a sheet, or report, with its words")
 REPORTS = {
@@ -89,7 +93,7 @@ def report_as_csv(which, purpose):
     """The same as comma-separated values."""
     of_year = which in YEARLY
     run = lambda office, *year: tables.csv(office, which, *year)
-    return own(f"csv {which}", run, (YEAR,) * of_year, f"{purpose}, as CSV", f"csv {which}{' 2025' * of_year}")
+    return own(f"csv {which}", run, (YEAR,) * of_year, f"{purpose}, as CSV", f"csv {which}{' 2025' * of_year}", flags=NAMES)
 
 
 def set_stamps(office, word):
@@ -103,14 +107,14 @@ ON_JOURNAL = [
     filing("book", (NUMBER,), "files a year book under school 0 and this number", "book 1 < examples/2025.toml", "BOOK.toml"),
     filing("file", (), "files rows; 1 where one isn't on file", "file < examples/year.csv", "ROWS.csv"),
     own(
-        "intake", intake.intake, (ROWS, path("LEFT.csv", may_miss=True)), "the same of a file; LEFT gets rows not on file",
-        "intake examples/year.csv left.csv", copy=False, files=True,
+        "intake", before.take_in, (ROWS, path("LEFT.csv", may_miss=True)), "the same of a file; LEFT gets rows not on file",
+        "intake examples/year.csv left.csv", copy=False, files=True, flags=AGAIN,
     ),
     filing("desks", (FILES,), "files 1 to 16 files at once", "desks examples/first.csv examples/year.csv"),
     filing("fund", FUND, "awards a fund of FSEOG", "fund 110 2025 1 600 level 50"),
     filing("generate", MADE_UP, "files a made-up year, to try it with", "generate 7 20 < examples/2025.toml", "BOOK.toml"),
     Command("serve", serving.serve, SERVER, "answers HTTP on 127.0.0.1 (docs/HTTP.md)", "serve 8080 4 1000000", program=AID, files=True),
-    own("dry", None, (TRIED,), "tries a command that files, on a copy", "dry file < examples/year.csv"),
+    own("dry", None, (TRIED,), "tries a command that files, on a copy", "dry file < examples/year.csv", flags=(*AGAIN, *TABLE)),
     own("at", None, STAMPED, "stamps what it files with day and name", "at 2025-09-01 brown file < examples/year.csv", copy=False),
     own("upgrade", copies.upgrade, (path("OLD"),), "founds an office of what OLD (version 1) holds", "upgrade old.journal", copy=False),
     own("settings", settings.settings, (), "what is set", "settings", copy=False),
@@ -130,6 +134,13 @@ ON_JOURNAL = [
     reading("payments", OF_TERM, "what moved in a term", "payments 120 2025 2", sheet),
     reading("withdrawal", (SOME_SCHOOL, STUDENT, YEAR, TERM), "the worksheet of a withdrawal", "withdrawal 120 5001 2025 2", sheet),
     reading("upto", THEN, "a sheet as it was then (docs/SHEETS.md)", "upto 10 quotes 110 2025 1", sheet),
+    own("letter", letter.letter, (SOME_SCHOOL, STUDENT, YEAR, TERM), "a letter to a student who withdrew", "letter 120 5001 2025 2"),
+    own("lint", lint.lint_office, (), "names filings that look wrong, or are paid twice", "lint < examples/year.csv", input="ROWS.csv"),
+    own(
+        "rows", rows.run_office, (Argument("WORD", "the words of rows", A_WORD, True, 9),), "makes rows of a sheet's CSV, in which ids may stand",
+        "rows pay 110 600 < sheet.csv", copy=False, input="SHEET.csv",
+    ),
+    own("ids", ids.check, (), "checks the ids and names in JOURNAL.ids.csv", "ids", copy=False),
     own("next", tables.next_number, (SCHOOL,), "the number of the school's next row", "next 110"),
     own("backup", copies.backup, (A_COPY,), "copies the office, and opens the copy", "backup copy.journal"),
     own("since", copies.since, (A_COPY,), "whether all that COPY holds still stands", "since copy.journal"),
@@ -141,12 +152,17 @@ OF_LOANS = [
     filing("file", (), "files rows", "file < examples/loans.csv", "ROWS.csv", LOANS),
     filing("desks", (FILES,), "files 1 to 16 files at once", "desks examples/loans.csv", program=LOANS),
 ]
+OF_ROUND = choice("101", "102"), YEAR, ROUND_NUMBER
 OF_WORK = [
     Command("found", copies.found, (), "founds a work-study office there", "found", program=WORK),
     filing("file", (), "files rows", "file < examples/work.csv", "ROWS.csv", WORK),
-    filing(
-        "round", (choice("101", "102"), YEAR, ROUND_NUMBER), "awards the rest of a fund", "round 101 2025 10 < examples/work-round.csv",
-        "STUDENTS.csv", WORK,
+    Command(
+        "round", approval.work_round, OF_ROUND, "awards the rest of a fund", "round 101 2025 10 < examples/work-round.csv", "STUDENTS.csv", WORK,
+        files=True, flags=TABLE,
+    ),
+    Command(
+        "dry round", approval.dry_round, OF_ROUND, "tries a round, on a copy", "dry round 101 2025 10 < examples/work-round.csv", "STUDENTS.csv",
+        copy=True, flags=TABLE,
     ),
 ]
 DESKS = {"loans": (LOANS, OF_LOANS, "loan office", ""), "work": (WORK, OF_WORK, "work-study office", ", a round under further numbers")}
@@ -166,7 +182,7 @@ TOOLS = [
     ),
     Command("lint", lint.run, (), "names filings that look wrong; 1 where some do", "lint < examples/year.csv", "ROWS.csv"),
     Command(
-        "rows", rows.run, tuple(Argument(name, "", A_WORD, True) for name in ("KIND", "SCHOOL", "NUMBER")), "makes rows of a sheet's CSV",
+        "rows", rows.run, tuple(Argument(name, "", A_WORD, True) for name in ("KIND", "SCHOOL", "NUMBER")), "rows of a sheet; --template too",
         "rows pay 110 600 < sheet.csv", "SHEET.csv",
     ),
     Command("show", show.run, (BOOK, path("BEFORE.toml", may_miss=True)), "prints a year book in words and units", "show examples/2026.toml"),

@@ -3,6 +3,7 @@ import contextlib
 import hashlib
 import os
 import shutil
+import sys
 import tempfile
 import time
 
@@ -12,6 +13,7 @@ from .say import UPGRADED, refuse, say, say_known
 NO_COPY = 100
 TRIES = 3
 PIECE = 1 << 20
+MOST_INPUT = 1 << 24    # what the program reads at most
 
 
 class Left:
@@ -50,6 +52,20 @@ def needs_scratch(name):
 def opened_alone(path, flags):
     """A new file, or one that is emptied, for its owner alone."""
     return os.fdopen(os.open(path, os.O_WRONLY | os.O_CREAT | flags, 0o600), "wb")
+
+
+def keep_input(name):
+    """Keeps standard input, as much as the program reads of it and a byte more, in a file of this run, which is read in its place from then
+    on. The path, or nothing where there is no room for a file."""
+    path, left = scratch(name), MOST_INPUT + 1
+    if path:
+        with open(path, "wb") as file:
+            while left and (piece := sys.stdin.buffer.read(min(PIECE, left))):
+                file.write(piece)
+                left -= len(piece)
+        with open(path, "rb") as file:
+            os.dup2(file.fileno(), 0)
+    return path
 
 
 def copy_to(path, target, flags=os.O_TRUNC):

@@ -4,7 +4,7 @@ import os
 import time
 from dataclasses import dataclass
 
-from . import copies, intake, running, settings
+from . import approval, before, copies, ids, running, settings, what_if
 from .commands import DESKS, JUDGE_THEMSELVES, ON_JOURNAL, TOOLS, first_words, table_of
 from .office import Office
 from .say import refuse, say
@@ -12,7 +12,9 @@ from .words import CLERK, DAY, first_wrong, near, number, rest
 
 SECONDS = number("SECONDS", 1, 86_400)
 OTHER_NAMES = {"-h": "help", "--help": "help", "version": "--version"}
-TRIED = ("file", "book", "fund", "desks", "generate", "quote", "report")
+TRIED = ("file", "book", "fund", "desks", "generate", "quote", "report", "intake", "need")
+# What is tried in another way than it is run.
+TRIALS = {"intake": before.try_intake, "file": before.try_rows, "desks": before.try_rows, "fund": approval.dry_fund, "need": what_if.dry_need}
 SHEETS = ("list", "student", "need", "quotes", "payments", "withdrawal", "report")
 
 
@@ -73,7 +75,7 @@ def wrong_name(words, table, front):
 def refuse_wrong(office, command, behind, front):
     """Refuses words of a command that aren't right, with the one usage that fits, and the line of the program where it would have them."""
     wrong = first_wrong(command.name, command.arguments, behind)
-    nested = {"dry": TRIED + ("intake",), "upto": SHEETS}.get(command.name)
+    nested = {"dry": TRIED, "upto": SHEETS}.get(command.name)
     if not wrong and nested:
         words = behind[len(command.arguments) - 1 :]
         inner, inside = find(words, table_of(ON_JOURNAL))
@@ -109,10 +111,19 @@ def wait_for(path, seconds):
 
 def try_on_copy(office, words):
     """Tries a command on a copy of which nothing stays."""
-    if words[0] == "intake":
-        return intake.intake(office, *words[1:], copy=copies.try_on_copy(office))
-    office.words, copy = words, copies.try_on_copy(office)
+    office.words = words
+    if words[0] in TRIALS:
+        return TRIALS[words[0]](office, *words[1:])
+    copy = copies.try_on_copy(office)
     return office.plainly(copy) if words[0] in ("quote", "report") else office.file(copy)
+
+
+def without_flags(office, command, words):
+    """The words behind a command without its flags, which the office keeps."""
+    known = [name for name, _ in command.flags] if command else []
+    office.flags = [word for word in words if word in known]
+    office.words = [word for word in office.words if word not in office.flags]
+    return [word for word in words if word not in known]
 
 
 def split_stamp(words, options):
@@ -134,6 +145,7 @@ def on_journal(words, options):
         words = [words[0], *options_in(behind, options)]
         behind = words[1:]
     office = Office(path, words, stamp=stamp, options=options)
+    behind = without_flags(office, command, behind)
     if not wrong and command and command.name == "upgrade" and stamp:
         wrong = "upgrade takes no stamp"
     if wrong:
@@ -161,6 +173,8 @@ def run_on_journal(office, command, behind, options):
         running.say_at_work(path)
     if command.name == "dry":
         return try_on_copy(office, behind)
+    if "--names" in office.flags:
+        return ids.show(office, office.words)
     return command.run(office, *behind)
 
 
@@ -178,6 +192,7 @@ def other_desk(desk, words, options):
     command, behind = find(words, table_of(commands))
     if command is None:
         refuse(wrong_name(words, table_of(commands), front), 2)
+    behind = without_flags(office, command, behind)
     wrong = first_wrong(command.name, command.arguments, behind)
     if wrong:
         refuse(f"{wrong}: {front}{command.usage}", 2)
@@ -185,8 +200,6 @@ def other_desk(desk, words, options):
         refuse(f"there is no file {path}: mend the path, or found a {what} there by: office {desk} {path} found", 2)
     if command.files:
         running.State.files = f"what is on file in {path} stands: run the same again{again}"
-    if command.name == "round":
-        office.stands = "stands, so take further numbers"
     wait_for(path, options.wait)
     running.say_at_work(path)
     return command.run(office, *behind)

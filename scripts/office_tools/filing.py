@@ -5,10 +5,9 @@ import os
 import stat
 import sys
 
-from . import copies, settings
+from . import book_line, copies, settings
 from .say import say
 
-MOST_INPUT = 1 << 24
 csv.field_size_limit(sys.maxsize)
 
 
@@ -18,7 +17,7 @@ class Filed:
     def __init__(self, office, tells_stamp=False, total=None):
         self.office, self.tells_stamp, self.total = office, tells_stamp, total
         self.counts = {b"accepted": 0, b"again": 0, b"refused": 0, b"error": 0}
-        self.books = 0          # texts that are no book
+        self.book = b""         # the line of a text that is no book
         self.left = False       # a round's last line
 
     def take(self, line):
@@ -28,7 +27,7 @@ class Filed:
             words = words[2:]
         if len(words) > 2 and words[0].isdigit():
             kind = words[2] if words[1].isdigit() else words[1]
-            self.books += kind == b"book"
+            self.book = line if kind == b"book" else self.book
             self.add(kind, 1)
         elif len(words) == 2 and words[1].isdigit():
             self.left = self.left or words[0] == b"left"
@@ -54,8 +53,8 @@ class Filed:
     def status(self, lenient):
         """1 where something of the input isn't on file, with a sentence, unless that is to be let be."""
         refused, errors = self.counts[b"refused"], self.counts[b"error"]
-        if self.books:
-            say("the book isn't on file: office explain says why")
+        if self.book:
+            say(f"the book isn't on file: {book_line.where(self.book) or 'office explain says why'}")
         elif refused or errors:
             counts = [f"{count} {name}" for count, name in ((refused, "refused"), (errors, "no filings")) if count]
             say(f"{refused + errors} of {self.answered()} rows aren't on file: {', '.join(counts)}; office explain says why")
@@ -75,7 +74,7 @@ def count_rows(data):
 def rows_told(words):
     """How many rows a command will read, where its input is ordinary files."""
     if words[0] == "file" and stat.S_ISREG(os.fstat(0).st_mode):
-        return count_rows(os.pread(0, MOST_INPUT + 1, os.lseek(0, 0, os.SEEK_CUR)))
+        return count_rows(os.pread(0, copies.MOST_INPUT + 1, os.lseek(0, 0, os.SEEK_CUR)))
     if words[0] == "desks" and all(map(os.path.isfile, words[1:])):
         return sum(count_rows(copies.text_of(path)) for path in words[1:])
     return None

@@ -11,7 +11,7 @@ ON_A_COPY = [
     (("quote", "why"), "what may be paid, and why no more"),
     (("report standing", "report awards", "report returns", "report export", "report lifetime", "report stamps"), ""),
     (("csv standing", "csv awards", "csv returns", "csv lifetime", "csv stamps"), "as CSV"),
-    (("list", "student", "need", "quotes", "payments"), ""), (("withdrawal",), "sheets that people read"), "upto", "next", "backup", "since", "salvage",
+    (("list", "student", "need", "quotes", "payments"), ""), (("withdrawal", "letter"), "sheets that people read"), "upto", (("next", "ids"), "a school's next number; the file of ids and names"), "backup", "since", "salvage",
 ]
 ALONE = [
     "help", "check", "explain", "lint", "rows", "show", (("plot",), ""), "reconcile", (("pay-rows", "carry"), ""),
@@ -79,6 +79,8 @@ def help_on(words):
         for argument in command.arguments:
             if argument.says:
                 print(f"  {argument.name}: {argument.says}")
+        for name, says in command.flags:
+            print(f"  {name} behind it {says}.")
         if command.copy:
             print("  It runs on a copy, also while another run holds JOURNAL.")
         print(f"  example: {front.replace('JOURNAL', 'books.journal')}{command.example}")

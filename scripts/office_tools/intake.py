@@ -59,11 +59,13 @@ class Told:
     """What each row was answered, by its number."""
 
     def __init__(self):
-        self.words = {}
+        self.words, self.positions = {}, {}
 
     def take(self, line):
         """Takes a reply line."""
         words = line.split()
+        if words[2:3] == [b"accepted"]:
+            self.positions[int(words[0])] = int(words[3])
         if len(words) > 1 and words[0].isdigit():
             self.words[int(words[0])] = words[2] if words[1].isdigit() and len(words) > 2 else words[1]
 
@@ -84,26 +86,44 @@ def tell(rows, told, left, status):
     return status or (1 if out else 0)
 
 
-def intake(office, path, left="", copy=None):
-    """Files rows, on a copy where one is said, and tells by the status whether all of them stand. LEFT gets the others."""
+def run_file(office, copy, path, take, is_quiet):
+    """Files the rows of a file, and takes the reply lines, which are printed too unless it is to be quiet."""
+    with open(path, "rb") as given:
+        if not is_quiet:
+            return office.run(["file"], copy, given=given, take=take, keeps_on=True)
+        with open(copies.needs_scratch("lines"), "wb") as out:
+            status = office.run(["file"], copy, given=given, out=out)
+    for line in copies.text_of(copies.scratch("lines")).splitlines():
+        take(line)
+    return status
+
+
+def intake(office, path, left="", is_dry=False, before=None, after=None, is_quiet=False):
+    """Files rows, or tries them on a copy, and tells by the status whether all of them stand. LEFT gets the others. Nothing is filed where
+    what looks at the rows before gives a status; what comes after is handed the copy and the answers."""
     if not (os.path.isfile(path) and os.access(path, os.R_OK)):
         refuse(f"{path} is no file that can be read: mend the path, or its rights", 2)
     if left:
         look_at_left(left, (office.journal, path))
     rows, told, status = rows_of(path), Told(), 130
-    filed = filing.Filed(office, copy is None and not office.stamp, len(rows))
+    filed = filing.Filed(office, not is_dry and not office.stamp, len(rows))
     running.State.tells = filed.progress
-    hurt = None if copy else office.hurt()
+    hurt = None if is_dry else office.hurt()
 
     def take(line):
         told.take(line)
         filed.take(line)
 
     try:
-        if hurt is None:
-            with open(path, "rb") as given:
-                status = office.run(["file"], copy, given=given, take=take, keeps_on=True)
+        status = before(rows) if before else 0
+        if status:
+            pass
+        elif hurt is None:
+            copy = copies.try_on_copy(office) if is_dry else None
+            status = run_file(office, copy, path, take, is_quiet)
             office.say_status(status)
+            if after and not status:
+                status = after(copy, told)
         else:
             status = 7
             office.say_hurt(hurt)

@@ -13,7 +13,7 @@ class Office:
 
     def __init__(self, path, words, program="aid_office", stamp=(), options=None):
         self.journal, self.words, self.program, self.stamp = path, words, program, list(stamp)
-        self.options = options
+        self.options, self.flags = options, []
         self.stands = "is answered again"
         self.takes_stamp = self.salvages = program == "aid_office"
 
@@ -56,6 +56,8 @@ class Office:
         if running.is_told():
             filed.total = filing.rows_told(self.words)
             running.State.tells = filed.progress
+        if self.words[0] in ("book", "generate"):
+            copies.keep_input("book")
         status = self.run(self.words, copy, given=running.INPUT if reads else None, take=filed.take)
         self.say_status(status)
         return status or filed.status(self.lenient)

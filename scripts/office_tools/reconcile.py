@@ -14,6 +14,7 @@ import sys
 from collections import Counter, defaultdict
 
 from . import sheet
+from .amounts import money
 from .say import refuse, visible
 from .sheet import Bad, heading
 
@@ -32,10 +33,6 @@ def cents(text):
     below = re.fullmatch(r"\(([^-]*)\)|-([^-]*)|([^-]*)-", bare)
     amount = sheet.amount("".join(part or "" for part in below.groups()) if below else bare)
     return (-1 if below else 1) * int(amount.replace(".", ""))
-
-
-def money(amount):
-    return f"{'-' if amount < 0 else ''}{abs(amount) // 100}.{abs(amount) % 100:02}"
 
 
 def ledger_of(path):

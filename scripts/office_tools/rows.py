@@ -1,103 +1,113 @@
 """Makes rows that the office files of a spreadsheet's CSV with headings. All of them, or none.
 
-usage: office rows [KIND [SCHOOL [NUMBER]]] < SHEET.csv      KIND and SCHOOL where the sheet has no such columns, NUMBER for
-its first row where it has no numbers
+usage: office rows [KIND [SCHOOL [NUMBER]]] [--year-begins | --year-ends] < SHEET.csv      KIND and SCHOOL where the sheet has no such
+columns, NUMBER for its first row where it has no numbers; a plain year of a heading as Award Year is the one in which it begins or ends
+       office rows --names [KIND]      the headings that a sheet may have
+       office rows KIND --template     a sheet to fill in
+       office JOURNAL rows ..          the same, where students may stand by their ids (ids.py)
 """
-import os
 import re
 import sys
 
-from . import TOP, sheet
+from . import columns, ids, sheet, template
+from .columns import BREAKS, KEY
 from .say import refuse, say
 from .sheet import Bad, heading
 
-PAGE = os.path.join(TOP, "docs", "FILINGS.md")
-# Usual headings beside the names of the page.
-ALSO = {
-    "filing_number": "number", "desk": "school", "school_code": "school", "student_id": "student", "student_number": "student",
-    "award_year": "year", "aid_year": "year", "amount": "cents", "dollars": "cents", "hours": "credits", "credit_hours": "credits",
-    "coa": "cost", "cost_of_attendance": "cost", "lda": "last", "last_day": "last", "last_date_of_attendance": "last",
-    "date_of_determination": "determined", "institutional_charges": "charges", "first_day": "first", "type": "kind",
-}
 READS = {"a day": sheet.day, "dollars and cents": sheet.amount, "1 for yes": sheet.flag, "one of": sheet.program}
-# The columns of breaks: `break_1_first`, `break_1_last`, ..
-BREAKS = [f"break_{at}_{end}" for at in range(1, 9) for end in ("first", "last")]
 MOST = 20           # sentences that are told
+YEARS = {"--year-begins": "begins", "--year-ends": "ends"}
 
 
-def columns():
-    """The names and readers of each kind's columns, from the page of filings."""
-    with open(PAGE, encoding="utf-8") as page:
-        text = page.read().split("## A year book")[0]
-    kinds = {}
-    for part in text.split("\n## ")[1:]:
-        name, table = part.split("\n", 1)
-        kinds[name] = {column: reader(column, form) for column, form in re.findall(r"^\| \d+ \| (\w+) \| .* \| ([^|]*) \|$", table, re.M)}
-    return kinds
-
-
-def said(name):
-    """A column by its name and a usual heading."""
-    usual = next((word for word, column in ALSO.items() if column == name), None)
-    return f"{name} ({usual.replace('_', ' ')})" if usual else name
-
-
-def reader(column, form):
+def reader(column):
     """How the cells of a column are read, by its form."""
-    if column == "year":
-        return sheet.award_year
-    return next((read for word, read in READS.items() if form.startswith(word)), sheet.whole)
+    return next((read for word, read in READS.items() if column.form.startswith(word)), sheet.whole)
 
 
 class Sheet:
     """Rows in the making, and what is wrong with the sheet."""
 
-    def __init__(self, kind, school, number):
-        self.kinds = columns()
-        self.kind, self.school, self.number = kind, school, number
-        self.made, self.wrong, self.keys = [], [], {}
+    def __init__(self, headings, kind, school, number, years, known):
+        self.kinds = columns.read()
+        self.nothing = {(kind, each.name) for kind, of_kind in self.kinds.items() for each in of_kind if columns.is_nothing_where_empty(kind, each)}
+        self.headings, self.kind, self.school, self.number, self.years, self.known = headings, kind, school, number, years, known
+        self.made, self.wrong, self.keys, self.of, self.asked, self.missing = [], [], {}, {}, False, set()
 
-    def look_at_headings(self, names):
+    def look_at_headings(self):
         """Refuses a sheet of which no row can be made."""
         if self.kind is not None and self.kind not in self.kinds:
             refuse(f"there is no kind {self.kind}: " + ", ".join(self.kinds), 2)
-        twice = {name for name in names if names.count(name) > 1}
-        if twice:
-            refuse(f"two columns are {', '.join(sorted(twice))}: put a # in front of one heading to leave it out")
+        # the key has the same headings whatever the kind
+        names = [columns.fits("", [], told) for told in self.headings]
         for name, what, words in (
             ("kind", self.kind, "rows KIND"), ("school", self.school, "rows KIND SCHOOL"), ("number", self.number, "rows KIND SCHOOL NUMBER"),
         ):
             if name not in names and what is None:
                 refuse(f"the sheet has no column {name}: add one, or say it, as in office {words} < SHEET.csv")
+        self.kind_heading = self.headings[names.index("kind")] if "kind" in names else None
+        if self.kind is not None:
+            self.fitted(self.kind)
+
+    def fitted(self, kind):
+        """The column of a kind that each heading is, or none."""
+        if kind not in self.of:
+            fits = {told: columns.fits(kind, self.kinds[kind], told) for told in self.headings}
+            names = [fits[told] or heading(told) for told in self.headings]
+            twice = {name for name in names if names.count(name) > 1}
+            if twice:
+                refuse(f"two columns are {', '.join(sorted(twice))}: put a # in front of one heading to leave it out")
+            self.of[kind] = fits
+        return self.of[kind]
 
     def bad(self, sentence):
+        """Takes a sentence on what is wrong."""
         self.wrong.append(sentence)
 
-    def take(self, at, line, row):
-        """Makes a row of the cells of a line, each told with its heading."""
-        kind = row["kind"][1].lower() if row.get("kind", ("", ""))[1] else self.kind
+    def take(self, at, line, told):
+        """Makes a row of the cells of a line, by their headings."""
+        word = told.get(self.kind_heading, "")
+        kind = word.lower() if word else self.kind
         if kind not in self.kinds:
             self.bad(f"line {line}: `{kind or ''}` is no kind of filing")
             return
+        of = self.fitted(kind)
+        self.look_at_columns(at, line, kind, told, of)
+        row = {of[name]: (name, cell) for name, cell in told.items() if of[name]}
         breaks = [name for name in BREAKS if kind == "calendar" and row.get(name, ("", ""))[1]]
-        known = {"kind", "school", "number", *self.kinds[kind], *(BREAKS if kind == "calendar" else [])}
-        for name in sorted(set(row) - known):
-            # in a sheet of one kind a column that it doesn't have is wrong, in one of several kinds a cell
-            if row[name][1] or self.kind is not None and "kind" not in row:
-                self.bad(f"line {line}: {kind} has no column {row[name][0]}: put a # in front of its heading to leave it out")
-        cells = [kind]
-        for name, read in [("school", sheet.whole), ("number", sheet.whole), *self.kinds[kind].items(), *((name, sheet.day) for name in breaks)]:
-            cells.append(self.cell(at, line, kind, row, name, read, len(breaks)))
+        reads = dict.fromkeys(KEY[1:], sheet.whole) | {column.name: reader(column) for column in self.kinds[kind]} | dict.fromkeys(breaks, sheet.day)
+        cells = [kind, *(self.cell(at, line, kind, row, name, read, len(breaks)) for name, read in reads.items())]
         self.made.append(",".join(cells))
         self.look_at_key(line, tuple(cells[1:3]))
 
+    def look_at_columns(self, at, line, kind, told, of):
+        """Names what fits no column: in a sheet of one kind a heading, once, and in one of several kinds a cell."""
+        is_one = self.kind is not None and self.kind_heading is None
+        for name in sorted(name for name in told if of[name] is None):
+            if at == 0 if is_one else told[name]:
+                way = f"put a # in front of its heading to leave it out; office rows --names {kind} has all"
+                self.bad(f"line {line}: {kind} has no column {name}: {way}")
+
+    def read(self, name, read, told, cell):
+        """The text of a cell that isn't empty."""
+        if name == "year":
+            return sheet.said_year(cell, heading(told) == "year", self.years)
+        if name == "student" and self.known.by_number and not cell.isdecimal():
+            cell = self.known.number_of(cell)
+            if not cell.isdecimal():
+                raise Bad("is no whole number, and no id that is known")
+        return read(cell)
+
     def cell(self, at, line, kind, row, name, read, breaks):
         """The text of one column."""
-        if name in row and row[name][1]:
+        told, cell = row.get(name, ("", ""))
+        if cell:
             try:
-                text = read(row[name][1])
+                text = self.read(name, read, told, cell)
             except Bad as bad:
-                self.bad(f"line {line}, {row[name][0]}: `{row[name][1]}` {bad}")
+                # what years mean is asked once
+                if not (self.asked and isinstance(bad, sheet.Asked)):
+                    self.bad(f"line {line}, {told}: `{cell}` {bad}")
+                self.asked = self.asked or isinstance(bad, sheet.Asked)
                 return ""
             if name == "breaks" and breaks != 2 * int(text):
                 self.bad(f"line {line}: {text} breaks, and {breaks} days of breaks: each has a break_1_first and a break_1_last")
@@ -110,10 +120,14 @@ class Sheet:
             return self.school
         if name == "number" and self.number is not None:
             return str(int(self.number) + at)
+        if name in row and (kind, name) in self.nothing:
+            return "0"
         if name in row:
             self.bad(f"line {line}: {name} is empty")
-        else:
-            self.bad(f"line {line}: {kind} has a column {said(name)}, and the sheet hasn't: add one")
+        elif (kind, name) not in self.missing:
+            # of a column that isn't there one line is told
+            self.missing.add((kind, name))
+            self.bad(f"line {line}: {kind} has a column {columns.said(kind, name)}, and the sheet hasn't: add one")
         return ""
 
     def look_at_key(self, line, key):
@@ -123,16 +137,16 @@ class Sheet:
         self.keys.setdefault(key, line)
 
 
-def main(kind=None, school=None, number=None):
+def main(kind, school, number, years, known):
+    """Makes rows of the sheet on standard input, in which a student may stand by an id that is known."""
     try:
         names, rows = sheet.read(sys.stdin.buffer.read())
     except Bad as bad:
         refuse(f"the sheet can't be read: {bad}")
-    of = {name: ALSO.get(heading(name), heading(name)) for name in names if name and not name.startswith("#")}
-    making = Sheet(kind, school, number)
-    making.look_at_headings([of[name] for name in names if name in of])
-    for at, (line, cells) in enumerate(rows):
-        making.take(at, line, {of[name]: (name, cell) for name, cell in cells.items() if name in of})
+    making = Sheet([name for name in names if name and not name.startswith("#")], kind, school, number, years, known)
+    making.look_at_headings()
+    for at, (line, cells) in enumerate(row for row in rows if not template.is_note(row[1])):
+        making.take(at, line, {name: cells[name] for name in making.headings})
     if making.wrong:
         for sentence in making.wrong[:MOST]:
             say(sentence)
@@ -145,9 +159,30 @@ def main(kind=None, school=None, number=None):
     say(f"{count} made: keep and file this text, again if need be, and don't make it anew")
 
 
-def run(words):
-    """Makes rows of the sheet on standard input."""
-    if len(words) > 3 or any(not re.fullmatch(r"0|[1-9]\d*", word, re.ASCII) for word in words[1:]):
-        refuse("rows takes a kind, a school and a first number at most", 2)
-    main(*words)
+def show_names(words):
+    """Prints the headings that a sheet may have, of one kind or of all."""
+    kinds = columns.read()
+    if len(words) > 1 or words and words[0] not in kinds:
+        refuse("rows --names takes a kind: " + ", ".join(kinds), 2)
+    for line in columns.listed({kind: kinds[kind] for kind in words or kinds}):
+        print(line)
+
+
+def run(words, known=None):
+    """Makes rows of the sheet on standard input, or prints the headings that it may have, or a sheet to fill in."""
+    if "--names" in words:
+        show_names([word for word in words if word != "--names"])
+        return 0
+    if "--template" in words:
+        return template.run([word for word in words if word != "--template"])
+    plain, years = [word for word in words if word not in YEARS], {YEARS[word] for word in words if word in YEARS}
+    if len(plain) > 3 or len(years) > 1 or any(not re.fullmatch(r"0|[1-9]\d*", word, re.ASCII) for word in plain[1:]):
+        refuse("rows takes a kind, a school and a first number at most, and one of --year-begins and --year-ends", 2)
+    kind, school, number = (plain + [None] * 3)[:3]
+    main(kind, school, number, years.pop() if years else None, known or ids.Known())
     return 0
+
+
+def run_office(office, *words):
+    """The same with the ids of the file beside an office."""
+    return run(words, ids.needed(office.journal))

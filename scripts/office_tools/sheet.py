@@ -101,6 +101,28 @@ def award_year(cell):
     return found[1]
 
 
+class Asked(Bad):
+    """A year that may be one of two."""
+
+
+def said_year(cell, is_ours, means):
+    """An award year by the year in which it begins. A plain year is that year where the heading `is_ours`, or by what it `means`: `begins` or
+    `ends`. Else one is asked, as for a year without its century."""
+    short = re.fullmatch(r"(\d{2})[-/](\d{2})", cell, re.ASCII)
+    if short and means:
+        return award_year(f"20{cell}")
+    if short and (int(short[1]) + 1) % 100 == int(short[2]):
+        raise Asked(f"has no century: write 20{short[1]}-{short[2]}, or say --year-begins or --year-ends: by either it is 20{short[1]}-{short[2]}")
+    year = award_year(cell)
+    if year != cell or means == "begins" or is_ours and not means:
+        return year
+    before, behind = (f"{first}-{(first + 1) % 100:02}" for first in (int(year) - 1, int(year)))
+    if not means:
+        ways = f"--year-ends, by which it is {before} as COD calls it, or --year-begins, by which it is {behind}"
+        raise Asked(f"may be {before} or {behind}: write it so, or say {ways}")
+    return str(int(year) - 1)
+
+
 FLAGS = {word: number for number, words in (("1", "1 yes y true"), ("0", "0 no n false")) for word in words.split()}
 
 
