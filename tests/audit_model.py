@@ -7,7 +7,7 @@ from dataclasses import fields
 from datetime import date, timedelta
 
 sys.path.append(os.path.join(os.path.dirname(os.path.dirname(os.path.abspath(__file__))), "scripts"))
-import year_book
+from office_tools import year_book
 import desk
 import model
 import records

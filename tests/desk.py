@@ -10,7 +10,7 @@ from datetime import date
 sys.path.append(os.path.join(os.path.dirname(os.path.dirname(os.path.abspath(__file__))), "scripts"))
 import generated
 import model
-import year_book
+from office_tools import year_book
 
 PROGRAM_WORDS = ["unsub", "sub", "plus", "pell", "fseog", "teach"]
 SPELLING, RANGE = 3, 4

@@ -4,7 +4,7 @@ import os
 import sys
 
 sys.path.append(os.path.join(os.path.dirname(os.path.dirname(os.path.abspath(__file__))), "scripts"))
-import year_book
+from office_tools import year_book
 import worked
 
 SPECIMEN = year_book.read(worked.SPECIMEN)

@@ -6,7 +6,7 @@ from dataclasses import fields, is_dataclass
 from datetime import date
 
 sys.path.append(os.path.join(os.path.dirname(os.path.dirname(os.path.abspath(__file__))), "scripts"))
-import year_book
+from office_tools import year_book
 import desk
 import model
 import worked

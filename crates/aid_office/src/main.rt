@@ -88,7 +88,13 @@ fn open_inputs(
 fn open_source(rt: &HostRuntime, words: &[String]) -> Option<File> {
     let path = upgrade_file(words)?;
     match File::open(rt, path) {
-        Ok(file) => { if take_to_read(rt, &file) { Some(file) } else { None } }
+        Ok(file) => {
+            if take_to_read(rt, &file) {
+                Some(file)
+            } else {
+                None
+            }
+        }
         Err(error) => {
             let _ = eprintln!(rt; "{path} can't be opened: {error}");
             None

@@ -1,21 +1,18 @@
-#!/usr/bin/env python3
 """Prints a year book in words and units, and marks the figures that are far from those of the book before it.
 
-usage: show.py BOOK.toml [BEFORE.toml]      without the second, the specimen of examples/ is the book before
+usage: office show BOOK.toml [BEFORE.toml]      without the second, the specimen of examples/ is the book before
 """
 import os
-import signal
 import sys
 
-sys.dont_write_bytecode = True
-import year_book
+from . import TOP, year_book
+from .say import visible
 
-TOP = os.path.dirname(os.path.dirname(os.path.abspath(__file__)))
 SPECIMEN = os.path.join(TOP, "examples", "2025.toml")
 PAGE = os.path.join(TOP, "docs", "FILINGS.md")
 
 
-def words():
+def page_words():
     """What each field is, by its key, as the page of filings says it."""
     with open(PAGE) as page:
         lines = page.read().split("## A year book")[1].splitlines()
@@ -80,25 +77,31 @@ def show(now, before, said):
             show_key(section, key, unit, holder[key], other.get(key, holder[key]), said[f"{section}.{key}".lstrip(".")])
 
 
+def end(sentence):
+    """Ends with a sentence on standard error."""
+    print(visible(sentence), file=sys.stderr)
+    raise SystemExit(1)
+
+
 def read(path):
     """The book of a file; without one the program ends with a sentence."""
     try:
         with open(path, "rb") as file:
             return year_book.read(file.read())
     except OSError as error:
-        sys.exit(f"show: {path} can't be read: {error.strerror}.")
+        end(f"show: {path} can't be read: {error.strerror}.")
     except year_book.NotABook as error:
-        sys.exit(f"show: {path} is no year book. {error}")
+        end(f"show: {path} is no year book. {error}")
 
 
-if __name__ == "__main__":
-    # A reader that takes some of the lines alone, as head does, ends the program without a word.
-    signal.signal(signal.SIGPIPE, signal.SIG_DFL)
-    if len(sys.argv) not in (2, 3):
-        sys.exit("usage: office show BOOK.toml [BEFORE.toml]")
-    path = sys.argv[2] if sys.argv[2:] else SPECIMEN
+def run(words):
+    """Prints the book of a path beside the one before it."""
+    if len(words) not in (1, 2):
+        end("usage: office show BOOK.toml [BEFORE.toml]")
+    path = words[1] if words[1:] else SPECIMEN
     before = read(path)
-    now = read(sys.argv[1])
+    now = read(words[0])
     law = "" if now["form"] == before["form"] else f" That one is of form {before['form']}, and this one of form {now['form']}."
     print(f"Year book of the award year {now['year']}-{(now['year'] + 1) % 100:02}; figures are marked that are far from those of {os.path.basename(path)} ({before['year']}).{law}\n")
-    show(now, before, words())
+    show(now, before, page_words())
+    return 0

@@ -1,18 +1,16 @@
-#!/usr/bin/env python3
 """Draws a report of the office, as the program prints it: what each school's students have of each program, Scheduled Awards by
 Student Aid Index, what schools have to return by the week in which it is due, or lifetime use. Draws an SVG picture, the same
 bytes on every machine, or, where PICTURE is -, a histogram in text.
 
-usage: plot.py standing|awards|returns YEAR [PICTURE.svg] < REPORT      without PICTURE, awards-YEAR.svg and the like
-       plot.py lifetime [PICTURE.svg] < REPORT
+usage: office plot standing|awards|returns YEAR [PICTURE.svg] < REPORT      without PICTURE, awards-YEAR.svg and the like
+       office plot lifetime [PICTURE.svg] < REPORT
 """
 import datetime
-import signal
 import sys
 from collections import Counter, defaultdict
 
-sys.dont_write_bytecode = True
-from svg import Picture, ticks
+from .say import refuse
+from .svg import Picture, ticks
 
 PROGRAMS = {"unsub": "#4e79a7", "sub": "#a0cbe8", "plus": "#f28e2b", "pell": "#59a14f", "fseog": "#b6992d", "teach": "#e15759"}
 STUDENTS, DOLLARS = "#c9d3df", "#2f6f3e"
@@ -21,12 +19,6 @@ STEP = 1_000            # a bar of the Student Aid Index
 PAST = 16_000           # an index past which nothing is drawn
 USE_STEP, USE_LIMIT = 50_000, 600_000
 WEEK = datetime.timedelta(days=7)
-
-
-def refuse(sentence, status=1):
-    """Ends with a sentence on standard error."""
-    print(f"office: {sentence}", file=sys.stderr)
-    sys.exit(status)
 
 
 def lines_of(text, columns):
@@ -190,7 +182,10 @@ KINDS = {
 def main(which, year, name):
     """Draws the report on standard input."""
     read, write, draw, title = KINDS[which]
-    told = read(sys.stdin.read())
+    try:
+        told = read(sys.stdin.read())
+    except (ValueError, OverflowError):
+        refuse("this is no such report: it has other columns, or was cut short")
     if name == "-":
         print(f"{title}, {year}" if year else title)
         write(told)
@@ -204,11 +199,9 @@ def main(which, year, name):
     print(name)
 
 
-if __name__ == "__main__":
-    # A reader that takes some of the lines alone, as head does, ends the program without a word.
-    signal.signal(signal.SIGPIPE, signal.SIG_DFL)
-    signal.signal(signal.SIGINT, signal.SIG_DFL)
-    which, *words = sys.argv[1:] or [""]
+def run(words):
+    """Draws the report on standard input in a picture, or in text."""
+    which, *words = words or [""]
     if which not in KINDS:
         refuse("there is no such report: plot takes standing, awards or returns with a YEAR, or lifetime")
     year = None
@@ -220,3 +213,4 @@ if __name__ == "__main__":
     if len(words) > 1 or name != "-" and not name.endswith(".svg"):
         refuse("a picture is a file whose name ends in .svg, or - for text")
     main(which, year, name)
+    return 0

@@ -3,19 +3,13 @@ import csv
 import datetime
 import io
 import re
-import sys
 
+MOST_DIGITS = 30     # more than any number of a filing has
 MARKS = ((b"\xef\xbb\xbf", "utf-8"), (b"\xff\xfe", "utf-16-le"), (b"\xfe\xff", "utf-16-be"))
 
 
 class Bad(Exception):
     """A cell, or a sheet, that can't be read: what is wrong with it."""
-
-
-def refuse(sentence, status=1):
-    """Ends with a sentence on standard error."""
-    print(f"office: {sentence}", file=sys.stderr)
-    sys.exit(status)
 
 
 def text_of(data):
@@ -72,7 +66,7 @@ def read(data):
 def amount(cell):
     """An amount as $1,145.00, 1145, 1145.5 or 1145.00, with two decimals."""
     found = re.fullmatch(r"\$?(\d{1,3}(?:,\d{3})+|\d+)(?:\.(\d{1,2}))?", cell.replace(" ", ""), re.ASCII)
-    if not found:
+    if not found or len(cell) > MOST_DIGITS:
         raise Bad("is no amount of dollars and cents")
     return f"{int(found[1].replace(',', ''))}.{(found[2] or '').ljust(2, '0')}"
 
@@ -93,7 +87,7 @@ def day(cell):
 def whole(cell):
     """A whole number as 1145, 1,145, $1,145 or 1145.0."""
     found = re.fullmatch(r"(-?)\$?(\d{1,3}(?:,\d{3})+|\d+)(?:\.0*)?", cell.replace(" ", ""), re.ASCII)
-    if not found:
+    if not found or len(cell) > MOST_DIGITS:
         raise Bad("is no whole number")
     number = int(found[2].replace(",", ""))
     return str(-number if found[1] else number)
@@ -105,6 +99,28 @@ def award_year(cell):
     if not found or found[2] and int(found[2]) % 10 ** len(found[2]) != (int(found[1]) + 1) % 10 ** len(found[2]):
         raise Bad("is no award year as 2025 or 2025-26")
     return found[1]
+
+
+class Asked(Bad):
+    """A year that may be one of two."""
+
+
+def said_year(cell, is_ours, means):
+    """An award year by the year in which it begins. A plain year is that year where the heading `is_ours`, or by what it `means`: `begins` or
+    `ends`. Else one is asked, as for a year without its century."""
+    short = re.fullmatch(r"(\d{2})[-/](\d{2})", cell, re.ASCII)
+    if short and means:
+        return award_year(f"20{cell}")
+    if short and (int(short[1]) + 1) % 100 == int(short[2]):
+        raise Asked(f"has no century: write 20{short[1]}-{short[2]}, or say --year-begins or --year-ends: by either it is 20{short[1]}-{short[2]}")
+    year = award_year(cell)
+    if year != cell or means == "begins" or is_ours and not means:
+        return year
+    before, behind = (f"{first}-{(first + 1) % 100:02}" for first in (int(year) - 1, int(year)))
+    if not means:
+        ways = f"--year-ends, by which it is {before} as COD calls it, or --year-begins, by which it is {behind}"
+        raise Asked(f"may be {before} or {behind}: write it so, or say {ways}")
+    return str(int(year) - 1)
 
 
 FLAGS = {word: number for number, words in (("1", "1 yes y true"), ("0", "0 no n false")) for word in words.split()}

@@ -70,12 +70,17 @@ def is_number(value):
 
 
 def are_numbers_of_toml(value):
-    """No integer of the text is past 64 bits, which TOML doesn't allow here."""
-    if isinstance(value, dict):
-        return all(are_numbers_of_toml(each) for each in value.values())
-    if isinstance(value, list):
-        return all(are_numbers_of_toml(each) for each in value)
-    return not is_number(value) or -2**63 <= value < 2**63
+    """No integer of the text is past 64 bits, which TOML doesn't allow here. A text may nest its values deeper than calls may."""
+    waiting = [value]
+    while waiting:
+        each = waiting.pop()
+        if isinstance(each, dict):
+            waiting += each.values()
+        elif isinstance(each, list):
+            waiting += each
+        elif is_number(each) and not -2**63 <= each < 2**63:
+            return False
+    return True
 
 
 def sections_of(book):
@@ -88,7 +93,9 @@ def read(text):
     """The tables of a book's text, or the first thing that is wrong with it."""
     try:
         book = tomllib.loads(text.decode("utf-8-sig"))
-    except (UnicodeDecodeError, tomllib.TOMLDecodeError) as error:
+    except RecursionError:
+        raise NotABook(1, "", "The text is no TOML: its lists or tables lie too deep in one another.") from None
+    except ValueError as error:
         raise NotABook(1, "", f"The text is no TOML: {error}.") from None
     if not are_numbers_of_toml(book):
         raise NotABook(1, "", "The text is no TOML: a number has more than 64 bits.")

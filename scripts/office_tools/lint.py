@@ -1,26 +1,21 @@
-#!/usr/bin/env python3
 """Names rows that are filings and look wrong: of kinds that can't be mended once they stand, and of what no rule holds. The
-thresholds are its own. Ends with 1 where a row looks wrong.
+thresholds are its own. Ends with 1 where a row looks wrong. Of an office it also names what is on file under another number.
 
-usage: lint.py < ROWS.csv
+usage: office lint < ROWS.csv, or office JOURNAL lint < ROWS.csv
 """
 import csv
 import datetime
 import io
-import signal
 import sys
 
-sys.dont_write_bytecode = True
-import sheet
+from . import before, listing, sheet, twice
+from .amounts import cents
+from .say import refuse, visible
 
 day = datetime.date.fromisoformat
 csv.field_size_limit(sys.maxsize)
 # Cents of a student's year by the law's annual limits of loans (34 CFR 685.203) and TEACH (34 CFR 686.21), which the office doesn't hold.
 MOST = {"sub": 550_000, "unsub": 2_050_000, "teach": 400_000}
-
-
-def cents(text):
-    return int(text.replace(".", ""))
 
 
 def around(year):
@@ -83,19 +78,37 @@ def looks_wrong(kind, *columns):
         return []
 
 
-def main():
+def paid_again(journal, rows):
+    """The rows that give again what is on file, each with its numbers, its kind and a sentence: one for a whole sheet."""
+    again = before.paid_again(journal, rows)
+    if twice.is_whole(again, rows):
+        return [([one.number for one in again], again[0].row[0], twice.told_whole(again))]
+    return [([one.number], one.row[0], twice.told(one)) for one in again]
+
+
+def main(journal=None):
+    """Prints what looks wrong, and how many rows do."""
     text = sheet.text_of(sys.stdin.buffer.read())
     rows = [row for row in csv.reader(io.StringIO(text, newline="")) if row]
-    found = [(number, row[0], sentence) for number, row in enumerate(rows, 1) for sentence in looks_wrong(*row)]
-    for number, kind, sentence in found:
-        print(f"{number} {kind}: {sentence}")
-    print(f"looked at {len(rows)} rows, {len({number for number, *_ in found})} look wrong")
+    found = [([number], row[0], sentence) for number, row in enumerate(rows, 1) for sentence in looks_wrong(*row)]
+    found += paid_again(journal, rows) if journal else []
+    for numbers, kind, sentence in sorted(found, key=lambda each: each[0][0]):
+        print(f"{twice.ranges(numbers)} {kind}: {visible(sentence)}")
+    print(f"looked at {len(rows)} rows, {len({number for numbers, *_ in found for number in numbers})} look wrong")
     return 1 if found else 0
 
 
-if __name__ == "__main__":
-    signal.signal(signal.SIGINT, signal.SIG_DFL)
-    signal.signal(signal.SIGPIPE, signal.SIG_DFL)
-    if len(sys.argv) > 1:
-        sheet.refuse("lint takes no words: office lint < ROWS.csv", 2)
-    sys.exit(main())
+def run(words):
+    """Looks at the rows on standard input."""
+    if words:
+        refuse("lint takes no words: office lint < ROWS.csv", 2)
+    return main()
+
+
+def lint_office(office):
+    """Looks at them beside what is on file in an office."""
+    try:
+        return main(office.journal)
+    except listing.NotListed as failed:
+        office.say_status(failed.status)
+        return failed.status

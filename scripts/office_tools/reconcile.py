@@ -1,7 +1,6 @@
-#!/usr/bin/env python3
 """Compares a bursar's ledger, a spreadsheet's CSV with headings, with what the office has. Ends with 1 where they differ.
 
-usage: reconcile.py LEDGER.csv < OFFICE.csv
+usage: office reconcile LEDGER.csv < OFFICE.csv
 
 OFFICE.csv has either each movement, in a column `amount`, as `office JOURNAL payments SCHOOL YEAR TERM` prints it: then a line of the
 ledger is compared by the number of the filing where it has one, else by student, program and amount. Texts of several terms may stand
@@ -11,13 +10,13 @@ ledger is summed by student and program. Either way school, year and term are co
 import csv
 import io
 import re
-import signal
 import sys
 from collections import Counter, defaultdict
 
-sys.dont_write_bytecode = True
-import sheet
-from sheet import Bad, heading, refuse
+from . import sheet
+from .amounts import money
+from .say import refuse, visible
+from .sheet import Bad, heading
 
 NAMES = {
     "number": "number reference filing_number", "student": "student student_id student_number", "program": "program fund",
@@ -34,10 +33,6 @@ def cents(text):
     below = re.fullmatch(r"\(([^-]*)\)|-([^-]*)|([^-]*)-", bare)
     amount = sheet.amount("".join(part or "" for part in below.groups()) if below else bare)
     return (-1 if below else 1) * int(amount.replace(".", ""))
-
-
-def money(amount):
-    return f"{'-' if amount < 0 else ''}{abs(amount) // 100}.{abs(amount) % 100:02}"
 
 
 def ledger_of(path):
@@ -145,13 +140,12 @@ def main(path):
     both = alone(office, ledger, names)
     for side, lines in zip(("office", "ledger"), both):
         for line in lines:
-            print(f"in the {side} alone: {told(line, place)}")
+            print(f"in the {side} alone: {visible(told(line, place))}")
     return 1 if any(both) else 0
 
 
-if __name__ == "__main__":
-    signal.signal(signal.SIGINT, signal.SIG_DFL)
-    signal.signal(signal.SIGPIPE, signal.SIG_DFL)
-    if len(sys.argv) != 2:
+def run(words):
+    """Compares the ledger of a path with what the office has, on standard input."""
+    if len(words) != 1:
         refuse("reconcile takes a ledger: office reconcile LEDGER.csv < PAYMENTS.csv", 2)
-    sys.exit(main(sys.argv[1]))
+    return main(*words)
