@@ -7,7 +7,7 @@ from office_tools import journal
 from rows import AT_BROWN, BROWN, FILINGS, GREEN, PLAIN, file_ahead, file_of, old_file_of, record
 
 HEAD = bytes.fromhex("01 4149445045 4c4c31 02000000 000000")
-# A loan office's limits, a borrower and a loan, as docs/LOANS.md has their columns, and a work-study fund: without stamps.
+# A loan office's limits, a borrower and a loan, as docs/DESKS.md has their columns, and a work-study fund: without stamps.
 LOANS = [bytes([101 + at]) + bytes(4) + (at + 1).to_bytes(8, "little") + bytes(30) for at in range(3)]
 
 
