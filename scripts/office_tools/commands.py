@@ -201,8 +201,8 @@ TOOLS = [
     Command("carry", tables.carry, (NUMBER,), "makes rows of prior use for the next office", "carry 100 < lifetime.txt", "LIFETIME"),
     Command("audit", lambda words: asking.audit("audit"), (), "checks an export (docs/AUDIT.md)", "audit < export.txt", "EXPORT"),
     Command("clock", lambda words: asking.audit("clock"), (), "answers rows of clock-hour programs", "clock < rows.csv", "ROWS.csv"),
-    Command("loans", None, (path("JOURNAL"), rest("..", "found, file or desks")), "the Direct Loan desk (docs/LOANS.md)", "loans loans.journal found"),
-    Command("work", None, (path("JOURNAL"), rest("..", "found, file or round")), "the work-study fund (docs/WORK.md)", "work work.journal found"),
+    Command("loans", None, (path("JOURNAL"), rest("..", "found, file or desks")), "the Direct Loan desk (docs/DESKS.md)", "loans loans.journal found"),
+    Command("work", None, (path("JOURNAL"), rest("..", "found, file or round")), "the work-study fund (docs/DESKS.md)", "work work.journal found"),
     Command("completion", guide.completion, (choice("bash"),), "prints what completes these words in a shell", "completion bash > office.bash"),
     Command("man", guide.man, (), "prints this as a manual page", "man > office.1"),
 ]
