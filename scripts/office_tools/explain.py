@@ -61,15 +61,18 @@ class Columns:
 
 def rows_of(path):
     """The rows of a file as they stand there, without empty lines. A field in quotes may hold line ends."""
-    rows, text = [], ""
+    rows, lines, quotes = [], [], 0
     for line in lines_of(path):
         line = line.removesuffix("\r")
-        if not rows and not text:
+        if not rows and not lines:
             line = line.removeprefix("\ufeff")
-        text = f"{text}\n{line}" if text else line
-        if text and text.count('"') % 2 == 0:
-            rows.append(text)
-            text = ""
+        if not line and not lines:
+            continue
+        lines.append(line)
+        quotes += line.count('"')
+        if quotes % 2 == 0:
+            rows.append("\n".join(lines))
+            lines = []
     return rows
 
 

@@ -1,4 +1,6 @@
 """Texts: control characters, reply lines in words, tables, rows that are left, and what became of a run."""
+import tempfile
+import time
 import unittest
 
 from office_tools import explain, filing, intake, say, sheet, tables, year_book
@@ -22,6 +24,21 @@ class Explained(unittest.TestCase):
     def test_columns(self):
         for row, want in [("a,b", ["a", "b"]), ('"a,b",c', ["a,b", "c"]), ('"a""b"', ['a"b']), ("", [""]), (",", ["", ""]), ('"x\ny",z', ["x\ny", "z"])]:
             self.assertEqual(explain.columns_of(row), want)
+
+    def test_rows(self):
+        with tempfile.NamedTemporaryFile() as file:
+            for data, want in [
+                (b"a,b\r\n\r\nc\n", ["a,b", "c"]), (b'\xef\xbb\xbf"a\n\nb",c\nd', ['"a\n\nb",c', "d"]), (b'a\n"b\nc\n', ["a"]), (b"", []),
+                # a quote that isn't closed, in front of many lines: they are looked at once
+                (b"a\n" + b'"b\n' + 200_000 * b"some more\n", ["a"]),
+            ]:
+                file.seek(0)
+                file.truncate()
+                file.write(data)
+                file.flush()
+                began = time.monotonic()
+                self.assertEqual(explain.rows_of(file.name), want)
+                self.assertLess(time.monotonic() - began, 20)
 
     def test_amounts(self):
         # days are counted from 1900-01-01, units of which 100,000 are an award
