@@ -5,6 +5,7 @@ import re
 import sys
 
 from . import TOP
+from .amounts import money
 from .say import refuse, visible
 
 TABLES = ["business", "age", "bracket"]
@@ -94,11 +95,6 @@ def columns_of(row):
     return parts
 
 
-def dollars(cents):
-    """An amount of cents."""
-    return f"{cents // 100}.{cents % 100:02}"
-
-
 def amount(number, unit):
     """A number of a refusal in words, by its unit."""
     share = f"{number / 1000:.3f} percent of an award"
@@ -108,8 +104,8 @@ def amount(number, unit):
         except OverflowError:
             return str(number)
     return {
-        "cents": f"{dollars(number)} dollars", "dollars": f"{number} dollars", "units": share, "position": f"filing {number}",
-        "either": f"{dollars(number)} dollars, or {share}",
+        "cents": f"{money(number)} dollars", "dollars": f"{number} dollars", "units": share, "position": f"filing {number}",
+        "either": f"{money(number)} dollars, or {share}",
     }.get(unit, str(number))
 
 
