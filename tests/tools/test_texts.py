@@ -3,7 +3,7 @@ import tempfile
 import time
 import unittest
 
-from office_tools import explain, filing, intake, say, sheet, tables, year_book
+from office_tools import explain, filing, intake, lint, say, sheet, tables, year_book
 
 
 class Visible(unittest.TestCase):
@@ -16,6 +16,15 @@ class Visible(unittest.TestCase):
         ]:
             self.assertEqual(say.visible(text), want)
         self.assertEqual(say.visible("a\nb\x1b", "\n"), "a\nb\\x1b")
+
+
+class Looked(unittest.TestCase):
+    """What no rule of the office holds of a payment: the annual limits of loans (34 CFR 685.203) and of TEACH (34 CFR 686.21)."""
+
+    def test_limits(self):
+        for program, most in [("sub", 5_500), ("unsub", 20_500), ("teach", 4_000)]:
+            for cents, found in [("00", 0), ("01", 1)]:
+                self.assertEqual(len(lint.looks_wrong("pay", "110", "1", "5001", "2025", "1", program, f"{most}.{cents}")), found, (program, cents))
 
 
 class Explained(unittest.TestCase):
