@@ -2,9 +2,14 @@
 
 usage: python3 -I -B scripts/office_tools WORDS..     from any folder: what lies there isn't imported
 """
+import contextlib
 import os
+import signal
 import sys
 
+# Until the run takes signals, Ctrl-C ends it as any program, without words of Python's own.
+if signal.getsignal(signal.SIGINT) == signal.default_int_handler:
+    signal.signal(signal.SIGINT, signal.SIG_DFL)
 # the folder of the package, where its path was run
 sys.path[0] = os.path.dirname(os.path.dirname(os.path.abspath(__file__)))
 OLDEST = (3, 11)
@@ -51,7 +56,8 @@ def main():
     if status == 130 and running.State.files:
         say.say(f"stopped; {running.State.files}")
     # what couldn't be written isn't written again
-    sys.stderr.flush()
+    with contextlib.suppress(OSError):
+        sys.stderr.flush()
     os._exit(status or 0)
 
 

@@ -5,6 +5,8 @@ from . import approval, asking, before, copies, explain, guide, ids, letter, lin
 from .words import CLERK, DAY, NUMBER, ROUND_NUMBER, SCHOOL, SOME_SCHOOL, STUDENT, TERM, YEAR, Argument, choice, number, optional, path, rest
 
 AID, SHEETS, LOANS, WORK, AUDIT = programs.PROGRAMS
+NAMES = ("--names", "shows the id and the name of each student, of JOURNAL.ids.csv"),
+NO_NAMES = ("--names", "is refused, since an export goes to an auditor as it is"),
 
 
 @dataclass(frozen=True)
@@ -53,9 +55,9 @@ def filing(name, arguments, purpose, example, given="", program=AID):
     return Command(name, filed, arguments, purpose, example, given, program, files=True)
 
 
-def reading(name, arguments, purpose, example, run=read):
+def reading(name, arguments, purpose, example, run=read, flags=NAMES):
     """A command that a program runs on a copy."""
-    return Command(name, run, arguments, purpose, example, program=SHEETS if run is sheet else AID, copy=True, flags=NAMES)
+    return Command(name, run, arguments, purpose, example, program=SHEETS if run is sheet else AID, copy=True, flags=flags)
 
 
 def own(name, run, arguments, purpose, example, copy=True, **more):
@@ -64,7 +66,6 @@ def own(name, run, arguments, purpose, example, copy=True, **more):
 
 
 AGAIN = ("--again", "files also what is on file under another number"),
-NAMES = ("--names", "shows the id and the name of each student, of JOURNAL.ids.csv"),
 TABLE = ("--table", "prints the table of who gets what alone"), ("--csv", "prints it as comma-separated values"), *NAMES
 ROWS, FILES, BOOK = path("ROWS.csv"), path("ROWS.csv", most=16), path("BOOK.toml")
 A_WORD = lambda word: ""        # nothing is wrong with any
@@ -83,10 +84,10 @@ REPORTS = {
 YEARLY = ("standing", "awards", "returns", "export")
 
 
-def report(which, purpose):
+def report(which, purpose, flags=NAMES):
     """A report of the office."""
     of_year = which in YEARLY
-    return reading(f"report {which}", (YEAR,) * of_year, purpose, f"report {which}{' 2025' * of_year}")
+    return reading(f"report {which}", (YEAR,) * of_year, purpose, f"report {which}{' 2025' * of_year}", flags=flags)
 
 
 def report_as_csv(which, purpose):
@@ -125,7 +126,7 @@ ON_JOURNAL = [
     reading("quote", PLACE, "the greatest Pell payment in whole dollars", "quote 110 5001 2025 1", asking.quote),
     own("why", asking.why, PLACE, "that quote, and why not one dollar more", "why 120 5001 2025 1", program=AID),
     *(report(which, purpose) for which, purpose in REPORTS.items()),
-    report("export", "all filings, for an auditor"),
+    report("export", "all filings, for an auditor", NO_NAMES),
     *(report_as_csv(which, purpose) for which, purpose in REPORTS.items()),
     reading("list", (), "what was filed, each filing as a row", "list", sheet),
     reading("student", (STUDENT,), "all about one student", "student 5001", sheet),
@@ -201,10 +202,11 @@ TOOLS = [
     Command("carry", tables.carry, (NUMBER,), "makes rows of prior use for the next office", "carry 100 < lifetime.txt", "LIFETIME"),
     Command("audit", lambda words: asking.audit("audit"), (), "checks an export (docs/AUDIT.md)", "audit < export.txt", "EXPORT"),
     Command("clock", lambda words: asking.audit("clock"), (), "answers rows of clock-hour programs", "clock < rows.csv", "ROWS.csv"),
-    Command("loans", None, (path("JOURNAL"), rest("..", "found, file or desks")), "the Direct Loan desk (docs/DESKS.md)", "loans loans.journal found"),
-    Command("work", None, (path("JOURNAL"), rest("..", "found, file or round")), "the work-study fund (docs/DESKS.md)", "work work.journal found"),
-    Command("completion", guide.completion, (choice("bash"),), "prints what completes these words in a shell", "completion bash > office.bash"),
+    Command("loans", None, (path("JOURNAL"), rest("COMMAND", "found, file or desks")), "the Direct Loan desk (docs/DESKS.md)", "loans loans.journal found"),
+    Command("work", None, (path("JOURNAL"), rest("COMMAND", "found, file, round or dry round")), "the work-study fund (docs/DESKS.md)", "work work.journal found"),
+    Command("completion", guide.completion, (choice("bash", "zsh"),), "prints what completes these words in a shell", "completion bash > office.bash"),
     Command("man", guide.man, (), "prints this as a manual page", "man > office.1"),
+    Command("install", installing.install, (path("PREFIX"),), "puts all of this under a folder, as PREFIX/bin/office", "install ~/.local"),
 ]
 # Tools that say themselves what is wrong with their words.
 JUDGE_THEMSELVES = ("lint", "rows", "show", "plot", "reconcile", "pay-rows", "carry")

@@ -69,9 +69,12 @@ def keep_input(name):
 
 
 def copy_to(path, target, flags=os.O_TRUNC):
-    """Copies a journal. A copy is an office at any time, also while another run writes. Whether it could be made."""
+    """Copies a journal. A copy is an office at any time, also while another run writes. Whether it could be made. What memory alone has of
+    the journal, since a device lost it, is let go first, as a run of the program does: it isn't on file."""
     try:
         with open(path, "rb") as source, opened_alone(target, flags) as copy:
+            os.fsync(source.fileno())
+            os.posix_fadvise(source.fileno(), 0, 0, os.POSIX_FADV_DONTNEED)
             shutil.copyfileobj(source, copy, PIECE)
     except OSError:
         return False

@@ -154,6 +154,8 @@ def on_journal(words, options):
     if command is None or command.name == "at":
         if not any(name.startswith(f"{''.join(words[:1])} ") and not of.program for name, of in table.items()):
             office.write(b"fault usage\n")
+        if stamp and find(words[1:], table)[0]:
+            refuse(f"at: `{words[0]}` is no command: a clerk's name has no blank: {front}at DAY CLERK COMMAND..", 2)
         refuse(wrong_name(words, table, front), 2)
     refuse_wrong(office, command, behind, front)
     return run_on_journal(office, command, behind, options)

@@ -5,6 +5,7 @@ import re
 import sys
 
 from . import TOP
+from .amounts import money
 from .say import refuse, visible
 
 TABLES = ["business", "age", "bracket"]
@@ -61,15 +62,18 @@ class Columns:
 
 def rows_of(path):
     """The rows of a file as they stand there, without empty lines. A field in quotes may hold line ends."""
-    rows, text = [], ""
+    rows, lines, quotes = [], [], 0
     for line in lines_of(path):
         line = line.removesuffix("\r")
-        if not rows and not text:
+        if not rows and not lines:
             line = line.removeprefix("\ufeff")
-        text = f"{text}\n{line}" if text else line
-        if text and text.count('"') % 2 == 0:
-            rows.append(text)
-            text = ""
+        if not line and not lines:
+            continue
+        lines.append(line)
+        quotes += line.count('"')
+        if quotes % 2 == 0:
+            rows.append("\n".join(lines))
+            lines = []
     return rows
 
 
@@ -91,11 +95,6 @@ def columns_of(row):
     return parts
 
 
-def dollars(cents):
-    """An amount of cents."""
-    return f"{cents // 100}.{cents % 100:02}"
-
-
 def amount(number, unit):
     """A number of a refusal in words, by its unit."""
     share = f"{number / 1000:.3f} percent of an award"
@@ -105,8 +104,8 @@ def amount(number, unit):
         except OverflowError:
             return str(number)
     return {
-        "cents": f"{dollars(number)} dollars", "dollars": f"{number} dollars", "units": share, "position": f"filing {number}",
-        "either": f"{dollars(number)} dollars, or {share}",
+        "cents": f"{money(number)} dollars", "dollars": f"{number} dollars", "units": share, "position": f"filing {number}",
+        "either": f"{money(number)} dollars, or {share}",
     }.get(unit, str(number))
 
 

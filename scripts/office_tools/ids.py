@@ -85,7 +85,11 @@ def read(journal):
         names, rows = sheet.read(copies.text_of(path))
     except sheet.Bad as bad:
         refuse(f"{path} can't be read: {bad}")
-    of = {sheet.heading(name): name for name in names}
+    headings = [sheet.heading(name) for name in names]
+    twice = [name for name in COLUMNS if headings.count(name) > 1]
+    if twice:
+        refuse(f"{path} has two columns {twice[0]}: its headings are number, id and name")
+    of = dict(zip(headings, names))
     missing = [name for name in COLUMNS if name not in of]
     if missing:
         refuse(f"{path} has no column {missing[0]}: its headings are number, id and name")

@@ -3,7 +3,7 @@ import csv
 import os
 import sys
 
-from . import copies, filing, running
+from . import copies, filing, ids, running, settings
 from .say import refuse, say
 
 # The bytes of a field may be any, and a field may be as long as a row.
@@ -104,7 +104,7 @@ def intake(office, path, left="", is_dry=False, before=None, after=None, is_quie
     if not (os.path.isfile(path) and os.access(path, os.R_OK)):
         refuse(f"{path} is no file that can be read: mend the path, or its rights", 2)
     if left:
-        look_at_left(left, (office.journal, path))
+        look_at_left(left, (office.journal, path, settings.path_of(office.journal), ids.path_of(office.journal)))
     rows, told, status = rows_of(path), Told(), 130
     filed = filing.Filed(office, not is_dry and not office.stamp, len(rows))
     running.State.tells = filed.progress

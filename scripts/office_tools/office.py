@@ -136,13 +136,13 @@ class Office:
             refuse(f"there is nothing in {self.journal} to tell of these names, or it has fewer filings", 1)
         return 0
 
-    def needs(self, words, program=None, tell=sys.stderr):
+    def needs(self, words, program=None):
         """The text of a command on a copy, whose status has to be 0."""
         if program:
             self.program, self.stamp = program, []
         status, text = copies.needs_copy(self, words)
         if status:
-            print(visible(text.decode("utf-8", "replace"), "\n"), end="", file=tell)
+            print(visible(text.decode("utf-8", "replace"), "\n"), end="", file=sys.stderr)
             self.say_status(status)
             raise SystemExit(status)
         return text.decode("ascii", "replace")

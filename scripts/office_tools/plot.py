@@ -9,6 +9,7 @@ import datetime
 import sys
 from collections import Counter, defaultdict
 
+from .amounts import cents
 from .say import refuse
 from .svg import Picture, ticks
 
@@ -27,10 +28,6 @@ def lines_of(text, columns):
     if last != ["rows", str(len(lines))] or any(len(line) != columns for line in lines):
         refuse("this is no such report: it has other columns, or was cut short")
     return lines
-
-
-def cents(text):
-    return int(text.replace(".", ""))
 
 
 def dollars(amount):

@@ -8,6 +8,7 @@ columns, NUMBER for its first row where it has no numbers; a plain year of a hea
 """
 import re
 import sys
+from collections import Counter
 
 from . import columns, ids, sheet, template
 from .columns import BREAKS, KEY
@@ -53,7 +54,7 @@ class Sheet:
         if kind not in self.of:
             fits = {told: columns.fits(kind, self.kinds[kind], told) for told in self.headings}
             names = [fits[told] or heading(told) for told in self.headings]
-            twice = {name for name in names if names.count(name) > 1}
+            twice = [name for name, count in Counter(names).items() if count > 1]
             if twice:
                 refuse(f"two columns are {', '.join(sorted(twice))}: put a # in front of one heading to leave it out")
             self.of[kind] = fits

@@ -1,4 +1,5 @@
 """What people are told: sentences on standard error, and statuses in words."""
+import contextlib
 import re
 import sys
 
@@ -16,8 +17,9 @@ def visible(text, keep=""):
 
 
 def say(sentence):
-    """A sentence on standard error."""
-    print(f"office: {visible(sentence)}", file=sys.stderr, flush=True)
+    """A sentence on standard error. Where that can't be written, the run goes on without it."""
+    with contextlib.suppress(OSError):
+        print(f"office: {visible(sentence)}", file=sys.stderr, flush=True)
 
 
 def refuse(sentence, status=1):

@@ -56,6 +56,7 @@ class OnFile:
     def __init__(self, rows):
         asking = [tuple(row) for row in rows if moves(row)]
         self.gifts = {place(row): [] for row in asking}
+        self.by_amount = {}     # the gifts of a place that had an amount, as it was given or as it was left
         self.asked = {row[1:3] for row in asking}
         self.used = set()
 
@@ -67,23 +68,30 @@ class OnFile:
             return
         gifts, amount = self.gifts[place(row)], int(units(row))
         if row[0] in TAKES:
-            take_back(gifts, amount)
+            changed = take_back(gifts, amount)
         else:
-            gifts.append(Gift(tuple(row), position, number, amount))
+            changed = [Gift(tuple(row), position, number, amount)]
+            gifts += changed
+        for gift in changed:
+            self.by_amount.setdefault((place(row), gift.left), []).append(gift)
 
     def like(self, row):
         """The first gift that a row gives again, if any."""
-        for gift in self.gifts[place(row)]:
-            if gift.left and gift.row[2] != row[2] and int(units(row)) in (int(units(gift.row)), gift.left):
+        amount = int(units(row))
+        for gift in self.by_amount.get((place(row), amount), ()):
+            if gift.left and gift.row[2] != row[2] and amount in (int(units(gift.row)), gift.left):
                 return gift
         return None
 
 
 def take_back(gifts, amount):
-    """Lowers the last gift of this very amount, or the last ones."""
+    """Lowers the last gift of this very amount, or the last ones. Those that are lowered."""
+    lowered = []
     for gift in [each for each in gifts if each.left == amount][-1:] or gifts[::-1]:
         taken = min(amount, gift.left)
         gift.left, amount = gift.left - taken, amount - taken
+        lowered += [gift] * (taken > 0)
+    return lowered
 
 
 def found(rows, on_file):

@@ -45,6 +45,12 @@ class Letters(unittest.TestCase):
         self.assertIn("So you owe 200.00, of which you repaid 50.00. You still owe 150.00.", said)
         self.assertIn("BY WHEN Within 45 days of the date of this letter pay 150.00 dollars to the school", said)
 
+    def test_the_lesser(self):
+        # of charges of 1,000 dollars 60 percent are 600, and 300 weren't earned: the school sends back these 300
+        said = text(K="300.00", L="1000.00", M="60.0", N="600.00", O={"pell": 300})
+        for words in ["Your charges of the term were 1000.00 dollars (box L). 60.0 percent", "of the charges that is 600.00 dollars (box N)", "Federal Pell Grant 300.00 box O"]:
+            self.assertIn(words, said)
+
     def test_loans(self):
         said = text(Q={"unsub": 100, "plus": 7}, due="none", O={"sub": 3})
         self.assertIn("You repay them under the terms of the loan, and needn't do anything now. Direct Unsubsidized Loan 100.00 box Q Direct PLUS Loan 7.00 box Q", said)
@@ -53,7 +59,7 @@ class Letters(unittest.TestCase):
     def test_all_is_earned(self):
         said = text(H="100.0", G={"pell": 10}, E={"pell": 4}, J="6.00", could={"pell": 6}, paid={"pell": 2})
         for words in ["more than 60 percent of a term has earned all of it", "All that was paid was earned.", "SENDS BACK Nothing (box O).", "WHAT YOU OWE Nothing (box Q).",
-                      "You earned 6.00 dollars more than was paid (box J)", "Paid since: 2.00.", "and could have been paid: Federal Pell Grant 6.00 not paid yet"]:
+                      "You earned 6.00 dollars more than was paid (box J)", "Paid since: 2.00.", "WHAT WAS PAID Federal Pell Grant 4.00 box E in all 4.00 box E and could have been paid: Federal Pell Grant 6.00 not paid yet"]:
             self.assertIn(words, said)
 
     def test_no_sheet(self):

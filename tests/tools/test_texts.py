@@ -1,7 +1,9 @@
 """Texts: control characters, reply lines in words, tables, rows that are left, and what became of a run."""
+import tempfile
+import time
 import unittest
 
-from office_tools import explain, filing, intake, say, sheet, tables, year_book
+from office_tools import explain, filing, intake, lint, say, sheet, tables, year_book
 
 
 class Visible(unittest.TestCase):
@@ -16,12 +18,36 @@ class Visible(unittest.TestCase):
         self.assertEqual(say.visible("a\nb\x1b", "\n"), "a\nb\\x1b")
 
 
+class Looked(unittest.TestCase):
+    """What no rule of the office holds of a payment: the annual limits of loans (34 CFR 685.203) and of TEACH (34 CFR 686.21)."""
+
+    def test_limits(self):
+        for program, most in [("sub", 5_500), ("unsub", 20_500), ("teach", 4_000)]:
+            for cents, found in [("00", 0), ("01", 1)]:
+                self.assertEqual(len(lint.looks_wrong("pay", "110", "1", "5001", "2025", "1", program, f"{most}.{cents}")), found, (program, cents))
+
+
 class Explained(unittest.TestCase):
     """Rows and columns as the office counts them, and numbers in words."""
 
     def test_columns(self):
         for row, want in [("a,b", ["a", "b"]), ('"a,b",c', ["a,b", "c"]), ('"a""b"', ['a"b']), ("", [""]), (",", ["", ""]), ('"x\ny",z', ["x\ny", "z"])]:
             self.assertEqual(explain.columns_of(row), want)
+
+    def test_rows(self):
+        with tempfile.NamedTemporaryFile() as file:
+            for data, want in [
+                (b"a,b\r\n\r\nc\n", ["a,b", "c"]), (b'\xef\xbb\xbf"a\n\nb",c\nd', ['"a\n\nb",c', "d"]), (b'a\n"b\nc\n', ["a"]), (b"", []),
+                # a quote that isn't closed, in front of many lines: they are looked at once
+                (b"a\n" + b'"b\n' + 200_000 * b"some more\n", ["a"]),
+            ]:
+                file.seek(0)
+                file.truncate()
+                file.write(data)
+                file.flush()
+                began = time.monotonic()
+                self.assertEqual(explain.rows_of(file.name), want)
+                self.assertLess(time.monotonic() - began, 20)
 
     def test_amounts(self):
         # days are counted from 1900-01-01, units of which 100,000 are an award

@@ -112,6 +112,19 @@ class Words(unittest.TestCase):
         self.assertEqual((len(self.sentences(rows, filed)), self.sentences(rows, filed)[-1]), (21, "10 more rows are on file already"))
 
 
+class Many(unittest.TestCase):
+    def test_one_student(self):
+        # of 30,000 rows each asks for its own amount alone: beside all those in front it would take minutes
+        rows = [pay(number, f"{number}.00") for number in range(1, 30_001)]
+        self.assertEqual(numbers([*rows, pay(30_001, "30000.00")], [pay(30_002, "7.50")]), [(30_001, "30000")])
+
+    def test_lowered_twice(self):
+        filed = [pay(6), pay(7, "30.00", kind="adjust"), pay(8, "20.00", kind="adjust")]
+        self.assertEqual(numbers([pay(9, "70.00")], filed), [])
+        self.assertEqual(numbers([pay(9, "50.00")], filed), [(1, "6")])
+        self.assertEqual(numbers([pay(9)], filed), [(1, "6")])
+
+
 class Lists(unittest.TestCase):
     def test_entries(self):
         lines = ["1 1970-01-01 - book,0,1,2025 noted\n", "2 2025-09-01 brown pay,110,6,5001,2025,1,pell,1145.00 paid 1145.00 50000\n", "rows 2\n"]
