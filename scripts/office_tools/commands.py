@@ -1,7 +1,7 @@
 """The table of commands: the words of each, what it is for, and what runs it. Help, completion, the man page and the judging of words go by it."""
 from dataclasses import dataclass
 
-from . import approval, asking, before, copies, explain, guide, ids, letter, lint, plot, programs, reconcile, rows, serving, settings, show, tables
+from . import approval, asking, before, copies, explain, guide, ids, installing, letter, lint, plot, programs, reconcile, rows, serving, settings, show, tables
 from .words import CLERK, DAY, NUMBER, ROUND_NUMBER, SCHOOL, SOME_SCHOOL, STUDENT, TERM, YEAR, Argument, choice, number, optional, path, rest
 
 AID, SHEETS, LOANS, WORK, AUDIT = programs.PROGRAMS
@@ -174,7 +174,7 @@ TOOLS = [
         "help", guide.help_on, (Argument("COMMAND", "a command", A_WORD, True, 2),), "all words, or those of a command with an example",
         "help report awards",
     ),
-    Command("--version", lambda words: programs.version(), (), "which program runs", "--version"),
+    Command("--version", lambda words: programs.version(), (), "which version, commit and programs these are", "--version"),
     Command("demo", lambda words: asking.demo(), (), "files a worked year into an office that goes", "demo"),
     Command("check", asking.check, (choice("rows", "book"),), "judges rows or a book; 1 on an error", "check rows < examples/year.csv", "FILE"),
     Command(

@@ -1,4 +1,6 @@
 """Help, the manual page and what a shell completes, of the table of commands."""
+from dataclasses import dataclass
+
 from .say import refuse
 from .words import near
 
@@ -15,7 +17,7 @@ ON_A_COPY = [
 ]
 ALONE = [
     "help", "check", "explain", "lint", "rows", "show", (("plot",), ""), "reconcile", (("pay-rows", "carry"), ""),
-    (("--version", "demo", "audit", "clock", "completion", "man"), ""), (("loans", "work"), "further desks"),
+    (("--version", "demo", "audit", "clock", "completion", "man"), ""), (("install", "loans", "work"), ""),
 ]
 FRONT = "in front of COMMAND: --lenient (0 for 1), --cut (KEEPING.md), --wait SECONDS"
 FOOT = """\
@@ -24,6 +26,43 @@ AUDIT_, SHEET_, LOANS_ and WORK_PROGRAM name another build. Status 0 is success,
 1 that something was found or isn't on file, 2 other words, 3 to 10 a fault.
 """
 WIDTH, COLUMN = 80, 29
+
+
+@dataclass
+class Completing:
+    """What completes words in a shell: a case for each word with others behind it, and the text around the cases."""
+    case: str
+    text: str
+
+
+IN_BASH = Completing("        {}) words='{}' ;;", """\
+_office() {{
+    local word=${{COMP_WORDS[COMP_CWORD]}} words=
+    case $COMP_CWORD in
+        1) words='{tools}' ;;
+        2) words='{commands}' ;;
+        3) case ${{COMP_WORDS[2]}} in
+{cases}
+        esac ;;
+    esac
+    COMPREPLY=($(compgen -W "$words" -- "$word"))
+    [ "$COMP_CWORD" = 2 ] || COMPREPLY+=($(compgen -f -- "$word"))
+}}
+complete -o filenames -F _office office ./office""")
+IN_ZSH = Completing("        {}) compadd -- {} ;;", """\
+#compdef office
+_office() {{
+    case $CURRENT in
+        2) compadd -- {tools} ;;
+        3) compadd -- {commands} ;;
+        4) case $words[3] in
+{cases}
+        esac ;;
+    esac
+    [ "$CURRENT" = 3 ] || _files
+}}
+compdef _office office ./office
+if [ "$funcstack[1]" = _office ]; then _office "$@"; fi""")
 
 
 def shared(commands):
@@ -100,27 +139,15 @@ def man(_words):
     return 0
 
 
-def completion(_words):
-    """Prints what completes these words in bash."""
+def completion(words):
+    """Prints what completes these words in a shell."""
     from .commands import ON_JOURNAL as commands, TOOLS, first_words
     groups = {}
     for command in commands:
         if " " in command.name:
             first, second = command.name.split()
             groups.setdefault(first, []).append(second)
-    cases = "\n".join(f"        {first}) words='{' '.join(second)}' ;;" for first, second in groups.items())
-    print(f"""\
-_office() {{
-    local word=${{COMP_WORDS[COMP_CWORD]}} words=
-    case $COMP_CWORD in
-        1) words='{' '.join(first_words(TOOLS))}' ;;
-        2) words='{' '.join(first_words(commands))}' ;;
-        3) case ${{COMP_WORDS[2]}} in
-{cases}
-        esac ;;
-    esac
-    COMPREPLY=($(compgen -W "$words" -- "$word"))
-    [ "$COMP_CWORD" = 2 ] || COMPREPLY+=($(compgen -f -- "$word"))
-}}
-complete -o filenames -F _office office ./office""")
+    form = IN_ZSH if words == ["zsh"] else IN_BASH
+    cases = "\n".join(form.case.format(first, " ".join(second)) for first, second in groups.items())
+    print(form.text.format(tools=" ".join(first_words(TOOLS)), commands=" ".join(first_words(commands)), cases=cases))
     return 0

@@ -16,6 +16,9 @@ PROGRAMS = {
     "audit_desk": ("AUDIT_PROGRAM", []),
 }
 SOURCES = (".rt", ".antt")
+VERSION = "1.0"
+# Of what was installed: the folder of the programs, that of those without proof in it, and the file that says of what it was made.
+INSTALLED, UNPROVED, RELEASE = "programs", "unproved", "release.txt"
 
 
 def named(name):
@@ -23,9 +26,14 @@ def named(name):
     return os.environ.get(PROGRAMS[name][0], "")
 
 
+def is_installed():
+    """Whether this is what was installed, and no checkout."""
+    return os.path.isdir(os.path.join(TOP, INSTALLED))
+
+
 def built(name):
     """The path of the proved program, which may not be there."""
-    return os.path.join(TOP, "crates", name, "out", name)
+    return os.path.join(TOP, INSTALLED, name) if is_installed() else os.path.join(TOP, "crates", name, "out", name)
 
 
 @functools.cache
@@ -43,7 +51,12 @@ def newest_source():
 def is_built(name):
     """Whether the proved program is there, and no source is newer."""
     path = built(name)
-    return os.path.isfile(path) and os.access(path, os.X_OK) and newest_source() <= os.path.getmtime(path)
+    return os.path.isfile(path) and os.access(path, os.X_OK) and (is_installed() or newest_source() <= os.path.getmtime(path))
+
+
+def is_proved(name):
+    """Whether what runs as this program is the proved one."""
+    return not named(name) and is_built(name)
 
 
 def kept_build(words):
@@ -64,6 +77,9 @@ def place(name):
         return named(name)
     if is_built(name):
         return built(name)
+    unproved = os.path.join(TOP, INSTALLED, UNPROVED, name)
+    if os.path.isfile(unproved):
+        return unproved
     if not shutil.which("rt"):
         refuse("the program isn't built, and there is no rt to build it or to run its sources", 127)
     path = kept_build(["--at", name])
@@ -93,19 +109,39 @@ def line_of(name, words, paths):
     return ["rt", "try", "--", *front, *(whole_path(word) if at in paths else word for at, word in enumerate(words))], os.path.join(TOP, "crates", name)
 
 
-def version():
-    """Which program runs, and of which toolchain."""
+def release():
+    """The version, and the commit of the checkout where it has one."""
+    installed = os.path.join(TOP, RELEASE)
+    if os.path.isfile(installed):
+        with open(installed, encoding="utf-8") as file:
+            return file.read().strip()
+    git = lambda *words: subprocess.run(["git", "-C", TOP, *words], stdin=subprocess.DEVNULL, stdout=subprocess.PIPE, stderr=subprocess.DEVNULL).stdout
+    commit = git("rev-parse", "--short=12", "HEAD").decode().strip() if shutil.which("git") else ""
+    changed = " with changes" if commit and git("status", "--porcelain", "--untracked-files=no") else ""
+    return f"office {VERSION}, commit {commit}{changed}" if commit else f"office {VERSION}"
+
+
+def state_of(name):
+    """What runs as a program, and whether it is proved."""
     from .copies import sum_of
-    name = "aid_office"
     if named(name):
-        print(f"{name}: {named(name)}, which OFFICE_PROGRAM names, sha256 {sum_of(named(name))}")
-    elif os.access(built(name), os.X_OK):
-        age = "newer than its sources" if is_built(name) else "older than its sources, which are run in its place"
-        print(f"{name}: {built(name)}, {age}, sha256 {sum_of(built(name))}")
-    else:
-        print(f"{name}: not built; rt ci proves and builds it, and until then its sources are run without their proof")
-    if not shutil.which("rt"):
-        print("there is no rt on this machine")
-        return 0
-    print(subprocess.run(["rt", "version"], stdin=subprocess.DEVNULL, stdout=subprocess.PIPE).stdout.decode("utf-8", "surrogateescape"), end="")
+        return f"{named(name)}, which {PROGRAMS[name][0]} names, sha256 {sum_of(named(name))}"
+    if is_built(name):
+        return f"{built(name)}, proved, sha256 {sum_of(built(name))}"
+    unproved = os.path.join(TOP, INSTALLED, UNPROVED, name)
+    if os.path.isfile(unproved):
+        return f"{unproved}, not proved, sha256 {sum_of(unproved)}"
+    kept = kept_build(["--at", name])
+    if kept:
+        return f"{kept}, not proved, sha256 {sum_of(kept)}"
+    return "not built; rt ci proves and builds it, and until then its sources are run without their proof"
+
+
+def version():
+    """Which version this is, of which commit, and what runs, of which toolchain."""
+    print(release())
+    for name in PROGRAMS:
+        print(f"{name}: {state_of(name)}")
+    if shutil.which("rt"):
+        print(subprocess.run(["rt", "version"], stdin=subprocess.DEVNULL, stdout=subprocess.PIPE).stdout.decode("utf-8", "surrogateescape"), end="")
     return 0

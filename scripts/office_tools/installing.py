@@ -1,0 +1,81 @@
+"""Puts the programs, the scripts, the pages, the manual page and what shells complete under a folder."""
+import contextlib
+import io
+import os
+import shutil
+
+from . import TOP, guide, programs
+from .say import refuse, say
+
+# What goes along from the top of the checkout.
+ALONG = ["LICENSE", "README.md", "docs", "examples", "office", os.path.join("scripts", "nightly"), os.path.join("scripts", "office_tools")]
+# What is printed into a file, and the file's place below the prefix.
+TEXTS = [
+    (guide.man, [], "share/man/man1/office.1"),
+    (guide.completion, ["bash"], "share/bash-completion/completions/office"),
+    (guide.completion, ["zsh"], "share/zsh/site-functions/_office"),
+]
+
+
+def printed(command, words):
+    """What a command prints."""
+    with contextlib.redirect_stdout(io.StringIO()) as text:
+        command(words)
+    return text.getvalue()
+
+
+def put_programs(folder):
+    """Copies each program: a proved one into programs/, and any other into programs/unproved/."""
+    for name in programs.PROGRAMS:
+        source = programs.place(name)
+        if not source:
+            refuse(f"{name} can't be built here, so nothing was installed", 1)
+        proved = programs.is_proved(name)
+        target = os.path.join(folder, programs.INSTALLED, "" if proved else programs.UNPROVED, name)
+        os.makedirs(os.path.dirname(target), exist_ok=True)
+        shutil.copy2(source, target)
+        if not proved:
+            say(f"{name} isn't proved, and stands in {programs.UNPROVED}/: run rt ci and install again")
+
+
+def put_tree(folder):
+    """Makes the folder of all that `office` needs."""
+    for name in ALONG:
+        source, target = os.path.join(TOP, name), os.path.join(folder, name)
+        os.makedirs(os.path.dirname(target), exist_ok=True)
+        if os.path.isdir(source):
+            shutil.copytree(source, target, ignore=shutil.ignore_patterns("__pycache__"))
+        else:
+            shutil.copy2(source, target)
+    put_programs(folder)
+    with open(os.path.join(folder, programs.RELEASE), "w", encoding="utf-8") as file:
+        file.write(programs.release() + "\n")
+
+
+def install(words):
+    """Makes PREFIX/lib/office with all of it, whole before it has its name, and PREFIX/bin/office that leads there."""
+    prefix = os.path.realpath(words[0])
+    place = os.path.join(prefix, "lib", "office")
+    fresh, old = f"{place}.new", f"{place}.old"
+    try:
+        for left in (fresh, old):
+            shutil.rmtree(left, ignore_errors=True)
+        os.makedirs(fresh)
+        put_tree(fresh)
+        if os.path.lexists(place):
+            os.rename(place, old)
+        os.rename(fresh, place)
+        shutil.rmtree(old, ignore_errors=True)
+        for command, behind, path in TEXTS:
+            path = os.path.join(prefix, path)
+            os.makedirs(os.path.dirname(path), exist_ok=True)
+            with open(path, "w", encoding="utf-8") as file:
+                file.write(printed(command, behind))
+        link = os.path.join(prefix, "bin", "office")
+        os.makedirs(os.path.dirname(link), exist_ok=True)
+        os.symlink(os.path.join("..", "lib", "office", "office"), f"{link}.new")
+        os.replace(f"{link}.new", link)
+    except OSError as error:
+        refuse(f"{error.filename or prefix}: {error.strerror}; what was installed before is there still, in {place} or {old}", 5)
+    print(f"{link}\n{place}")
+    return 0
