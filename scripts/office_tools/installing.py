@@ -3,12 +3,14 @@ import contextlib
 import io
 import os
 import shutil
+import tempfile
 
 from . import TOP, guide, programs
 from .say import refuse, say
 
 # What goes along from the top of the checkout.
 ALONG = ["LICENSE", "README.md", "docs", "examples", "office", os.path.join("scripts", "nightly"), os.path.join("scripts", "office_tools")]
+LINK = os.path.join("..", "lib", "office", "office")
 # What is printed into a file, and the file's place below the prefix.
 TEXTS = [
     (guide.man, [], "share/man/man1/office.1"),
@@ -52,30 +54,50 @@ def put_tree(folder):
         file.write(programs.release() + "\n")
 
 
-def install(words):
-    """Makes PREFIX/lib/office with all of it, whole before it has its name, and PREFIX/bin/office that leads there."""
-    prefix = os.path.realpath(words[0])
-    place = os.path.join(prefix, "lib", "office")
-    fresh, old = f"{place}.new", f"{place}.old"
+def look_at(place, link):
+    """Refuses a prefix at which something else has these names."""
+    if os.path.lexists(place) and not os.path.isfile(os.path.join(place, programs.RELEASE)):
+        refuse(f"{place} is there and wasn't installed by this: name another PREFIX, or move it away", 1)
+    if os.path.lexists(link) and not (os.path.islink(link) and os.readlink(link) == LINK):
+        refuse(f"{link} is there and wasn't installed by this: name another PREFIX, or move it away", 1)
+
+
+def put_in_place(place):
+    """Makes the folder, whole before it has its name. An older one that it takes the place of goes, or has its name again."""
+    os.makedirs(os.path.dirname(place), exist_ok=True)
+    work = tempfile.mkdtemp(prefix=".office-", dir=os.path.dirname(place))
+    fresh, old = os.path.join(work, "new"), os.path.join(work, "old")
     try:
-        for left in (fresh, old):
-            shutil.rmtree(left, ignore_errors=True)
         os.makedirs(fresh)
         put_tree(fresh)
         if os.path.lexists(place):
             os.rename(place, old)
-        os.rename(fresh, place)
-        shutil.rmtree(old, ignore_errors=True)
+        try:
+            os.rename(fresh, place)
+        except OSError:
+            if os.path.lexists(old):
+                os.rename(old, place)
+            raise
+    finally:
+        shutil.rmtree(work, ignore_errors=True)
+
+
+def install(words):
+    """Makes PREFIX/lib/office with all of it, and PREFIX/bin/office that leads there."""
+    prefix = os.path.realpath(words[0])
+    place, link = os.path.join(prefix, "lib", "office"), os.path.join(prefix, "bin", "office")
+    look_at(place, link)
+    try:
+        put_in_place(place)
         for command, behind, path in TEXTS:
             path = os.path.join(prefix, path)
             os.makedirs(os.path.dirname(path), exist_ok=True)
             with open(path, "w", encoding="utf-8") as file:
                 file.write(printed(command, behind))
-        link = os.path.join(prefix, "bin", "office")
-        os.makedirs(os.path.dirname(link), exist_ok=True)
-        os.symlink(os.path.join("..", "lib", "office", "office"), f"{link}.new")
-        os.replace(f"{link}.new", link)
+        if not os.path.lexists(link):
+            os.makedirs(os.path.dirname(link), exist_ok=True)
+            os.symlink(LINK, link)
     except OSError as error:
-        refuse(f"{error.filename or prefix}: {error.strerror}; what was installed before is there still, in {place} or {old}", 5)
+        refuse(f"{error.filename or prefix}: {error.strerror}; not all was installed", 5)
     print(f"{link}\n{place}")
     return 0
