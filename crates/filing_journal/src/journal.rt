@@ -203,10 +203,14 @@ impl<D: Disk> Journal<D> {
             → (header : Header) (before : Payloads) → Keeps D.Disk header self.old before
             → IfErr result (λ e. e ≡ PutError.DiskFault true → MayKeep D.Disk header self.new before payload.now) }
 
-        // At every moment of the call every image stands for the payloads before, or for them with this one.
+        // At every moment of the call every image stands for the payloads before, or for them with this one; where it isn't put, for those before.
         ensures moments { IsHonest (D.tells (journal_disk self.old))
             → (header : Header) (before : Payloads) → Keeps D.Disk header self.old before
             → EachMoment (D.tells (journal_disk self.old)) (D.tells (journal_disk self.new)) (BeforeOrWith header before payload.now) }
+        ensures not_put { IsHonest (D.tells (journal_disk self.old))
+            → (header : Header) (before : Payloads) → Keeps D.Disk header self.old before
+            → IfErr result (λ e. e ≡ PutError.DiskFault false
+            → EachMoment (D.tells (journal_disk self.old)) (D.tells (journal_disk self.new)) (λ file. StandsFor header file before)) }
 
         // Where the file ends right behind the closed gate, so does every image once the payload is on the disk.
         ensures ends { IsHonest (D.tells (journal_disk self.old))
@@ -260,10 +264,14 @@ impl<D: Disk> Journal<D> {
             → (header : Header) (before : Payloads) → Keeps D.Disk header self.old before
             → IfErr result (λ e. e ≡ PutError.DiskFault true → MayKeep D.Disk header self.new before payload.now) }
 
-        // At every moment of the call every image stands for the payloads before, or for them with this one.
+        // At every moment of the call every image stands for the payloads before, or for them with this one; where it isn't put, for those before.
         ensures moments { IsHonest (D.tells (journal_disk self.old))
             → (header : Header) (before : Payloads) → Keeps D.Disk header self.old before
             → EachMoment (D.tells (journal_disk self.old)) (D.tells (journal_disk self.new)) (BeforeOrWith header before payload.now) }
+        ensures not_put { IsHonest (D.tells (journal_disk self.old))
+            → (header : Header) (before : Payloads) → Keeps D.Disk header self.old before
+            → IfErr result (λ e. e ≡ PutError.DiskFault false
+            → EachMoment (D.tells (journal_disk self.old)) (D.tells (journal_disk self.new)) (λ file. StandsFor header file before)) }
 
         // Where the file ends right behind the closed gate and nothing is written ahead, so does every image once the payload is on the disk.
         ensures alone { IsHonest (D.tells (journal_disk self.old)) → next.now ≡ []

@@ -58,11 +58,19 @@ pub data Admitted (inputs : List DeskFiles) (lines : List ℕ) : ℕ → List (S
       → (words ≡ decimal count ++ codes " accepted " ++ decimal (count + 1) ++ codes " ") ⊎ (words ≡ codes "fault disk " ++ decimal (count + 1) ++ codes "\n") → Admitted inputs lines (count + 1) fs text
       → Admitted inputs lines count (f ∷ fs) ((codes "admitted " ++ decimal (count + 1) ++ codes " " ++ decimal by.desk ++ codes " " ++ decimal by.row ++ codes "\n") ++ text)
 
--- A run of many desks on a file that recovers a history: nothing was filed, or what the desks' rows added joins the history. Then each
--- image recovers it, or, where the status isn't 0, it and the filing of one row more. The text is cut short only where the status is 4.
+-- a file recovers a history that goes on from one and is an older part of another; or, where the status isn't 0, all of that and the
+-- filing of one row more
+abbrev pub OnTheWay : List DeskFiles → List (StampedEntry Filing) → List (StampedEntry Filing) → ℕ → List ℕ → Type 0
+OnTheWay inputs past closed status file = ((history : List (StampedEntry Filing)) × IsOlder past history × IsOlder history closed × Recovers file history)
+    ⊎ ((status ≢ 0) × (f : StampedEntry Filing) × (by : RowName) × FilesUnder (row_at inputs by) f × Recovers file (f ∷ closed))
+
+-- A run of many desks on a file that recovers a history: nothing was filed, or what the desks' rows added joins the history. At each moment
+-- each image is on the way there. At the end each recovers it, or, where the status isn't 0, it and the filing of one row more. The text is
+-- cut short only where the status is 4.
 pub data RanAtOnce (inputs : List DeskFiles) (past : List (StampedEntry Filing)) (old new : Telling) : List ℕ → ℕ → Type 0 where
   idle : (text cut : List ℕ) (status : ℕ) → IsFault text cut → (status ≢ 0) × (status ≢ 6) × (status ≢ 7) → EachMoment old new (λ file. Recovers file past) → RanAtOnce inputs past old new text status
   filed : (by : ℕ → RowName) (added : List (StampedEntry Filing)) (lines admitted text cut : List ℕ) (status : ℕ) → DeskTexts by past (added ++ past) status 1 inputs lines → Admitted inputs lines (length past) (reverse added) admitted
       → text ++ cut ≡ lines ++ admitted → (status ≢ 4 → cut ≡ []) → (status ≢ 6) × (status ≢ 7)
+      → EachMoment old new (OnTheWay inputs past (added ++ past) status)
       → EachImage new (λ file. Recovers file (added ++ past) ⊎ ((status ≢ 0) × (f : StampedEntry Filing) × (by : RowName) × FilesUnder (row_at inputs by) f × Recovers file (f ∷ added ++ past)))
       → RanAtOnce inputs past old new text status

@@ -59,7 +59,7 @@ module _ {D I Forms K Entry Ask Verdict Error Lines : Type 0} (scheme : Scheme E
       let shows = ends_as (open_line error) (open_status error) status n ends less is in let after = opened_after error in omega (arith, shows, after, less)
   files_other before status n (starved past _ opened ends) some less is =
       let shows = ends_as (codes "fault memory\n") 9 status n ends less is in omega (arith, shows, less)
-  files_other before status n (worked after past history pending log waiting at _ opened filed sound ends) some less is =
+  files_other before status n (worked after past history pending log waiting at _ opened filed sound moments ends) some less is =
       few_statuses after n some (λ e. omega (arith, e, less)) (λ e. omega (arith, e, less)) (ends_as _ (desks_status after) status n ends less is)
 
   pub usage : (status : ℕ) → RanCrew scheme judging own copied same texts untaken rows_of reads disk sink old new inputs inputs' out out' status → status ≡ 2 → AreFew (length inputs) → ⊥

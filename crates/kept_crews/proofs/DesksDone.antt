@@ -83,7 +83,7 @@ module _ {D I Forms K Entry Ask Verdict Error Lines : Type 0} (scheme : Scheme E
   all_filed : (before : List (DeskView Entry Lines)) (status : ℕ) → FilesAll scheme judging own copied same texts untaken disk sink old new before out out' status → (status ≡ 0) ⊎ (status ≡ 9)
   all_filed before status (unopened error _ u rose ends) = ended_early (open_line error) (open_status error) status (unopened_by error u rose) ends
   all_filed before status (starved past _ opened ends) = ended_early (codes "fault memory\n") 9 status refl ends
-  all_filed before status (worked after past history pending log waiting at _ opened filed sound ends) = filed_by _ _ before after _ status filed refl refl ends
+  all_filed before status (worked after past history pending log waiting at _ opened filed sound moments ends) = filed_by _ _ before after _ status filed refl refl ends
 
   pub desks_done : (status : ℕ) → RanCrew scheme judging own copied same texts untaken rows_of reads disk sink old new inputs inputs' out out' status → (status ≡ 0) ⊎ (status ≡ 9)
   desks_done status (unasked _ wrong kept unmoved ends) = absurd (wrong can.count)
@@ -97,7 +97,7 @@ files_honest : {D K Entry Ask Verdict Error Lines : Type 0} (scheme : Scheme Ent
     → (disk.tells new).honest ≡ (disk.tells old).honest
 files_honest scheme judging own copied same texts untaken disk sink old new before out out' status (unopened error _ u rose ends) = u.honest
 files_honest scheme judging own copied same texts untaken disk sink old new before out out' status (starved past _ opened ends) = opened.honest
-files_honest scheme judging own copied same texts untaken disk sink old new before out out' status (worked after past history pending log waiting at _ opened filed sound ends) = filed.ran.fixed ∙ opened.honest
+files_honest scheme judging own copied same texts untaken disk sink old new before out out' status (worked after past history pending log waiting at _ opened filed sound moments ends) = filed.ran.fixed ∙ opened.honest
 
 -- a run makes no disk honest, and none dishonest
 pub desks_honest : {D I Forms K Entry Ask Verdict Error Lines : Type 0} (scheme : Scheme Entry) (judging : Judging Entry Ask Verdict) (own copied : Ask → Option Entry) (same : Entry → Entry → Bool)

@@ -6,6 +6,7 @@ use Rattle.std.proofs.lemmas.List.Elements.{Contains-append_cases}
 use Rattle.std.proofs.lemmas.List.Sorted.{Contains-permutation}
 use Rattle.kept_list.specs.Scheme.{Judging, Scheme}
 use Rattle.kept_list.specs.Texts.{Texts}
+use Rattle.kept_list.specs.Turns.{with_entry}
 use Rattle.kept_desks.specs.Answered.{Answer, Ends, admitted_of, admitted_row, placed}
 use Rattle.kept_desks.specs.Desks.{DeskView, left_in, mine_in, settled_in}
 use Rattle.kept_list.specs.Names.{filed_by, filed_list, no_row, rows_of}
@@ -14,10 +15,10 @@ use Rattle.kept_list.specs.declared.names.RowName.{RowName}
 use Rattle.kept_desks.specs.declared.stop.DeskEnd.{DeskEnd}
 use Rattle.kept_desks.specs.declared.stop.DeskEnd.TheVariants.{Open, Done, Stopped}
 use Rattle.kept_desks.specs.declared.stop.DeskStop.TheVariants.{DiskFault, NoMemory}
-use Rattle.kept_desks.specs.Shares.{stand_of}
+use Rattle.kept_desks.specs.Shares.{stand_of, RecoversBetween}
 use Rattle.office_lock.specs.Passes.{Known, numbered}
 use Rattle.office_lock.specs.declared.turned.Stand.{Stand}
-use Rattle.disk_model.specs.Telling.{IsHonest}
+use Rattle.disk_model.specs.Telling.{EachMoment, IsHonest}
 use Rattle.disk_model.specs.declared.disk.Disk.{Ghosts as DiskGhosts}
 use Rattle.aid_edges.specs.declared.sink.Sink.{Ghosts as SinkGhosts}
 use Rattle.kept_list.specs.Kept.{IsSound}
@@ -178,12 +179,14 @@ pub files_worked : {D K Entry Ask Verdict Error Lines : Type 0} (scheme : Scheme
     (disk : DiskGhosts D) (sink : SinkGhosts K) (old at closed new : D) (before after : List (DeskView Entry Lines)) (past history : List Entry) (pending : Option Entry) (log : List RowName) (waiting : Option RowName)
     (front status : ℕ) (out out' : K) → AreNew before → IsOpened disk scheme past old at → disk.faults at ≡ disk.faults old
     → HasFiled judging own copied texts untaken (stand_of past None [] None (disk.faults at) (disk.tells at).honest) (stand_of history pending log waiting (disk.faults closed) (disk.tells closed).honest) before after
-    → new ≡ closed → (IsHonest (disk.tells new) → IsSound scheme (disk.tells new) history pending) → front ≡ length past
+    → new ≡ closed → (IsHonest (disk.tells new) → IsSound scheme (disk.tells new) history pending)
+    → (IsHonest (disk.tells closed) → EachMoment (disk.tells at) (disk.tells closed) (RecoversBetween scheme past (with_entry pending history)))
+    → front ≡ length past
     → EndsWith sink (desks_text after ++ admitted_text (front + 1) (names_of same after (front + 1) (reverse (take (length history - front) log)))) (desks_status after) out out' status → FilesAll scheme judging own copied same texts untaken disk sink old new before out out' status
-files_worked {D} scheme judging own copied same texts untaken disk sink old at closed new before after past history pending log waiting front status out out' fresh opened unmoved was_filed new_is sound front_is ends =
+files_worked {D} scheme judging own copied same texts untaken disk sink old at closed new before after past history pending log waiting front status out out' fresh opened unmoved was_filed new_is sound moments front_is ends =
     let filed = subst (λ (n : ℕ). HasFiled judging own copied texts untaken (stand_of past None [] None n (disk.tells at).honest) (stand_of history pending log waiting (disk.faults closed) (disk.tells closed).honest) before after) unmoved was_filed in
     subst (λ (d : D). (IsHonest (disk.tells d) → IsSound scheme (disk.tells d) history pending) → FilesAll scheme judging own copied same texts untaken disk sink old d before out out' status) (sym new_is)
-    (λ is_sound. worked after past history pending log waiting at status opened filed is_sound
+    (λ is_sound. worked after past history pending log waiting at status opened filed is_sound moments
     (subst (λ rows. EndsWith sink (desks_text after ++ admitted_text (length past + 1) (names_of same after (length past + 1) rows)) (desks_status after) out out' status)
     (rows_told judging own copied texts untaken (stand_of past None [] None (disk.faults old) (disk.tells at).honest) history pending log waiting (disk.faults closed) (disk.tells closed).honest before after filed fresh.numbered past refl)
     (subst (λ (n : ℕ). EndsWith sink (desks_text after ++ admitted_text (n + 1) (names_of same after (n + 1) (reverse (take (length history - n) log)))) (desks_status after) out out' status) front_is ends)))

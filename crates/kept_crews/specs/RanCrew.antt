@@ -3,7 +3,7 @@ use Rattle.std.specs.Prelude.{◌≡◌, ◌≢◌, ◌+◌, ◌<◌, ◌≤◌,
 use Rattle.std.specs.List.{All}
 use Rattle.aid_edges.specs.Faults.{Rose}
 use Rattle.aid_edges.specs.declared.sink.Sink.{Ghosts as SinkGhosts}
-use Rattle.disk_model.specs.Telling.{IsHonest}
+use Rattle.disk_model.specs.Telling.{EachMoment, IsHonest}
 use Rattle.disk_model.specs.declared.disk.Disk.{Ghosts}
 use Rattle.filing_journal.specs.declared.opening.OpenError.{OpenError}
 use Rattle.filing_journal.specs.declared.opening.OpenError.TheVariants as opening
@@ -11,6 +11,7 @@ use Rattle.kept_list.specs.Kept.{IsSound}
 use Rattle.kept_list.specs.Names.{rows_of as row_names}
 use Rattle.kept_list.specs.Scheme.{Scheme, Judging}
 use Rattle.kept_list.specs.Texts.{Texts}
+use Rattle.kept_list.specs.Turns.{with_entry}
 use Rattle.kept_list.specs.declared.names.Filed.{Filed}
 use Rattle.kept_list.specs.declared.names.RowName.{RowName}
 use Rattle.kept_session.specs.Edges.{Input, IsReadWhole}
@@ -22,7 +23,7 @@ use Rattle.office_lock.specs.Passes.{Known}
 use Rattle.office_lock.specs.declared.turned.Stand.{Stand}
 use Rattle.kept_desks.specs.Answered.{Files}
 use Rattle.kept_desks.specs.Desks.{DeskView, Ran, all_shown}
-use Rattle.kept_desks.specs.Shares.{stand_of}
+use Rattle.kept_desks.specs.Shares.{stand_of, RecoversBetween}
 use Rattle.kept_desks.specs.declared.stop.DeskEnd.TheVariants.{Open}
 use Rattle.kept_runs.specs.Ends.{EndsWith}
 use Rattle.kept_runs.specs.Statuses.{open_line, open_status, read_line, read_status}
@@ -129,13 +130,15 @@ pub data FilesAll {D K Entry Ask Verdict Error Lines : Type 0} (scheme : Scheme 
   -- there was no memory for the desks: nothing was filed
   starved : (past : List Entry) (status : ℕ) → IsOpened disk scheme past old new → EndsWith sink (codes "fault memory\n") 9 out out' status
       → FilesAll scheme judging own copied same texts left disk sink old new before out out' status
-  -- The desks filed. Each image of the disk then recovers the list at the end, with or without one undecided entry.
+  -- The desks filed. Each image of the disk then recovers the list at the end, with or without one undecided entry. At each moment from the
+  -- opening on each image recovers a list on the way to it.
   worked : (after : List (DeskView Entry Lines)) (past history : List Entry) (pending : Option Entry) (log : List RowName) (waiting : Option RowName)
       (at : D) (status : ℕ)
       → IsOpened disk scheme past old at
       → (filed : HasFiled judging own copied texts left (stand_of past None [] None (disk.faults old) (disk.tells at).honest)
       (stand_of history pending log waiting (disk.faults new) (disk.tells new).honest) before after)
       → (IsHonest (disk.tells new) → IsSound scheme (disk.tells new) history pending)
+      → (IsHonest (disk.tells new) → EachMoment (disk.tells at) (disk.tells new) (RecoversBetween scheme past (with_entry pending history)))
       → EndsWith sink
       (desks_text after ++ admitted_text (length past + 1) (names_of same after (length past + 1) (reverse (row_names filed.ran.added))))
       (desks_status after) out out' status

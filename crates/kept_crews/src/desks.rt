@@ -1,5 +1,5 @@
 // A run of many desks: each has an input of its own, and files its rows while the others file theirs.
-ghost use Rattle.std.specs.Prelude.{◌≡◌, ◌≢◌, ◌⊎◌, ◌≤◌, ◌<◌, ◌+◌, ◌-◌, ◌++◌, [], ℕ, false, true, None, Err, IfOk, IfErr, OnOk, slice_index_or, length, reverse, take};
+ghost use Rattle.std.specs.Prelude.{◌≡◌, ◌≢◌, ◌⊎◌, ◌≤◌, ◌<◌, ◌+◌, ◌-◌, ◌++◌, [], ℕ, List, false, true, None, Err, Option, IfOk, IfErr, OnOk, slice_index_or, length, reverse, take};
 ghost use Rattle.std.specs.List.{All};
 ghost use Rattle.aid_edges.specs.Faults.{Rose};
 ghost use Rattle.disk_model.specs.Telling.{IsHonest};
@@ -9,7 +9,8 @@ ghost use Rattle.kept_session.specs.Sessions.{IsUnread};
 ghost use Rattle.office_lock.specs.Turning.{RoseBy};
 ghost use Rattle.office_lock.specs.declared.turned.Stand.{Stand};
 ghost use Rattle.kept_desks.specs.Desks.{DeskView, IsReady, HasEnded, Works};
-ghost use Rattle.kept_desks.specs.Shares.{stand_of};
+ghost use Rattle.kept_desks.specs.Shares.{stand_of, IsBegun, IsReached};
+ghost use Rattle.kept_list.specs.declared.names.RowName.{RowName};
 ghost use Rattle.kept_runs.specs.Ends.{EndsWith};
 ghost use Rattle.kept_crews.specs.DeskTexts.{admitted_text, desks_status as desks_status_of, desks_text};
 ghost use Rattle.kept_crews.specs.DesksDone.{CanFile, NoneRose};
@@ -20,12 +21,13 @@ use crate::desk_lines::{desk_prefix, desks_status, put_all};
 use crate::{CrewInput, Marks};
 use aid_edges::{Gate, Sink};
 use disk_model::Disk;
-use kept_desks::{Copies, Desk, DeskEnd, SharedList, close_desks, open_desks};
+use kept_desks::{Copies, Desk, DeskEnd, SharedList, Since, close_desks, open_desks};
 use kept_list::{Docket, KeptList, OwnDocket, RowName, Rows};
 use kept_runs::{RunStop, WRITE_FAILED, end_with};
 use kept_session::{FileStop, ReadStop, open};
 use office_lock::Turns;
 use std::alloc::Global;
+use std::marker::Brand;
 use std::sync::Wait;
 use std::thread::{Threads, for_each_mut};
 
@@ -81,11 +83,12 @@ fn read_desks<R: OwnDocket, I: CrewInput<R>>(
 fn work_all<
     D: Disk + Send,
     R: OwnDocket + Send,
+    M: Since + Send + Sync,
     L: Rows<R> + Send,
     C: Copies<R> + Send,
     G: Gate + Sync,
     H: Threads + Wait + Sync,
->(rt: &H, turns: &Turns<SharedList<D, R>>, gate: &G, desks: &mut [Desk<R, L>])
+>(rt: &H, turns: &Turns<SharedList<D, R, M>>, gate: &G, desks: &mut [Desk<R, L>])
 where
     R::Entry: Send,
     R::Ask: Send,
@@ -101,14 +104,15 @@ where
     let each = move |_place: usize, desk: &mut Desk<R, L>|
         requires { (opening : Stand (Filed R.Entry)) × IsReady turns.now.id opening desk.now }
         ensures { Works R.judging R.own C.copied L.texts L.left turns.entry.now.id desk.entry.now desk.exit.now }
-    { desk.work::<D, C, G, H>(rt, turns, gate) };
+    { desk.work::<D, M, C, G, H>(rt, turns, gate) };
     for_each_mut(rt, desks, MOST_DESKS, &each);
 }
 
-// Files what each desk has into the list.
+// Files what each desk has into the list, and gives it back with the rows that filed its newest entries, the oldest first.
 fn file_all<
     D: Disk + Send,
     R: OwnDocket + Send,
+    M: Since + Send + Sync,
     L: Rows<R> + Send,
     C: Copies<R> + Send,
     G: Gate + Sync,
@@ -119,7 +123,7 @@ fn file_all<
     kept: KeptList<D, R>,
     gate: &G,
     desks: &mut [Desk<R, L>],
-) -> Result<SharedList<D, R>, KeptList<D, R>>
+) -> Result<(KeptList<D, R>, Vec<RowName>), KeptList<D, R>>
 where
     R::Entry: Send,
     R::Ask: Send,
@@ -129,15 +133,18 @@ where
     L::Forms: Send,
     requires few { length desks.old ≤ 16 }
     requires decided { kept.pending ≡ None }
+    requires begun { IsBegun D.Disk M.moment M.already kept.disk }
     requires open { All (λ d. d.ended ≡ DeskEnd.Open) desks.old }
-    ensures ran { IfOk result (λ closed. HasFiled R.judging R.own C.copied L.texts L.left (stand_of kept.history None [] None (D.faults kept.disk) (D.tells kept.disk).honest)
-        (stand_of closed.history closed.pending closed.log closed.waiting (D.faults closed.disk) (D.tells closed.disk).honest) desks.old desks.new) }
+    ensures ran { IfOk result (λ closed. (waiting : Option RowName) × HasFiled R.judging R.own C.copied L.texts L.left (stand_of kept.history None [] None (D.faults kept.disk) (D.tells kept.disk).honest)
+        (stand_of closed.0.history closed.0.pending (reverse closed.1.items) waiting (D.faults closed.0.disk) (D.tells closed.0.disk).honest) desks.old desks.new) }
+    ensures reached { IfOk result (λ closed. IsReached D.Disk R.scheme M.moment M.already (stand_of kept.history None [] None (D.faults kept.disk) (D.tells kept.disk).honest) closed.0.disk closed.0.history closed.0.pending) }
+    ensures sound { IfOk result (λ closed. IsHonest (D.tells closed.0.disk) → IsSound R.scheme (D.tells closed.0.disk) closed.0.history closed.0.pending) }
     ensures disk { IfErr result (λ back. back.disk ≡ kept.disk) }
 {
-    match open_desks(alloc, kept, desks) {
+    match open_desks::<D, R, M, L>(alloc, kept, desks) {
         Ok((turns, rest)) => {
-            work_all::<D, R, L, C, G, H>(rt, &turns, gate, desks);
-            Ok(close_desks(turns, rest, desks))
+            work_all::<D, R, M, L, C, G, H>(rt, &turns, gate, desks);
+            Ok(close_desks(turns, rest, desks).into_parts())
         }
         Err(kept) => Err(kept),
     }
@@ -160,17 +167,16 @@ fn tell<R: OwnDocket, L: Rows<R>, C: Marks<R>, K: Sink>(
 
 // Writes what the desks did, behind so many entries that stood before, and gives the status and the disk.
 fn close<D: Disk, R: OwnDocket, L: Rows<R>, C: Marks<R>, K: Sink>(
-    closed: SharedList<D, R>,
+    kept: KeptList<D, R>,
+    log: &[RowName],
     desks: &[Desk<R, L>],
     front: u32,
     out: &mut K,
 ) -> (u8, D)
-    ensures ends { EndsWith K.Sink (desks_text desks.now ++ admitted_text (front + 1) (names_of C.same desks.now (front + 1) (reverse (take (length closed.history - front) closed.log)))) (desks_status_of desks.now)
+    ensures ends { EndsWith K.Sink (desks_text desks.now ++ admitted_text (front + 1) (names_of C.same desks.now (front + 1) (reverse (take (length kept.history - front) (reverse log.now))))) (desks_status_of desks.now)
         out.old out.new result.0 }
-    ensures disk { result.1 ≡ closed.disk }
-    ensures sound { IsHonest (D.tells result.1) → IsSound R.scheme (D.tells result.1) closed.history closed.pending }
+    ensures disk { result.1 ≡ kept.disk }
 {
-    let (kept, log) = closed.into_parts();
     let added = kept.docket().front().saturating_sub(front) as usize;
     let rows = &log[log.len().saturating_sub(added)..];
     (
@@ -178,6 +184,11 @@ fn close<D: Disk, R: OwnDocket, L: Rows<R>, C: Marks<R>, K: Sink>(
         kept.into_disk(),
     )
 }
+
+// Since this moment of a disk there is no other.
+fn only_now<D: Disk>()
+    ensures { (disk : D) (file : List ℕ) → IsHonest (D.tells disk) → (D.tells disk).image_since (D.tells disk).moment file → (D.tells disk).image file }
+{}
 
 // Opens the list of the disk's file, files what the desks have, and writes what they did.
 fn file_read<
@@ -204,8 +215,9 @@ where
         Err((error, disk)) => return (end_with(RunStop::File(error.into()), out), disk),
     };
     let front = kept.docket().front();
-    match file_all::<D, R, L, C, G, H>(rt, alloc, kept, gate, desks) {
-        Ok(closed) => close::<D, R, L, C, K>(closed, desks, front, out),
+    only_now::<D>();
+    match file_all::<D, R, Brand, L, C, G, H>(rt, alloc, kept, gate, desks) {
+        Ok((kept, log)) => close::<D, R, L, C, K>(kept, &log, desks, front, out),
         Err(kept) => {
             let starved = RunStop::File(FileStop::NoMemory.into());
             (end_with(starved, out), kept.into_disk())

@@ -1,16 +1,16 @@
 -- How a turn of a shared list goes, by how that of its kept list went.
-use Rattle.std.proofs.Common.{◌≡◌, ◌⊎◌, inl, inr, ⊎_elim, ℕ, suc, ◌+◌, ◌<◌, ◌≤◌, ◌-◌, ◌^◌, Bool, true, false, IsTrue, List, [], ◌∷◌, Option, Some, None, length, refl, sym, ap, ap₂, ◌∙◌, subst, arith}
+use Rattle.std.proofs.Common.{◌≡◌, ◌⊎◌, inl, inr, ℕ, suc, ◌+◌, ◌≤◌, Bool, true, false, IsTrue, List, [], ◌∷◌, Option, Some, None, length, refl, sym, ap, ap₂, ◌∙◌, subst, arith}
 use Rattle.std.specs.Prelude.{is_some, IsSome, if◌then◌else◌}
 use Rattle.aid_edges.specs.Faults.{Rose}
 use Rattle.kept_list.specs.Scheme.{Judging}
-use Rattle.kept_list.specs.Turns.{Turns, IsAnswered, IsNotKept, IsLeftUndecided, IsUnsettled, IsUnchanged, with_entry, after_ask, is_fault}
+use Rattle.kept_list.specs.Turns.{Turns, IsAnswered, IsLeftUndecided, IsUnsettled, with_entry, is_fault}
 use Rattle.kept_list.specs.declared.reply.ListReply.{ListReply}
 use Rattle.kept_list.specs.declared.reply.ListReply.TheVariants.{Answered, DiskFault, NoMemory}
 use Rattle.office_lock.specs.declared.turned.Stand.{Stand}
-use Rattle.office_lock.specs.Turning.{Says, Admitted, Undecided, Failed, Nothing, Goes, stays, stays_pending, settles, fails, admits, leaves, RoseBy, faults_in, settled_list}
+use Rattle.office_lock.specs.Turning.{Admitted, Undecided, Nothing, Goes, stays, stays_pending, settles, fails, admits, leaves, RoseBy, faults_in, settled_list}
 use Rattle.kept_list.specs.declared.names.RowName.{RowName}
 use Rattle.kept_list.specs.declared.names.Filed.{Filed}
-use Rattle.kept_list.specs.Names.{no_row, filed_list, filed_by, filed_pending, entries_of, entry_of}
+use Rattle.kept_list.specs.Names.{filed_list, filed_by, filed_pending, entries_of, entry_of}
 use Rattle.kept_desks.specs.Notes.{says_of, Notes}
 use Rattle.kept_desks.specs.Shares.{stand_of, AreBoth, IsTurn}
 

@@ -1,4 +1,5 @@
 pub mod Going
+pub mod Reaching
 pub mod Turning
 pub mod Rowing
 pub mod Ahead

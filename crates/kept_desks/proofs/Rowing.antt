@@ -1,5 +1,5 @@
 -- A row's line, and a desk's rows one after the other.
-use Rattle.std.proofs.Common.{◌≡◌, ◌⊎◌, inl, inr, ⊎_elim, ℕ, suc, ◌+◌, List, [], ◌∷◌, ◌++◌, Option, Some, None, Result, Ok, Err, length, map, refl, sym, ap, ap₂, ◌∙◌, subst, arith, append_assoc}
+use Rattle.std.proofs.Common.{◌≡◌, ⊎_elim, ℕ, suc, ◌+◌, List, [], ◌∷◌, ◌++◌, Option, None, Result, Err, length, map, refl, sym, ap, ◌∙◌, subst, arith, append_assoc}
 use Rattle.std.specs.Prelude.{Contains}
 use Rattle.std.proofs.lemmas.List.{append-nil, length_push, map-append}
 use Rattle.kept_list.specs.Scheme.{Judging}
@@ -10,11 +10,10 @@ use Rattle.kept_list.specs.declared.names.RowName.{RowName}
 use Rattle.kept_list.specs.declared.names.Filed.{Filed}
 use Rattle.kept_desks.specs.declared.stop.DeskStop.{DeskStop}
 use Rattle.kept_desks.specs.declared.stop.DeskStop.TheVariants.{DiskFault, NoMemory}
-use Rattle.kept_desks.specs.declared.stop.DeskEnd.{DeskEnd}
 use Rattle.kept_desks.specs.declared.stop.DeskEnd.TheVariants.{Open, Done, Stopped}
-use Rattle.kept_list.specs.Names.{filed_by, entries_of}
-use Rattle.kept_desks.specs.Answered.{Answer, Follows, answer_lines, admitted_row, admitted_of, IsClean, IsAtFault, Ends, Files, kept_row}
-use Rattle.kept_desks.specs.Rows.{IsAnsweredOn, IsFaulted, IsStarved, IsWritten, StopsAt}
+use Rattle.kept_list.specs.Names.{entries_of}
+use Rattle.kept_desks.specs.Answered.{Answer, Follows, answer_lines, admitted_row, admitted_of, IsClean, Files, kept_row}
+use Rattle.kept_desks.specs.Rows.{IsWritten, StopsAt}
 
 module _ {Entry Ask Verdict Error : Type 0} (judging : Judging Entry Ask Verdict) (texts : Texts Ask Verdict Error) (by : RowName) where
   -- a row that is no ask changes nothing

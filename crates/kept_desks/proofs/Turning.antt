@@ -1,9 +1,9 @@
 -- What a pass knows after the turn of a row.
-use Rattle.std.proofs.Common.{◌≡◌, ◌⊎◌, inl, inr, ⊎_elim, ℕ, suc, ◌+◌, ◌<◌, ◌≤◌, ◌^◌, Bool, true, false, List, [], ◌∷◌, ◌++◌, Option, Some, None, Result, Ok, Err, length, refl, sym, ap, ap₂, ◌∙◌, subst, arith, length-append}
-use Rattle.std.specs.Prelude.{is_some, IsSome, if◌then◌else◌, Contains}
+use Rattle.std.proofs.Common.{◌≡◌, ◌⊎◌, inl, inr, ⊎_elim, ℕ, suc, ◌+◌, Bool, true, false, List, [], ◌∷◌, ◌++◌, Option, Some, None, length, refl, sym, ap, ◌∙◌, subst, arith}
+use Rattle.std.specs.Prelude.{is_some, if◌then◌else◌, Contains}
 use Rattle.std.proofs.lemmas.List.{append-nil}
 use Rattle.kept_list.specs.Scheme.{Judging}
-use Rattle.kept_list.specs.Turns.{IsAnswered, IsUnsettled, IsLeftUndecided, IsNotKept, IsUnchanged, with_entry, after_ask}
+use Rattle.kept_list.specs.Turns.{IsAnswered, with_entry, after_ask}
 use Rattle.kept_list.specs.declared.reply.ListReply.{ListReply}
 use Rattle.kept_list.specs.declared.reply.ListReply.TheVariants.{Answered, DiskFault, NoMemory}
 use Rattle.office_lock.specs.declared.turned.Stand.{Stand}
@@ -17,8 +17,8 @@ use Rattle.kept_list.specs.declared.names.Filed.{Filed}
 use Rattle.kept_list.specs.Names.{filed_by, entries_of, entry_of}
 use Rattle.kept_desks.specs.Notes.{says_of}
 use Rattle.kept_desks.specs.Shares.{IsTurn}
-use Rattle.kept_desks.specs.Answered.{placed, admitted_row}
-use Rattle.kept_desks.specs.Rows.{IsAnsweredOn, IsFaulted, IsStarved, Replies}
+use Rattle.kept_desks.specs.Answered.{placed}
+use Rattle.kept_desks.specs.Rows.{IsFaulted, Replies}
 
 module _ {E : Type 0} where
   pub entries_append : (a b : List (Filed E)) → entries_of (a ++ b) ≡ entries_of a ++ entries_of b

@@ -1,5 +1,5 @@
 -- A desk that had a pass filed its rows by it.
-use Rattle.std.proofs.Common.{◌≡◌, ◌≢◌, ℕ, List, Option, Some, sym, ap, ◌∙◌, subst}
+use Rattle.std.proofs.Common.{◌≡◌, ◌≢◌, List, Option, Some, sym, ap, ◌∙◌, subst}
 use Rattle.atomic_table.specs.Seated.{TableId}
 use Rattle.kept_list.specs.Scheme.{Judging}
 use Rattle.kept_list.specs.Texts.{Texts}
@@ -8,7 +8,7 @@ use Rattle.office_lock.specs.Passes.{Known}
 use Rattle.kept_list.specs.declared.names.Filed.{Filed}
 use Rattle.kept_desks.specs.declared.stop.DeskEnd.TheVariants.{Open}
 use Rattle.kept_desks.specs.Answered.{Files}
-use Rattle.kept_desks.specs.Desks.{DeskView, IsFresh, IsReady, HasEnded, Works}
+use Rattle.kept_desks.specs.Desks.{DeskView, IsReady, HasEnded, Works}
 
 module _ {Entry Ask Verdict Error Lines : Type 0} (judging : Judging Entry Ask Verdict) (own copied : Ask → Option Entry) (texts : Texts Ask Verdict Error) (left : Lines → List texts.Meaning) where
   pub works_of : (lock : TableId) (old new : DeskView Entry Lines) (before after : Known (Filed Entry)) → old.pass ≡ Some before → new.pass ≡ Some after

@@ -5,7 +5,6 @@ use Rattle.kept_list.specs.Texts.{Texts, row_line, after_row}
 use Rattle.office_lock.specs.Passes.{IsOlder, Known}
 use Rattle.kept_list.specs.declared.names.RowName.{RowName}
 use Rattle.kept_list.specs.declared.names.Filed.{Filed}
-use Rattle.kept_desks.specs.declared.stop.DeskStop.{DeskStop}
 use Rattle.kept_desks.specs.declared.stop.DeskStop.TheVariants.{DiskFault, NoMemory}
 use Rattle.kept_desks.specs.declared.stop.DeskEnd.{DeskEnd}
 use Rattle.kept_desks.specs.declared.stop.DeskEnd.TheVariants.{Open, Done, Stopped}

@@ -1,5 +1,5 @@
 -- What a shared list notes of the rows that filed its entries.
-use Rattle.std.specs.Prelude.{◌≡◌, ◌⊎◌, ◌+◌, ◌<◌, ℕ, Bool, List, Option, Some, None, IsSome, if◌then◌else◌}
+use Rattle.std.specs.Prelude.{◌≡◌, ◌⊎◌, ◌+◌, ℕ, Bool, List, Option, Some, None, IsSome, if◌then◌else◌}
 use Rattle.kept_list.specs.Turns.{with_entry}
 use Rattle.kept_list.specs.declared.reply.ListReply.{ListReply}
 use Rattle.kept_list.specs.declared.reply.ListReply.TheVariants.{Answered, DiskFault, NoMemory}

@@ -1,7 +1,6 @@
 -- What the turn of one row does to what its desk's pass knows.
-use Rattle.std.specs.Prelude.{◌≡◌, ◌⊎◌, ℕ, ◌+◌, List, [], ◌∷◌, ◌++◌, length, Option, Some, None, Result, Ok, Err, Contains}
+use Rattle.std.specs.Prelude.{◌≡◌, ◌⊎◌, ℕ, ◌+◌, List, ◌++◌, length, Option, Some, Result, Ok, Contains}
 use Rattle.kept_list.specs.Scheme.{Judging}
-use Rattle.kept_list.specs.Turns.{after_ask}
 use Rattle.kept_list.specs.declared.reply.ListReply.{ListReply}
 use Rattle.kept_list.specs.declared.reply.ListReply.TheVariants as reply
 use Rattle.kept_list.specs.Texts.{Texts, row_line, after_row}

@@ -2,17 +2,18 @@
 ghost use Rattle.std.specs.Prelude.{◌≡◌, ◌<◌, ◌+◌, [], None, IfOk, IfErr, length};
 ghost use Rattle.std.specs.List.{All};
 ghost use Rattle.kept_desks.specs.Desks.{IsFresh, IsReady, HasEnded, IsJoined, Gathers, Ran, shown_of, all_shown};
-ghost use Rattle.kept_desks.specs.Shares.{stand_of};
+ghost use Rattle.disk_model.specs.Telling.{IsHonest};
+ghost use Rattle.kept_desks.specs.Shares.{stand_of, IsBegun, IsReached};
 
-use crate::{Desk, DeskEnd, SharedList};
+use crate::{Desk, DeskEnd, SharedList, Since};
 use disk_model::Disk;
 use kept_list::{Docket, Filed, KeptList, OwnDocket, Rows};
 use office_lock::{Pass, Turned, Turns};
 use std::alloc::Global;
 
 // Hands a part of the pass to the desk, and gives back the rest.
-fn hand_out<D: Disk, R: OwnDocket, L: Rows<R>>(
-    turns: &Turns<SharedList<D, R>>,
+fn hand_out<D: Disk, R: OwnDocket, M: Since, L: Rows<R>>(
+    turns: &Turns<SharedList<D, R, M>>,
     first: Pass<Filed<R::Entry>>,
     desk: &mut Desk<R, L>,
 ) -> Pass<Filed<R::Entry>>
@@ -30,8 +31,8 @@ fn hand_out<D: Disk, R: OwnDocket, L: Rows<R>>(
 }
 
 /// Hands a part of the pass to each desk, and gives back the rest.
-pub(crate) fn deal<D: Disk, R: OwnDocket, L: Rows<R>>(
-    turns: &Turns<SharedList<D, R>>,
+pub(crate) fn deal<D: Disk, R: OwnDocket, M: Since, L: Rows<R>>(
+    turns: &Turns<SharedList<D, R, M>>,
     first: Pass<Filed<R::Entry>>,
     desks: &mut [Desk<R, L>],
 ) -> Pass<Filed<R::Entry>>
@@ -61,13 +62,14 @@ fn turns_of<R: OwnDocket, L: Rows<R>>(desks: &[Desk<R, L>], front: u32) -> u32 {
 
 /// Begins a lock over the list, makes room for what the desks may add, and hands each desk a pass. It gives the rest of
 /// the lock's passes back. Where there is no memory the list comes back as it was.
-pub fn open_desks<D: Disk, R: OwnDocket, L: Rows<R>>(
+pub fn open_desks<D: Disk, R: OwnDocket, M: Since, L: Rows<R>>(
     alloc: Global,
     kept: KeptList<D, R>,
     desks: &mut [Desk<R, L>],
-) -> Result<(Turns<SharedList<D, R>>, Pass<Filed<R::Entry>>), KeptList<D, R>>
+) -> Result<(Turns<SharedList<D, R, M>>, Pass<Filed<R::Entry>>), KeptList<D, R>>
     requires few { length desks.old < 64 }
     requires decided { kept.pending ≡ None }
+    requires begun { IsBegun D.Disk M.moment M.already kept.disk }
     requires open { All (λ d. d.ended ≡ DeskEnd.Open) desks.old }
     ensures opening { IfOk result (λ r. r.1.opening ≡ stand_of kept.history None [] None (D.faults kept.disk) (D.tells kept.disk).honest) }
     ensures fresh { IfOk result (λ r. IsFresh r.0.id r.1.opening r.1) }
@@ -94,8 +96,8 @@ pub fn open_desks<D: Disk, R: OwnDocket, L: Rows<R>>(
 }
 
 // Takes the desk's pass back.
-fn take_back<D: Disk, R: OwnDocket, L: Rows<R>>(
-    turns: &Turns<SharedList<D, R>>,
+fn take_back<D: Disk, R: OwnDocket, M: Since, L: Rows<R>>(
+    turns: &Turns<SharedList<D, R, M>>,
     pass: &mut Pass<Filed<R::Entry>>,
     desk: &mut Desk<R, L>,
 )
@@ -110,8 +112,8 @@ fn take_back<D: Disk, R: OwnDocket, L: Rows<R>>(
 }
 
 /// Takes each desk's pass back.
-pub(crate) fn collect<D: Disk, R: OwnDocket, L: Rows<R>>(
-    turns: &Turns<SharedList<D, R>>,
+pub(crate) fn collect<D: Disk, R: OwnDocket, M: Since, L: Rows<R>>(
+    turns: &Turns<SharedList<D, R, M>>,
     rest: Pass<Filed<R::Entry>>,
     desks: &mut [Desk<R, L>],
 ) -> Pass<Filed<R::Entry>>
@@ -129,15 +131,16 @@ pub(crate) fn collect<D: Disk, R: OwnDocket, L: Rows<R>>(
 }
 
 /// Takes each desk's pass back, and ends the lock. What the list has then is what the desks filed.
-pub fn close_desks<D: Disk, R: OwnDocket, L: Rows<R>>(
-    turns: Turns<SharedList<D, R>>,
+pub fn close_desks<D: Disk, R: OwnDocket, M: Since, L: Rows<R>>(
+    turns: Turns<SharedList<D, R, M>>,
     rest: Pass<Filed<R::Entry>>,
     desks: &mut [Desk<R, L>],
-) -> SharedList<D, R>
+) -> SharedList<D, R, M>
     requires fresh { IsFresh turns.id rest.opening rest }
     requires all { rest.allowance + length desks.old ≡ turns.passes }
     requires ended { All (HasEnded turns.id rest.opening) desks.old }
     ensures ran { Ran rest.opening (stand_of result.history result.pending result.log result.waiting (D.faults result.disk) (D.tells result.disk).honest) desks.old }
+    ensures reached { IsReached D.Disk R.scheme M.moment M.already rest.opening result.disk result.history result.pending }
     ensures same { all_shown desks.new ≡ all_shown desks.old }
 {
     let pass = collect(&turns, rest, desks);

@@ -6,7 +6,7 @@ ghost use Rattle.kept_desks.specs.Desks.{IsReady, Works};
 ghost use Rattle.kept_desks.specs.DeskTexts.{end_row, stop_at};
 
 use crate::filing::file_rows;
-use crate::{Copies, DeskEnd, DeskStop, Poster, SharedList};
+use crate::{Copies, DeskEnd, DeskStop, Poster, SharedList, Since};
 use aid_edges::Gate;
 use disk_model::Disk;
 use kept_list::{Docket, Filed, OwnDocket, RowName, Rows};
@@ -151,10 +151,10 @@ impl<R: OwnDocket, L: Rows<R>> Desk<R, L> {
 
     /// Files the rows, each in a turn of the lock, from the first to the last or to a stop. Of the row at which it stops a
     /// copy of what it may add is kept.
-    pub fn work<D: Disk, C: Copies<R>, G: Gate, H: Wait>(
+    pub fn work<D: Disk, M: Since, C: Copies<R>, G: Gate, H: Wait>(
         &mut self,
         rt: &H,
-        turns: &Turns<SharedList<D, R>>,
+        turns: &Turns<SharedList<D, R, M>>,
         gate: &G,
     )
         requires { (opening : Stand (FiledEntry R.Entry)) × IsReady turns.now.id opening self.old }
@@ -163,7 +163,7 @@ impl<R: OwnDocket, L: Rows<R>> Desk<R, L> {
         let Some(mut pass) = self.pass.take() else {
             return;
         };
-        let (answered, ended, last) = file_rows::<D, R, L, C, G, H>(
+        let (answered, ended, last) = file_rows::<D, R, M, L, C, G, H>(
             rt,
             turns,
             gate,

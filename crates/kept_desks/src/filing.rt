@@ -6,7 +6,7 @@ ghost use Rattle.kept_desks.specs.Answered.{Files, IsClean};
 
 use crate::copies::copy_row;
 use crate::row::file_row;
-use crate::{Copies, DeskEnd, DeskStop, Poster, SharedList};
+use crate::{Copies, DeskEnd, DeskStop, Poster, SharedList, Since};
 use aid_edges::Gate;
 use disk_model::Disk;
 use kept_list::{Docket, Filed, OwnDocket, RowName, Rows, ask_of};
@@ -16,9 +16,9 @@ use std::sync::Wait;
 /// Files the rows that are left, in order, each in a turn of the lock, and appends a line for each. It ends at the first
 /// fault of the disk and at want of memory. It answers how many rows have lines, how it ended, and a copy of what the row
 /// may add at which it stopped. One row is read ahead, so that it may be posted with the one before it.
-pub fn file_rows<D: Disk, R: OwnDocket, L: Rows<R>, C: Copies<R>, G: Gate, H: Wait>(
+pub fn file_rows<D: Disk, R: OwnDocket, M: Since, L: Rows<R>, C: Copies<R>, G: Gate, H: Wait>(
     rt: &H,
-    turns: &Turns<SharedList<D, R>>,
+    turns: &Turns<SharedList<D, R, M>>,
     gate: &G,
     pass: &mut Pass<Filed<R::Entry>>,
     desk: u32,
@@ -55,7 +55,7 @@ pub fn file_rows<D: Disk, R: OwnDocket, L: Rows<R>, C: Copies<R>, G: Gate, H: Wa
         };
         let copy = copy_row::<R, C, L::Error>(&row);
         let ahead = ask_of(&next);
-        match file_row::<D, R, L, G, H>(
+        match file_row::<D, R, M, L, G, H>(
             rt, turns, gate, pass, by, prefix, row, ahead, poster, text,
         ) {
             Ok(()) => count += 1,

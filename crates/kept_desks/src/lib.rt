@@ -16,6 +16,6 @@ pub use crew::{close_desks, open_desks};
 pub use desk::Desk;
 pub use filing::file_rows;
 pub use posting::Poster;
-pub use shared::SharedList;
+pub use shared::{SharedList, Since};
 pub use stop::{DeskEnd, DeskStop};
 pub use waiting::{Stage, WaitingRow};

@@ -1,5 +1,5 @@
 // What asks will likely add, posted before their turns.
-use crate::{SharedList, Stage, WaitingRow};
+use crate::{SharedList, Since, Stage, WaitingRow};
 use aid_edges::Room;
 use disk_model::Disk;
 use kept_list::{Docket, OwnDocket};
@@ -24,10 +24,10 @@ impl Poster {
     }
 
     // Posts an ask of a desk.
-    fn post_one<D: Disk, R: OwnDocket, H: Wait>(
+    fn post_one<D: Disk, R: OwnDocket, M: Since, H: Wait>(
         &mut self,
         rt: &H,
-        turns: &Turns<SharedList<D, R>>,
+        turns: &Turns<SharedList<D, R, M>>,
         desk: u32,
         stage: Stage,
         ask: &R::Ask,
@@ -42,10 +42,10 @@ impl Poster {
 
     /// Posts a desk's ask whose turn is about to come, and the one behind it, where that is known. To be called between the
     /// approach and the turn. A connection is a desk of its own here.
-    pub fn post<D: Disk, R: OwnDocket, H: Wait>(
+    pub fn post<D: Disk, R: OwnDocket, M: Since, H: Wait>(
         &mut self,
         rt: &H,
-        turns: &Turns<SharedList<D, R>>,
+        turns: &Turns<SharedList<D, R, M>>,
         desk: u32,
         ask: &R::Ask,
         next: Option<&R::Ask>,

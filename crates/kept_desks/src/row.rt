@@ -2,7 +2,7 @@
 ghost use Rattle.std.specs.Prelude.{◌≡◌, ◌++◌, ◌≤◌, ◌+◌, [], length, Ok, IfErr, OnOk, OnErr, vec_len, vec_capacity};
 ghost use Rattle.kept_desks.specs.Rows.{Replies, IsWritten, StopsAt};
 
-use crate::{DeskStop, Poster, SharedList};
+use crate::{DeskStop, Poster, SharedList, Since};
 use aid_edges::Gate;
 use disk_model::Disk;
 use kept_list::{Docket, Filed, ListReply, OwnDocket, RowAsk, RowName, Rows};
@@ -14,9 +14,9 @@ const LINE: usize = 160;
 
 // One ask, in a turn of the lock, which is told before what it and the ask behind it will likely add. The gate is called
 // before and after it.
-fn turn_row<D: Disk, R: OwnDocket, L: Rows<R>, G: Gate, H: Wait>(
+fn turn_row<D: Disk, R: OwnDocket, M: Since, L: Rows<R>, G: Gate, H: Wait>(
     rt: &H,
-    turns: &Turns<SharedList<D, R>>,
+    turns: &Turns<SharedList<D, R, M>>,
     gate: &G,
     pass: &mut Pass<Filed<R::Entry>>,
     by: RowName,
@@ -39,9 +39,9 @@ fn turn_row<D: Disk, R: OwnDocket, L: Rows<R>, G: Gate, H: Wait>(
 }
 
 // Files an ask, and appends its line.
-fn file_ask<D: Disk, R: OwnDocket, L: Rows<R>, G: Gate, H: Wait>(
+fn file_ask<D: Disk, R: OwnDocket, M: Since, L: Rows<R>, G: Gate, H: Wait>(
     rt: &H,
-    turns: &Turns<SharedList<D, R>>,
+    turns: &Turns<SharedList<D, R, M>>,
     gate: &G,
     pass: &mut Pass<Filed<R::Entry>>,
     by: RowName,
@@ -61,7 +61,7 @@ fn file_ask<D: Disk, R: OwnDocket, L: Rows<R>, G: Gate, H: Wait>(
     if text.reserve(LINE).is_err() {
         return Err(DeskStop::NoMemory);
     }
-    match turn_row::<D, R, L, G, H>(rt, turns, gate, pass, by, ask, next, poster) {
+    match turn_row::<D, R, M, L, G, H>(rt, turns, gate, pass, by, ask, next, poster) {
         ListReply::Answered { verdict, front } => {
             let _ = L::put_answer(by.row, front, &verdict, text);
             Ok(())
@@ -72,9 +72,9 @@ fn file_ask<D: Disk, R: OwnDocket, L: Rows<R>, G: Gate, H: Wait>(
 }
 
 // Takes one row, and appends its line.
-fn take_row<D: Disk, R: OwnDocket, L: Rows<R>, G: Gate, H: Wait>(
+fn take_row<D: Disk, R: OwnDocket, M: Since, L: Rows<R>, G: Gate, H: Wait>(
     rt: &H,
-    turns: &Turns<SharedList<D, R>>,
+    turns: &Turns<SharedList<D, R, M>>,
     gate: &G,
     pass: &mut Pass<Filed<R::Entry>>,
     by: RowName,
@@ -92,7 +92,7 @@ fn take_row<D: Disk, R: OwnDocket, L: Rows<R>, G: Gate, H: Wait>(
     ensures opening { pass.new.opening ≡ pass.old.opening }
 {
     match row {
-        Ok(ask) => file_ask::<D, R, L, G, H>(rt, turns, gate, pass, by, ask, next, poster, text),
+        Ok(ask) => file_ask::<D, R, M, L, G, H>(rt, turns, gate, pass, by, ask, next, poster, text),
         Err(error) => match L::put_error(&error, text) {
             Ok(()) => Ok(()),
             Err(_) => Err(DeskStop::NoMemory),
@@ -101,9 +101,9 @@ fn take_row<D: Disk, R: OwnDocket, L: Rows<R>, G: Gate, H: Wait>(
 }
 
 /// Takes one row, and appends its line behind the desk's prefix. Where that stops, the text is as it was.
-pub(crate) fn file_row<D: Disk, R: OwnDocket, L: Rows<R>, G: Gate, H: Wait>(
+pub(crate) fn file_row<D: Disk, R: OwnDocket, M: Since, L: Rows<R>, G: Gate, H: Wait>(
     rt: &H,
-    turns: &Turns<SharedList<D, R>>,
+    turns: &Turns<SharedList<D, R, M>>,
     gate: &G,
     pass: &mut Pass<Filed<R::Entry>>,
     by: RowName,
@@ -125,7 +125,7 @@ pub(crate) fn file_row<D: Disk, R: OwnDocket, L: Rows<R>, G: Gate, H: Wait>(
     if text.extend_from_slice(prefix).is_err() {
         return Err(DeskStop::NoMemory);
     }
-    let filed = take_row::<D, R, L, G, H>(rt, turns, gate, pass, by, row, next, poster, text);
+    let filed = take_row::<D, R, M, L, G, H>(rt, turns, gate, pass, by, row, next, poster, text);
     if filed.is_err() {
         text.truncate(length);
     }

@@ -4,6 +4,7 @@ ghost use Rattle.disk_model.specs.Telling.{IsHonest};
 ghost use Rattle.kept_list.specs.Kept.{IsSound};
 ghost use Rattle.kept_list.specs.Turns.{with_entry};
 ghost use Rattle.kept_desks.specs.Notes.{Notes};
+ghost use Rattle.kept_desks.specs.Shares.{places_of_row};
 
 use crate::WaitingRow;
 use crate::waiting::Waiting;
@@ -11,11 +12,28 @@ use disk_model::Disk;
 use kept_list::{Docket, Filed, KeptList, ListReply, OwnDocket, RowAsk, RowName};
 use office_lock::Turned;
 use std::alloc::{AllocError, Global};
-use std::marker::Model;
+use std::marker::{Brand, Model, PhantomData};
+
+/// Where the sharing of a list began. No value of it is made: the call that shares a list picks it.
+pub trait Since {
+    ghost use Rattle.std.specs.Prelude.{ℕ, List};
+
+    /// The moment of the disk then.
+    ghost moment: { ℕ };
+
+    /// Whether a crash may have left these bytes up to then, at some moment from that one on.
+    ghost already: { ℕ → List ℕ → Type 0 };
+}
+
+impl Since for Brand {
+    ghost moment = { 0 };
+
+    ghost already = { λ t file. Unit {0} };
+}
 
 /// A kept list over which desks take turns. It notes which rows filed the entries that joined it since it was made.
 #[derive(Drop)]
-pub struct SharedList<D: Disk, R: OwnDocket> {
+pub struct SharedList<D: Disk, R: OwnDocket, M: Since> {
     kept: KeptList<D, R>,
     // The rows that filed them, the oldest first.
     log: Vec<RowName>,
@@ -23,11 +41,12 @@ pub struct SharedList<D: Disk, R: OwnDocket> {
     waiting: Option<RowName>,
     // The rows whose turns come. Nothing that is promised rests on them.
     next: Waiting,
+    since: PhantomData<M>,
 }
 
-impl<D: Disk, R: OwnDocket> Model for SharedList<D, R> {
-    ghost use Rattle.std.specs.Prelude.{reverse};
-    ghost use Rattle.kept_desks.specs.Shares.{Shared, AreBoth};
+impl<D: Disk, R: OwnDocket, M: Since> Model for SharedList<D, R, M> {
+    ghost use Rattle.std.specs.Prelude.{◌+◌, ◌-◌, min, reverse, vec_len, vec_capacity};
+    ghost use Rattle.kept_desks.specs.Shares.{Shared, AreBoth, places_of_row};
 
     ghost Value = { Shared D R.Entry };
 
@@ -35,7 +54,7 @@ impl<D: Disk, R: OwnDocket> Model for SharedList<D, R> {
       disk = s.kept.disk;
       history = s.kept.history;
       pending = s.kept.pending;
-      room = s.kept.room;
+      room = min s.kept.room (vec_capacity s.log - (vec_len s.log + places_of_row s.waiting));
       log = reverse s.log.items;
       waiting = s.waiting;
     } };
@@ -45,10 +64,11 @@ impl<D: Disk, R: OwnDocket> Model for SharedList<D, R> {
 
 // What was undecided is settled: the row that waited for it is noted.
 fn note_settled(log: &mut Vec<RowName>, waiting: &mut Option<RowName>)
-    requires { vec_len log.old + 1 ≤ vec_capacity log.old }
+    requires { vec_len log.old + places_of_row waiting.old ≤ vec_capacity log.old }
     ensures log { reverse log.new.items ≡ with_entry waiting.old (reverse log.old.items) }
     ensures waiting { waiting.new ≡ None }
-    ensures room { (vec_len log.new ≤ vec_len log.old + 1) × (vec_capacity log.new ≡ vec_capacity log.old) }
+    ensures room { vec_len log.new ≡ vec_len log.old + places_of_row waiting.old }
+    ensures capacity { vec_capacity log.new ≡ vec_capacity log.old }
 {
     if let Some(by) = waiting.take() {
         log.push_reserved(by);
@@ -63,9 +83,11 @@ fn note<R: OwnDocket>(
     by: RowName,
     reply: &ListReply<R::Verdict>,
 )
-    requires room { vec_len log.old + 2 ≤ vec_capacity log.old }
+    requires room { vec_len log.old + places_of_row waiting.old + 1 ≤ vec_capacity log.old }
     requires few { front + 1 < 2 ^ 32 }
-    ensures { Notes R.adds by front reply.now (reverse log.old.items) waiting.old (reverse log.new.items) waiting.new }
+    ensures notes { Notes R.adds by front reply.now (reverse log.old.items) waiting.old (reverse log.new.items) waiting.new }
+    ensures room { vec_len log.new + places_of_row waiting.new ≤ vec_len log.old + places_of_row waiting.old + 1 }
+    ensures capacity { vec_capacity log.new ≡ vec_capacity log.old }
 {
     match reply {
         ListReply::Answered { verdict, front: _ } => {
@@ -87,15 +109,14 @@ fn note<R: OwnDocket>(
     }
 }
 
-impl<D: Disk, R: OwnDocket> SharedList<D, R> {
+impl<D: Disk, R: OwnDocket, M: Since> SharedList<D, R, M> {
     /// Shares a list of which nothing is undecided. Its file is made longer ahead of its records, since of a turn it isn't known
     /// for certain what comes next. Room is taken for the rows that wait, where there is memory for it.
-    pub fn new(alloc: Global, mut kept: KeptList<D, R>) -> SharedList<D, R>
+    pub fn new(alloc: Global, mut kept: KeptList<D, R>) -> SharedList<D, R, M>
         requires { kept.pending ≡ None }
         ensures disk { result.disk ≡ kept.disk }
         ensures history { result.history ≡ kept.history }
         ensures pending { result.pending ≡ None }
-        ensures room { result.room ≡ kept.room }
         ensures log { result.log ≡ [] }
         ensures waiting { result.waiting ≡ None }
     {
@@ -105,6 +126,7 @@ impl<D: Disk, R: OwnDocket> SharedList<D, R> {
             log: Vec::new(alloc),
             waiting: None,
             next: Waiting::new(alloc),
+            since: PhantomData,
         }
     }
 
@@ -127,7 +149,7 @@ impl<D: Disk, R: OwnDocket> SharedList<D, R> {
         ensures disk { result.0.disk ≡ self.disk }
         ensures history { result.0.history ≡ self.history }
         ensures pending { result.0.pending ≡ self.pending }
-        ensures room { result.0.room ≡ self.room }
+        ensures room { self.room ≤ result.0.room }
         ensures log { reverse result.1.items ≡ self.log }
         ensures sound { IsHonest (D.tells self.disk) → IsSound R.scheme (D.tells self.disk) self.history self.pending }
     {
@@ -136,16 +158,17 @@ impl<D: Disk, R: OwnDocket> SharedList<D, R> {
             log,
             waiting: _,
             next: _,
+            since: _,
         } = self;
         kept.sound();
         (kept, log)
     }
 }
 
-impl<D: Disk, R: OwnDocket> Turned for SharedList<D, R> {
+impl<D: Disk, R: OwnDocket, M: Since> Turned for SharedList<D, R, M> {
     ghost use Rattle.kept_list.specs.Names.{filed_by};
     ghost use Rattle.kept_desks.specs.Notes.{says_of};
-    ghost use Rattle.kept_desks.specs.Shares.{stand_of, IsTurn};
+    ghost use Rattle.kept_desks.specs.Shares.{stand_of, wants_memory, IsReached, IsTurn};
 
     type Ask = RowAsk<R::Ask>;
 
@@ -163,8 +186,15 @@ impl<D: Disk, R: OwnDocket> Turned for SharedList<D, R> {
 
     ghost meets = { λ old ask reply new. IsTurn R.judging old ask.ask reply new };
 
+    ghost reached = { λ start s. IsReached D.Disk R.scheme M.moment M.already start s.disk s.history s.pending };
+
+    ghost room = { λ s. s.room };
+
+    ghost wants = { wants_memory };
+
     fn turn(&mut self, ask: RowAsk<R::Ask>) -> ListReply<R::Verdict> {
-        if self.log.reserve(2).is_err() {
+        let places = usize::from(self.waiting.is_some());
+        if self.log.reserve(places + 1).is_err() {
             return ListReply::NoMemory;
         }
         let RowAsk { ask, by } = ask;

@@ -3,8 +3,8 @@ use Rattle.std.proofs.Common.{◌≡◌, ◌≢◌, ◌+◌, ◌<◌, ◌≤◌,
 use Rattle.std.specs.Prelude.{IfSome}
 use Rattle.disk_model.specs.Telling.{Telling, IsHonest, EachMoment}
 use Rattle.disk_model.specs.declared.disk.Disk.{Ghosts}
-use Rattle.disk_model.proofs.Moments.{started, weaken}
-use Rattle.filing_journal.specs.Stands.{Payloads, BeforeOrWith}
+use Rattle.disk_model.proofs.Moments.{started, weaken, join}
+use Rattle.filing_journal.specs.Stands.{Payloads, BeforeOrWith, StandsFor}
 use Rattle.filing_journal.specs.Journal.{Keeps, MayKeep, IsDecided, HasUndecided, journal_disk, journal_count}
 use Rattle.filing_journal.specs.declared.header.Header.{Header}
 use Rattle.filing_journal.specs.declared.journal.Journal.{Journal}
@@ -12,7 +12,7 @@ use Rattle.kept_list.specs.Scheme.{Scheme, Judging}
 use Rattle.kept_list.specs.declared.docket.Added.{Added}
 use Rattle.kept_list.specs.Added.{entry_of}
 use Rattle.kept_list.specs.Recovers.{payloads_of, RecoversEither}
-use Rattle.kept_list.specs.Turns.{MayRecover, with_entry}
+use Rattle.kept_list.specs.Turns.{MayRecover, RecoversOnWay, after_ask, with_entry}
 use Rattle.kept_list.specs.Kept.{IsSettled, IsPending, IsSound, IsWhole}
 use Rattle.kept_list.proofs.Images.{IsKeepable, PastIsLegal, recovers_from, keepable_from, keepable_more, either_from, keepable_either}
 
@@ -39,6 +39,42 @@ unwritten_moments scheme judging told h (Some e) ask only sound = started told (
     either : (c : List ℕ) → RecoversEither scheme h (e ∷ h) c → MayRecover scheme judging h (Some e) ask c
     either c (inl before) = inl before
     either c (inr with_it) = inr (inl with_it)
+
+-- such a turn left what it found
+pub unwritten_way : {Entry : Type 0} (scheme : Scheme Entry) (told : Telling) (h : List Entry) (p : Option Entry)
+    → ((c : List ℕ) → told.image_since told.moment c → told.image c) → IsSound scheme told h p → EachMoment told told (RecoversOnWay scheme h p h p)
+unwritten_way scheme told h None only sound = started told (RecoversOnWay scheme h None h None) (λ c since. inl (sound c (only c since)))
+unwritten_way scheme told h (Some e) only sound = started told (RecoversOnWay scheme h (Some e) h (Some e)) (λ c since. either c (sound.images c (only c since)))
+  where
+    either : (c : List ℕ) → RecoversEither scheme h (e ∷ h) c → RecoversOnWay scheme h (Some e) h (Some e) c
+    either c (inl before) = inl before
+    either c (inr with_it) = inr (inl with_it)
+
+-- what settling and then an answer leave
+pub way_on : {Entry : Type 0} (scheme : Scheme Entry) (old settled new : Telling) (h now : List Entry) (p left : Option Entry)
+    → EachMoment old settled (RecoversEither scheme h (with_entry p h)) → EachMoment settled new (RecoversEither scheme (with_entry p h) (with_entry left now))
+    → EachMoment old new (RecoversOnWay scheme h p now left)
+way_on scheme old settled new h now p left first then_ =
+    join old settled new (RecoversOnWay scheme h p now left)
+    (weaken old settled (RecoversEither scheme h (with_entry p h)) (RecoversOnWay scheme h p now left) one first)
+    (weaken settled new (RecoversEither scheme (with_entry p h) (with_entry left now)) (RecoversOnWay scheme h p now left) (λ c is. inr is) then_)
+  where
+    one : (c : List ℕ) → RecoversEither scheme h (with_entry p h) c → RecoversOnWay scheme h p now left c
+    one c (inl is) = inl is
+    one c (inr is) = inr (inl is)
+
+-- and of these by the ask
+pub moments_on : {Entry Ask Verdict : Type 0} (scheme : Scheme Entry) (judging : Judging Entry Ask Verdict) (old settled new : Telling) (h : List Entry) (p : Option Entry) (ask : Ask)
+    → EachMoment old settled (RecoversEither scheme h (with_entry p h)) → EachMoment settled new (RecoversEither scheme (with_entry p h) (after_ask judging (with_entry p h) ask))
+    → EachMoment old new (MayRecover scheme judging h p ask)
+moments_on scheme judging old settled new h p ask first then_ =
+    join old settled new (MayRecover scheme judging h p ask)
+    (weaken old settled (RecoversEither scheme h (with_entry p h)) (MayRecover scheme judging h p ask) one first)
+    (weaken settled new (RecoversEither scheme (with_entry p h) (after_ask judging (with_entry p h) ask)) (MayRecover scheme judging h p ask) (λ c is. inr is) then_)
+  where
+    one : (c : List ℕ) → RecoversEither scheme h (with_entry p h) c → MayRecover scheme judging h p ask c
+    one c (inl is) = inl is
+    one c (inr is) = inr (inl is)
 
 -- where an entry is undecided, the journal may keep its payload
 pub undecided_stands : {D Entry : Type 0} (disk : Ghosts D) (scheme : Scheme Entry) (journal : Journal D disk) (h : List Entry) (spare : ℕ) (p : Option Entry) → p ≢ None → IsWhole disk scheme journal h spare p
@@ -188,6 +224,14 @@ module _ {D Entry : Type 0} (disk : Ghosts D) (scheme : Scheme Entry) (here : (d
         → EachMoment (disk.tells (journal_disk journal)) (disk.tells (journal_disk new)) (RecoversEither scheme h (e ∷ h))
     put_moments honest moments =
         entry_moments scheme (disk.tells (journal_disk journal)) (disk.tells (journal_disk new)) h e payload put.spelled (ok honest) put.is_entry (put.legal (ok honest).legal) (moments (keeps_before honest))
+
+    -- where it isn't kept
+    pub not_put_moments : IsHonest (disk.tells (journal_disk journal))
+        → (Keeps disk scheme.header journal (payloads_of scheme.spelling h) → EachMoment (disk.tells (journal_disk journal)) (disk.tells (journal_disk new)) (λ file. StandsFor scheme.header file (payloads_of scheme.spelling h)))
+        → EachMoment (disk.tells (journal_disk journal)) (disk.tells (journal_disk new)) (RecoversEither scheme h h)
+    not_put_moments honest moments =
+        weaken (disk.tells (journal_disk journal)) (disk.tells (journal_disk new)) (λ file. StandsFor scheme.header file (payloads_of scheme.spelling h)) (RecoversEither scheme h h)
+        (λ c stands. inl (recovers_from scheme h c (ok honest) stands)) (moments (keeps_before honest))
 
   -- settling: at each moment each image recovers the list with the undecided entry or without
   pub settling_moments : (journal : Journal D disk) (new : Telling) (h : List Entry) (spare : ℕ) (p : Option Entry) → p ≢ None → IsWhole disk scheme journal h spare p

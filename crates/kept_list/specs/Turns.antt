@@ -81,3 +81,8 @@ is_fault NoMemory = false
 abbrev pub MayRecover : {Entry Ask Verdict : Type 0} → Scheme Entry → Judging Entry Ask Verdict → List Entry → Option Entry → Ask → List ℕ → Type 0
 MayRecover scheme judging old was ask file = Recovers scheme file old
     ⊎ (Recovers scheme file (with_entry was old) ⊎ Recovers scheme file (after_ask judging (with_entry was old) ask))
+
+-- A file at a moment of a turn recovers the list before, or that with the undecided entry, or what the turn leaves, with the entry that is
+-- undecided then.
+abbrev pub RecoversOnWay : {Entry : Type 0} → Scheme Entry → List Entry → Option Entry → List Entry → Option Entry → List ℕ → Type 0
+RecoversOnWay scheme old was new left file = Recovers scheme file old ⊎ (Recovers scheme file (with_entry was old) ⊎ Recovers scheme file (with_entry left new))

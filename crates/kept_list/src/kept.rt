@@ -63,7 +63,7 @@ impl<D: Disk, R: Docket> Model for KeptList<D, R> {
 impl<D: Disk, R: Docket> KeptList<D, R> {
     ghost use Rattle.kept_list.specs.Recovers.{Recovers, RecoversEither};
     ghost use Rattle.kept_list.specs.Faulty.{IsFaultyAt};
-    ghost use Rattle.kept_list.specs.Turns.{Answers, Turns, MayRecover, with_entry, after_ask, is_fault, IsKeptOr};
+    ghost use Rattle.kept_list.specs.Turns.{Answers, Turns, MayRecover, RecoversOnWay, with_entry, after_ask, is_fault, IsKeptOr};
     ghost use Rattle.kept_list.specs.Kept.{IsSound};
 
     /// Founds a list without entries, in a file of fewer than 17 bytes, whatever they are, or of 17 bytes whose first
@@ -216,11 +216,13 @@ impl<D: Disk, R: Docket> KeptList<D, R> {
         // The reply is the answer on the list after settling, and this and what is undecided after are what it says.
         ensures turn { Turns R.judging self.old.history self.old.pending ask result self.new.history self.new.pending }
 
-        // What a crash leaves, after the turn and at every moment of it.
+        // What a crash leaves, after the turn and at every moment of it: by the ask, and by what the turn left.
         ensures honest { (D.tells self.new.disk).honest ≡ (D.tells self.old.disk).honest }
         ensures sound { IsHonest (D.tells self.old.disk) → IsSound R.scheme (D.tells self.new.disk) self.new.history self.new.pending }
         ensures moments { IsHonest (D.tells self.old.disk) → EachMoment (D.tells self.old.disk) (D.tells self.new.disk)
             (MayRecover R.scheme R.judging self.old.history self.old.pending ask) }
+        ensures way { IsHonest (D.tells self.old.disk) → EachMoment (D.tells self.old.disk) (D.tells self.new.disk)
+            (RecoversOnWay R.scheme self.old.history self.old.pending self.new.history self.new.pending) }
 
         // Want of memory comes only where no room is left, and before any call of the disk.
         ensures no_memory { result ≡ ListReply.NoMemory → self.new ≡ self.old }
@@ -246,6 +248,8 @@ impl<D: Disk, R: Docket> KeptList<D, R> {
         ensures sound { IsHonest (D.tells self.old.disk) → IsSound R.scheme (D.tells self.new.disk) self.new.history self.new.pending }
         ensures moments { IsHonest (D.tells self.old.disk) → EachMoment (D.tells self.old.disk) (D.tells self.new.disk)
             (MayRecover R.scheme R.judging self.old.history self.old.pending ask) }
+        ensures way { IsHonest (D.tells self.old.disk) → EachMoment (D.tells self.old.disk) (D.tells self.new.disk)
+            (RecoversOnWay R.scheme self.old.history self.old.pending self.new.history self.new.pending) }
         ensures no_memory { result ≡ ListReply.NoMemory → self.new ≡ self.old }
         ensures memory { result ≡ ListReply.NoMemory → self.old.room ≡ 0 }
         ensures room { self.old.room ≤ self.new.room + 1 }
@@ -265,6 +269,8 @@ impl<D: Disk, R: Docket> KeptList<D, R> {
         ensures sound { IsHonest (D.tells self.old.disk) → IsSound R.scheme (D.tells self.new.disk) self.new.history self.new.pending }
         ensures moments { IsHonest (D.tells self.old.disk) → EachMoment (D.tells self.old.disk) (D.tells self.new.disk)
             (MayRecover R.scheme R.judging self.old.history self.old.pending ask) }
+        ensures way { IsHonest (D.tells self.old.disk) → EachMoment (D.tells self.old.disk) (D.tells self.new.disk)
+            (RecoversOnWay R.scheme self.old.history self.old.pending self.new.history self.new.pending) }
         ensures no_memory { result ≡ ListReply.NoMemory → self.new ≡ self.old }
         ensures memory { result ≡ ListReply.NoMemory → self.old.room ≡ 0 }
         ensures room { self.old.room ≤ self.new.room + 1 }
@@ -283,6 +289,8 @@ impl<D: Disk, R: Docket> KeptList<D, R> {
         ensures sound { IsHonest (D.tells self.old.disk) → IsSound R.scheme (D.tells self.new.disk) self.new.history self.new.pending }
         ensures moments { IsHonest (D.tells self.old.disk) → EachMoment (D.tells self.old.disk) (D.tells self.new.disk)
             (MayRecover R.scheme R.judging self.old.history self.old.pending ask) }
+        ensures way { IsHonest (D.tells self.old.disk) → EachMoment (D.tells self.old.disk) (D.tells self.new.disk)
+            (RecoversOnWay R.scheme self.old.history self.old.pending self.new.history self.new.pending) }
         ensures no_memory { result ≡ ListReply.NoMemory → self.new ≡ self.old }
         ensures memory { result ≡ ListReply.NoMemory → self.old.room ≡ 0 }
         ensures room { self.old.room ≤ self.new.room + 1 }
@@ -363,6 +371,8 @@ impl<D: Disk, R: Docket> KeptList<D, R> {
         ensures sound { IsHonest (D.tells self.old.disk) → IsSound R.scheme (D.tells self.new.disk) self.new.history self.new.pending }
         ensures moments { IsHonest (D.tells self.old.disk) → EachMoment (D.tells self.old.disk) (D.tells self.new.disk)
             (RecoversEither R.scheme self.old.history (after_ask R.judging self.old.history ask)) }
+        ensures way { IsHonest (D.tells self.old.disk) → EachMoment (D.tells self.old.disk) (D.tells self.new.disk)
+            (RecoversEither R.scheme self.old.history (with_entry self.new.pending self.new.history)) }
         ensures room { self.old.room ≤ self.new.room + 1 }
         ensures later { D.faults self.old.disk ≤ D.faults self.new.disk }
         ensures cause { IsTrue (is_fault result) → Rose (D.faults self.old.disk) (D.faults self.new.disk) }
@@ -394,6 +404,8 @@ impl<D: Disk, R: Docket> KeptList<D, R> {
         ensures sound { IsHonest (D.tells self.old.disk) → IsSound R.scheme (D.tells self.new.disk) self.new.history self.new.pending }
         ensures moments { IsHonest (D.tells self.old.disk) → EachMoment (D.tells self.old.disk) (D.tells self.new.disk)
             (RecoversEither R.scheme self.old.history (added.entry ∷ self.old.history)) }
+        ensures way { IsHonest (D.tells self.old.disk) → EachMoment (D.tells self.old.disk) (D.tells self.new.disk)
+            (RecoversEither R.scheme self.old.history (with_entry self.new.pending self.new.history)) }
         ensures room { self.old.room ≤ self.new.room + 1 }
         ensures later { D.faults self.old.disk ≤ D.faults self.new.disk }
         ensures cause { IsTrue (is_fault result) → Rose (D.faults self.old.disk) (D.faults self.new.disk) }

@@ -3,7 +3,7 @@ ghost use Rattle.std.specs.Prelude.{◌≡◌, ◌+◌, ◌≤◌, ◌<◌, ◌^
 ghost use Rattle.aid_edges.specs.Faults.{Rose};
 ghost use Rattle.disk_model.specs.Telling.{IsHonest, EachMoment};
 ghost use Rattle.filing_journal.specs.Journal.{Keeps, MayKeep, IsDecided, HasUndecided, journal_disk, journal_count};
-ghost use Rattle.filing_journal.specs.Stands.{Payloads, IsPayload, BeforeOrWith};
+ghost use Rattle.filing_journal.specs.Stands.{Payloads, IsPayload, BeforeOrWith, StandsFor};
 ghost use Rattle.filing_journal.specs.declared.header.Header.{Header};
 
 use disk_model::Disk;
@@ -35,6 +35,10 @@ pub(crate) fn lengthen_and_put<D: Disk>(
     ensures moments { IsHonest (D.tells (journal_disk journal.old))
         → (header : Header) (before : Payloads) → Keeps D.Disk header journal.old before
         → EachMoment (D.tells (journal_disk journal.old)) (D.tells (journal_disk journal.new)) (BeforeOrWith header before payload.now) }
+    ensures not_put { IsHonest (D.tells (journal_disk journal.old))
+        → (header : Header) (before : Payloads) → Keeps D.Disk header journal.old before
+        → IfErr result (λ e. e ≡ PutError.DiskFault false
+        → EachMoment (D.tells (journal_disk journal.old)) (D.tells (journal_disk journal.new)) (λ file. StandsFor header file before)) }
     ensures count { OnOk result (journal_count journal.new ≡ journal_count journal.old + 1) }
     ensures decided { OnOk result (IsDecided journal.new) }
     ensures count_err { OnErr result (journal_count journal.new ≡ journal_count journal.old) }

@@ -1,5 +1,5 @@
 -- What a kept office is to a lock.
-use Rattle.std.specs.Prelude.{◌≡◌, ℕ, Bool, List, Option, Some, None}
+use Rattle.std.specs.Prelude.{◌≡◌, ℕ, Bool, true, false, List, Option, Some, None}
 use Rattle.aid_filings.specs.declared.filing.Filing.{Filing}
 use Rattle.aid_filings.specs.declared.reply.Ask.{Ask}
 use Rattle.aid_filings.specs.declared.reply.Reply.{Reply}
@@ -24,6 +24,16 @@ says_of (reply.Standing row front) = Nothing
 says_of (reply.DiskFault (Some position)) = Undecided position
 says_of (reply.DiskFault None) = Failed
 says_of reply.NoMemory = Nothing
+
+-- the reply tells of want of memory
+abbrev pub wants_memory : Reply → Bool
+wants_memory (reply.Accepted position front outcome) = false
+wants_memory (reply.Again position front outcome) = false
+wants_memory (reply.Refused refusal front) = false
+wants_memory (reply.Quoted cents front) = false
+wants_memory (reply.Standing row front) = false
+wants_memory (reply.DiskFault undecided) = false
+wants_memory reply.NoMemory = true
 
 -- the reply is that of one turn of the office
 abbrev pub IsTurn : Stand (StampedEntry Filing) → StampedAsk Ask → Reply → Stand (StampedEntry Filing) → Type 0

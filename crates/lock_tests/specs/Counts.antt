@@ -1,5 +1,5 @@
 -- What a counter's answer says of entries.
-use Rattle.std.specs.Prelude.{ℕ, List, [], ◌∷◌}
+use Rattle.std.specs.Prelude.{ℕ, Bool, true, false, List, [], ◌∷◌}
 use Rattle.lock_tests.specs.declared.counter.Answer.{Answer}
 use Rattle.lock_tests.specs.declared.counter.Answer.TheVariants as answer
 use Rattle.office_lock.specs.Turning.{Says, Admitted, Undecided, Nothing}
@@ -8,6 +8,12 @@ abbrev pub said : Answer → Says
 said (answer.Accepted position) = Admitted position
 said (answer.Undecided position) = Undecided position
 said answer.NoMemory = Nothing
+
+-- the answer tells of want of memory
+abbrev pub wants_memory : Answer → Bool
+wants_memory (answer.Accepted position) = false
+wants_memory (answer.Undecided position) = false
+wants_memory answer.NoMemory = true
 
 -- the entry that an answer says was admitted, with its position
 abbrev pub accepted : Answer → ℕ → List (ℕ × ℕ)

@@ -1,5 +1,5 @@
 // A list of numbers beside a device that may fail.
-ghost use Rattle.std.specs.Prelude.{◌≡◌, ◌≤◌, ℕ, Bool, false};
+ghost use Rattle.std.specs.Prelude.{◌≡◌, ◌≤◌, ℕ, Bool, true, false};
 ghost use Rattle.office_lock.specs.Turning.{RoseBy};
 
 use office_lock::Turned;
@@ -14,6 +14,7 @@ pub trait Device {
     fn poke(&mut self) -> bool
         ensures later { faults self.old ≤ faults self.new }
         ensures rose { result ≡ false → RoseBy 1 (faults self.old) (faults self.new) }
+        ensures still { result ≡ true → faults self.new ≡ faults self.old }
         ensures honest { honest self.new ≡ honest self.old };
 }
 
@@ -35,7 +36,7 @@ pub struct Counter<D: Device> {
 
 impl<D: Device> Turned for Counter<D> {
     ghost use Rattle.std.specs.Prelude.{Some, reverse};
-    ghost use Rattle.lock_tests.specs.Counts.{said};
+    ghost use Rattle.lock_tests.specs.Counts.{said, wants_memory};
 
     type Ask = u64;
 
@@ -52,6 +53,13 @@ impl<D: Device> Turned for Counter<D> {
     ghost says = { said };
 
     ghost meets = { λ old ask answer new. Unit {0} };
+
+    ghost reached = { λ start s. start.faults ≤ D.faults s.device };
+
+    // it may ask for memory at each turn
+    ghost room = { λ s. 0 };
+
+    ghost wants = { wants_memory };
 
     fn turn(&mut self, ask: u64) -> Answer {
         if self.log.reserve(2).is_err() {

@@ -153,6 +153,7 @@ module _ {E : Type 0} where
             (at_set views id j w u at_j);
         pending = λ entry is. keeps (length now.list + 1, entry) (a.pending entry is);
         faults = rose_same (sum_by (λ (u : View E). u.faults) (set views id w)) (sum_by (λ (u : View E). u.faults) views) start.faults now.faults (omega (arith, sum_set (λ (u : View E). u.faults) views id v w at, faults)) a.faults;
+        still = λ none. a.still (omega (arith, sum_set (λ (u : View E). u.faults) views id v w at, faults, none));
         fixed = a.fixed;
       }
 
@@ -171,6 +172,7 @@ module _ {E : Type 0} where
             (at_snoc views r u j at_j);
         pending = λ entry is. keeps (length now.list + 1, entry) (a.pending entry is);
         faults = rose_same (sum_by (λ (u : View E). u.faults) (views ++ r ∷ [])) (sum_by (λ (u : View E). u.faults) views) start.faults now.faults (omega (arith, sum_by-append (λ (u : View E). u.faults) views (r ∷ []), sum_by-cons (λ (u : View E). u.faults) r [], none.faults)) a.faults;
+        still = λ calm. a.still (omega (arith, sum_by-append (λ (u : View E). u.faults) views (r ∷ []), calm));
         fixed = a.fixed;
       }
 
@@ -209,6 +211,11 @@ module _ {E : Type 0} where
             (m.pending entry is);
         faults = rose_same (sum_by (λ (u : View E). u.faults) (set views id w)) (sum_by (λ (u : View E). u.faults) views + faults) start.faults new.faults (omega (arith, sum_set (λ (u : View E). u.faults) views id v w at, faults_is))
             (rose_on (sum_by (λ (u : View E). u.faults) views) faults start.faults now.faults new.faults a.faults m.rose (rose_later faults now.faults new.faults m.rose));
+        still = λ calm.
+            let all = sum_set (λ (u : View E). u.faults) views id v w at in
+            let before : sum_by (λ (u : View E). u.faults) views ≡ 0 = omega (arith, all, faults_is, calm) in
+            let none : faults ≡ 0 = omega (arith, all, faults_is, calm) in
+            m.still none ∙ a.still before;
         fixed = m.fixed ∙ a.fixed;
       }
 
@@ -252,5 +259,6 @@ module _ {E : Type 0} where
         pending = λ entry is. keeps (length now.list + 1, entry) (a.pending entry is);
         faults = rose_same (sum_by (λ (u : View E). u.faults) (set one other r)) (sum_by (λ (u : View E). u.faults) views) start.faults now.faults
             (omega (arith, sum_set (λ (u : View E). u.faults) views id v b at, sum_set (λ (u : View E). u.faults) one other w r at_other, faults, none.faults)) a.faults;
+        still = λ calm. a.still (omega (arith, sum_set (λ (u : View E). u.faults) views id v b at, sum_set (λ (u : View E). u.faults) one other w r at_other, faults, none.faults, calm));
         fixed = a.fixed;
       }

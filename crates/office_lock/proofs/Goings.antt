@@ -114,7 +114,7 @@ module _ {E : Type 0} where
         (subst (λ a. Moves old new mine a (left_in old new) faults) (sym shows.settled_is)
         (subst (λ a. Moves old new mine settled a faults) (sym shows.left_is) m))
 
-    module _ (faults : ℕ) (rose : RoseBy faults old.faults new.faults) (fixed : new.fixed ≡ old.fixed) where
+    module _ (faults : ℕ) (rose : RoseBy faults old.faults new.faults) (still : faults ≡ 0 → new.faults ≡ old.faults) (fixed : new.fixed ≡ old.fixed) where
       moves_nothing : new.list ≡ old.list → new.pending ≡ old.pending → Moves old new [] [] [] faults
       moves_nothing list pending = record {
         added = [];
@@ -123,6 +123,7 @@ module _ {E : Type 0} where
         earlier = λ entry has. absurd (contains_none [] entry refl has);
         pending = λ entry is. inr (sym pending ∙ is, list);
         rose = rose;
+        still = still;
         fixed = fixed;
       }
 
@@ -134,6 +135,7 @@ module _ {E : Type 0} where
         earlier = next_place old.pending old.list;
         pending = λ entry is. inl (pending entry is);
         rose = rose;
+        still = still;
         fixed = fixed;
       }
 
@@ -148,6 +150,7 @@ module _ {E : Type 0} where
             earlier = next_place old.pending old.list;
             pending = λ other is. absurd (none_some (sym pending ∙ is));
             rose = rose;
+            still = still;
             fixed = fixed;
           }
 
@@ -172,7 +175,7 @@ module _ {E : Type 0} where
     older_by own says (leaves entry own_is list pending is) = (waiting old.pending, list ∙ with_waiting old.pending old.list)
 
     pub moves_of : (own : Option E) (says : Says) → HasGone own says old new → MovesBy (faults_in says) old new
-    moves_of own says gone = moves_by (faults_in says) gone.1 gone.2 own says gone.0
+    moves_of own says gone = moves_by (faults_in says) gone.1 gone.2 gone.3 own says gone.0
 
     module _ (lock : TableId) (v : View E) where
       abbrev build : ℕ → List (ℕ × E) → List (ℕ × E) → List (ℕ × E) → Known E

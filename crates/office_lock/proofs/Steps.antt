@@ -17,7 +17,7 @@ use Rattle.office_lock.specs.declared.view.View.{View}
 use Rattle.office_lock.specs.Turning.{Says, RoseBy, faults_in}
 use Rattle.office_lock.specs.Passes.{IsOlder, TakesTurn, Closes, numbered}
 use Rattle.office_lock.specs.Views.{IsOpen, known, opening_of, newcomer, bringer, begun, with_less, with_part, with_other, with_longer, after_turn, mine_in, settled_in, left_in}
-use Rattle.office_lock.specs.Rule.{IsIdle, IsWaiting, IsServedAfter, IsDone, HasEnded, HasGone, holds_number, entries, Knows, Holds, LeftBy, Accounts, Moves, MovesBy, AtHome, Away, Fresh, Running, LockRule}
+use Rattle.office_lock.specs.Rule.{IsIdle, IsWaiting, IsServedAfter, IsDone, HasEnded, HasGone, HasReached, holds_number, entries, Knows, Holds, LeftBy, Accounts, Moves, MovesBy, AtHome, Away, Fresh, Running, LockRule}
 use Rattle.office_lock.specs.Rule as rule
 use Rattle.office_lock.proofs.Lists.{got, sum_set, none_some, same_some, older_refl, older_nil, contains_none, two_below, sum_alone, flat_alone}
 use Rattle.office_lock.proofs.Goings.{moves_of, known_after}
@@ -37,7 +37,7 @@ end_words ws a n positive e =
 load_words : (ws : List ℕ) (a b : ℕ) → ws ≡ a ∷ b ∷ [] → set ws 0 (slice_index ws 0) ≡ ws
 load_words ws a b e = rw e refl
 
-module _ {T E : Type 0} (stand_of : T → Stand E) where
+module _ {T E : Type 0} (stand_of : T → Stand E) (reached : Stand E → T → Type 0) where
   Shared : Type 0
   Shared = State (Option T) (View E)
 
@@ -52,7 +52,7 @@ module _ {T E : Type 0} (stand_of : T → Stand E) where
   set_only v w views id is zero_id = ap₂ (λ l i. set l i w) is zero_id
 
   -- a seat of an open lock is in no lock without a state
-  not_fresh : (passes id : ℕ) (s : State (Option T) (View E)) (v : View E) → get_elem? s.views id ≡ some v → IsOpen v → Fresh stand_of passes s → ⊥
+  not_fresh : (passes id : ℕ) (s : State (Option T) (View E)) (v : View E) → get_elem? s.views id ≡ some v → IsOpen v → Fresh stand_of reached passes s → ⊥
   not_fresh passes id s v at is fresh =
       ⊎_elim
       (λ (h : (s.views ≡ newcomer passes ∷ []) × (get_elem? s.homes 0 ≡ some (some None))).
@@ -60,26 +60,26 @@ module _ {T E : Type 0} (stand_of : T → Stand E) where
       (λ h. none_some (sym (ap (λ (u : View E). u.opening) (only (bringer passes) v s.views id h at).1) ∙ is.1))
       fresh.slot
 
-  kept_of : (passes id : ℕ) (s : State (Option T) (View E)) (v : View E) → get_elem? s.views id ≡ some v → IsOpen v → LockRule stand_of passes s → Running stand_of passes s
-  kept_of passes id s v at is rule_holds = ⊎_elim (λ (f : Fresh stand_of passes s). absurd (not_fresh passes id s v at is f)) (λ k. k) rule_holds
+  kept_of : (passes id : ℕ) (s : State (Option T) (View E)) (v : View E) → get_elem? s.views id ≡ some v → IsOpen v → LockRule stand_of reached passes s → Running stand_of reached passes s
+  kept_of passes id s v at is rule_holds = ⊎_elim (λ (f : Fresh stand_of reached passes s). absurd (not_fresh passes id s v at is f)) (λ k. k) rule_holds
 
   -- and one that is not open and has a share is in no lock with a state
-  not_kept : (passes id : ℕ) (s : State (Option T) (View E)) (v : View E) → get_elem? s.views id ≡ some v → v.opening ≡ None → 1 ≤ v.allowance → Running stand_of passes s → ⊥
+  not_kept : (passes id : ℕ) (s : State (Option T) (View E)) (v : View E) → get_elem? s.views id ≡ some v → v.opening ≡ None → 1 ≤ v.allowance → Running stand_of reached passes s → ⊥
   not_kept passes id s v at is share kept =
       ⊎_elim
       (λ (h : v.opening ≡ Some kept.start). none_some (sym is ∙ h))
       (λ h. omega (arith, share, h.1))
       (kept.each id v at).knows.opening
 
-  pub opens : (passes : ℕ) → 1 ≤ passes → passes ≤ 64 → LockRule stand_of passes (opening (0 ∷ 0 ∷ []) (None ∷ []) (newcomer passes))
+  pub opens : (passes : ℕ) → 1 ≤ passes → passes ≤ 64 → LockRule stand_of reached passes (opening (0 ∷ 0 ∷ []) (None ∷ []) (newcomer passes))
   opens passes one few = inl (record { one = one; few = few; words = refl; slot = inl (refl, refl) })
 
   pub takes_empty : (passes id : ℕ) (me : Me (Option T) (View E)) → 1 ≤ passes → me ≡ (newcomer passes, [])
-      → Allows (LockRule stand_of passes) 1 id me 0 (λ n. n) (rule.takes_empty (step 1 0 0 0 none) me)
+      → Allows (LockRule stand_of reached passes) 1 id me 0 (λ n. n) (rule.takes_empty (step 1 0 0 0 none) me)
   takes_empty passes id me one is =
-      subst (λ m. Allows (LockRule stand_of passes) 1 id m 0 (λ n. n) (rule.takes_empty (step 1 0 0 0 none) m)) (sym is)
+      subst (λ m. Allows (LockRule stand_of reached passes) 1 id m 0 (λ n. n) (rule.takes_empty (step 1 0 0 0 none) m)) (sym is)
       (λ s rule_holds long at small. ⊎_elim
-      (λ (fresh : Fresh stand_of passes s). ⊎_elim
+      (λ (fresh : Fresh stand_of reached passes s). ⊎_elim
       (λ (h : (s.views ≡ newcomer passes ∷ []) × (get_elem? s.homes 0 ≡ some (some None))). (
         bringer passes,
         takes 0 None,
@@ -117,12 +117,13 @@ module _ {T E : Type 0} (stand_of : T → Stand E) where
     settled = λ id v entry at has. absurd (contains_none v.settled entry (ap (λ (u : View E). u.settled) (only (begun passes y) v (begun passes y ∷ []) id refl at).1) has);
     pending = λ entry is. absurd (none_some (sym calm ∙ is));
     faults = inl (omega (arith, sum_by-cons (λ (u : View E). u.faults) (begun passes y) []));
+    still = λ _. refl;
     fixed = refl;
   }
 
-  first_kept : (passes : ℕ) (x : T) (s : State (Option T) (View E)) → 1 ≤ passes → passes ≤ 64 → (stand_of x).pending ≡ None
-      → s.words ≡ 0 ∷ 0 ∷ [] → s.views ≡ begun passes (stand_of x) ∷ [] → get_elem? s.homes 0 ≡ some (some (Some x)) → Running stand_of passes s
-  first_kept passes x s one few calm words views home =
+  first_kept : (passes : ℕ) (x : T) (s : State (Option T) (View E)) → 1 ≤ passes → passes ≤ 64 → (stand_of x).pending ≡ None → reached (stand_of x) x
+      → s.words ≡ 0 ∷ 0 ∷ [] → s.views ≡ begun passes (stand_of x) ∷ [] → get_elem? s.homes 0 ≡ some (some (Some x)) → Running stand_of reached passes s
+  first_kept passes x s one few calm there words views home =
       let b : View E = begun passes (stand_of x) in
       record {
         serving = 0;
@@ -137,15 +138,15 @@ module _ {T E : Type 0} (stand_of : T → Stand E) where
         held = omega (arith, ap (sum_by (λ (u : View E). holds_number u)) views, sum_by-cons (λ (u : View E). holds_number u) b []);
         shares = omega (arith, ap (sum_by (λ (u : View E). u.allowance)) views, sum_by-cons (λ (u : View E). u.allowance) b []);
         accounts = subst (Accounts (stand_of x) (stand_of x)) (sym views) (first_accounts passes (stand_of x) calm);
-        slot = inl (x, home, refl, λ id v at. ap (λ (u : View E). u.base) (only b v s.views id views at).1);
+        slot = inl (x, home, refl, there, λ id v at. ap (λ (u : View E). u.base) (only b v s.views id views at).1);
       }
 
-  pub brings : (passes id : ℕ) (me : Me (Option T) (View E)) (x : T) → 1 ≤ passes → me ≡ (bringer passes, (0, Some x) ∷ []) → (stand_of x).pending ≡ None
-      → Allows (LockRule stand_of passes) 1 id me 0 (λ n. n) (rule.brings stand_of (step 1 0 0 0 none) me)
-  brings passes id me x one is calm =
-      subst (λ m. Allows (LockRule stand_of passes) 1 id m 0 (λ n. n) (rule.brings stand_of (step 1 0 0 0 none) m)) (sym is)
+  pub brings : (passes id : ℕ) (me : Me (Option T) (View E)) (x : T) → 1 ≤ passes → me ≡ (bringer passes, (0, Some x) ∷ []) → (stand_of x).pending ≡ None → reached (stand_of x) x
+      → Allows (LockRule stand_of reached passes) 1 id me 0 (λ n. n) (rule.brings stand_of reached (step 1 0 0 0 none) me)
+  brings passes id me x one is calm there =
+      subst (λ m. Allows (LockRule stand_of reached passes) 1 id m 0 (λ n. n) (rule.brings stand_of reached (step 1 0 0 0 none) m)) (sym is)
       (λ s rule_holds long at small. ⊎_elim
-      (λ (fresh : Fresh stand_of passes s). ⊎_elim
+      (λ (fresh : Fresh stand_of reached passes s). ⊎_elim
       (λ (h : (s.views ≡ newcomer passes ∷ []) × (get_elem? s.homes 0 ≡ some (some None))).
       absurd (none_some (sym (ap (λ (u : View E). u.number) (only (newcomer passes) (bringer passes) s.views id h.0 at).1))))
       (λ (h : s.views ≡ bringer passes ∷ []). (
@@ -154,7 +155,7 @@ module _ {T E : Type 0} (stand_of : T → Stand E) where
         tt,
         inr (first_kept passes x
             (stepped s 0 (slice_index s.words 0) id ((0, Some x) ∷ []) (begun passes (stand_of x)) gives)
-            one fresh.few calm
+            one fresh.few calm there
             (load_words s.words 0 0 fresh.words ∙ fresh.words)
             (set_only (bringer passes) (begun passes (stand_of x)) s.views id h (only (bringer passes) (bringer passes) s.views id h at).0)
             (set_here s.homes 0 (some (Some x)) (omega (arith, long)))),
@@ -176,12 +177,12 @@ module _ {T E : Type 0} (stand_of : T → Stand E) where
       (at_set views id i w u at_i)
 
   -- the slot stays where it is, where a view changes that is not served before or after
-  slot_set : (now : Stand E) (s : State (Option T) (View E)) (words : List ℕ) (id : ℕ) (v w : View E) → get_elem? s.views id ≡ some v → v.base ≡ None → w.base ≡ None
-      → AtHome stand_of now s ⊎ Away stand_of now s
-      → AtHome stand_of now (record { words = words; homes = s.homes; views = set s.views id w }) ⊎ Away stand_of now (record { words = words; homes = s.homes; views = set s.views id w })
-  slot_set now s words id v w at before after slot =
+  slot_set : (start now : Stand E) (s : State (Option T) (View E)) (words : List ℕ) (id : ℕ) (v w : View E) → get_elem? s.views id ≡ some v → v.base ≡ None → w.base ≡ None
+      → AtHome stand_of reached start now s ⊎ Away stand_of reached now s
+      → AtHome stand_of reached start now (record { words = words; homes = s.homes; views = set s.views id w }) ⊎ Away stand_of reached now (record { words = words; homes = s.homes; views = set s.views id w })
+  slot_set start now s words id v w at before after slot =
       ⊎_elim
-      (λ home. let (x, at_home, is, none_served) = home in inl (x, at_home, is, λ j u at_j. ⊎_elim (λ t. ap (λ (y : View E). y.base) (sym t.1) ∙ after) (λ t. none_served j u t.1) (at_set s.views id j w u at_j)))
+      (λ home. let (x, at_home, is, there, none_served) = home in inl (x, at_home, is, there, λ j u at_j. ⊎_elim (λ t. ap (λ (y : View E). y.base) (sym t.1) ∙ after) (λ t. none_served j u t.1) (at_set s.views id j w u at_j)))
       (λ away. let (j, u, gone, at_j, base) = away in inr (j, u, gone, set_else s.views id j w (λ same. none_some (sym before ∙ (ap (λ (y : View E). y.base) (some-injective v u (sym at ∙ (ap (get_elem? s.views) (sym same) ∙ at_j))) ∙ base))) ∙ at_j, base))
       slot
 
@@ -191,7 +192,7 @@ module _ {T E : Type 0} (stand_of : T → Stand E) where
 
   -- drawing a number
   pub draws : (passes id : ℕ) (me : Me (Option T) (View E)) → IsIdle me → 1 ≤ me.0.allowance
-      → Allows (LockRule stand_of passes) 1 id me 0 (λ n. (n + 1) % 2 ^ 64) (rule.draws (step 1 0 1 0 none) me)
+      → Allows (LockRule stand_of reached passes) 1 id me 0 (λ n. (n + 1) % 2 ^ 64) (rule.draws (step 1 0 1 0 none) me)
   draws passes id (v, carried) idle share s rule_holds long at small =
       let kept = kept_of passes id s v at idle.0.2 rule_holds in
       let k : ℕ = kept.serving + kept.waiting in
@@ -222,7 +223,7 @@ module _ {T E : Type 0} (stand_of : T → Stand E) where
           held = omega (arith, kept.held);
           shares = omega (arith, kept.shares);
           accounts = accounts_set kept.start kept.now s.views id v w at refl refl refl refl kept.accounts;
-          slot = slot_set kept.now s (set s.words 0 ((slice_index s.words 0 + 1) % 2 ^ 64)) id v w at idle.0.1 idle.0.1 kept.slot;
+          slot = slot_set kept.start kept.now s (set s.words 0 ((slice_index s.words 0 + 1) % 2 ^ 64)) id v w at idle.0.1 idle.0.1 kept.slot;
         }),
         (k, ap (λ ws. slice_index ws 0) kept.words, refl),
       )
@@ -237,7 +238,7 @@ module _ {T E : Type 0} (stand_of : T → Stand E) where
   one_share serving waiting allowance None h = omega arith
   one_share serving waiting allowance (Some k) h = (h k refl).2
 
-  few_wait : (passes : ℕ) (s : State (Option T) (View E)) (kept : Running stand_of passes s) → kept.waiting ≤ 64
+  few_wait : (passes : ℕ) (s : State (Option T) (View E)) (kept : Running stand_of reached passes s) → kept.waiting ≤ 64
   few_wait passes s kept =
       let below = sum_below s.views (λ i u at. one_share kept.serving kept.waiting u.allowance u.number (kept.each i u at).number) in
       omega (arith, below, kept.held, kept.shares, kept.few)
@@ -245,15 +246,15 @@ module _ {T E : Type 0} (stand_of : T → Stand E) where
   -- how a look goes on
   abbrev Goes_on : ℕ → ℕ → View E → State (Option T) (View E) → Type 0
   Goes_on passes id v s =
-      (w : View E) × (a : Act (Option T)) × Valid s.homes [] a × LockRule stand_of passes (stepped s 1 (slice_index s.words 1) id [] w a)
-      × rule.looks stand_of (step 1 1 0 0 none) (v, []) (slice_index s.words 1) (w, carried_after [] a)
+      (w : View E) × (a : Act (Option T)) × Valid s.homes [] a × LockRule stand_of reached passes (stepped s 1 (slice_index s.words 1) id [] w a)
+      × rule.looks stand_of reached (step 1 1 0 0 none) (v, []) (slice_index s.words 1) (w, carried_after [] a)
 
   -- a load that changes no view keeps the rule, and so does one that changes nothing that counts
-  module _ (passes id : ℕ) (s : State (Option T) (View E)) (kept : Running stand_of passes s) (v : View E) (at : get_elem? s.views id ≡ some v) where
+  module _ (passes id : ℕ) (s : State (Option T) (View E)) (kept : Running stand_of reached passes s) (v : View E) (at : get_elem? s.views id ≡ some v) where
     load_kept : (words : List ℕ) → words ≡ s.words → (w : View E) → w.number ≡ v.number → w.base ≡ v.base → v.base ≡ None → w.allowance ≡ v.allowance
         → w.mine ≡ v.mine → w.settled ≡ v.settled → w.left ≡ v.left → w.faults ≡ v.faults
         → Knows kept.start kept.now w
-        → Running stand_of passes (record { words = words; homes = s.homes; views = set s.views id w })
+        → Running stand_of reached passes (record { words = words; homes = s.homes; views = set s.views id w })
     load_kept words same_words w number base idle share mine settled left faults knows =
         let held = sum_set (λ (u : View E). holds_number u) s.views id v w at in
         let number_same : holds_number w ≡ holds_number v = ap (λ o. if is_some o then 1 else 0) number in
@@ -274,15 +275,27 @@ module _ {T E : Type 0} (stand_of : T → Stand E) where
           held = omega (arith, kept.held, held, number_same);
           shares = omega (arith, kept.shares, shares, share);
           accounts = accounts_set kept.start kept.now s.views id v w at mine settled left faults kept.accounts;
-          slot = slot_set kept.now s words id v w at idle (base ∙ idle) kept.slot;
+          slot = slot_set kept.start kept.now s words id v w at idle (base ∙ idle) kept.slot;
         }
+
+  -- a seat's lock was made with the state that the lock began with
+  from_start : (v : View E) (start : Stand E) (x : T) → (v.opening ≡ Some start) ⊎ ((v.opening ≡ None) × (v.allowance ≡ 0)) → reached start x → HasReached stand_of reached v x
+  from_start v start x opening there other is =
+      ⊎_elim
+      (λ (h : v.opening ≡ Some start). subst (λ (y : Stand E). reached y x) (same_some (sym h ∙ is)) there)
+      (λ h. absurd (none_some (sym h.0 ∙ is)))
+      opening
+
+  to_start : (v : View E) (start : Stand E) (x : T) → (v.opening ≡ Some start) ⊎ ((v.opening ≡ None) × (v.allowance ≡ 0)) → IsOpen v → HasReached stand_of reached v x → reached start x
+  to_start v start x opening open_ there =
+      ⊎_elim (λ (h : v.opening ≡ Some start). there start h) (λ h. absurd (none_some (sym h.0 ∙ open_.1))) opening
 
   -- looking at the number that is served
   pub looks : (passes id : ℕ) (v : View E) (k : ℕ) → v.number ≡ Some k → v.base ≡ None → IsOpen v
-      → Allows (LockRule stand_of passes) 1 id (v, []) 1 (λ n. n) (rule.looks stand_of (step 1 1 0 0 none) (v, []))
+      → Allows (LockRule stand_of reached passes) 1 id (v, []) 1 (λ n. n) (rule.looks stand_of reached (step 1 1 0 0 none) (v, []))
   looks passes id v k number idle open_ s rule_holds long at small = dite (ℕ_discrete kept.serving k) hit miss
     where
-      kept : Running stand_of passes s
+      kept : Running stand_of reached passes s
       kept = kept_of passes id s v at open_ rule_holds
 
       mine : (kept.serving ≤ k) × (k < kept.serving + kept.waiting) × (1 ≤ v.allowance)
@@ -307,7 +320,7 @@ module _ {T E : Type 0} (stand_of : T → Stand E) where
       )
 
       -- no other seat is served
-      home : kept.serving ≡ k → AtHome stand_of kept.now s
+      home : kept.serving ≡ k → AtHome stand_of reached kept.start kept.now s
       home here = ⊎_elim (λ h. h) (λ away. let (j, u, gone, at_j, base) = away in
           let served = (kept.each j u at_j).served kept.now base in
           let same : j ≡ id = kept.apart j id u v k at_j at (served.0 ∙ ap Some here) number in
@@ -315,7 +328,7 @@ module _ {T E : Type 0} (stand_of : T → Stand E) where
           absurd (none_some (sym idle ∙ (ap (λ (y : View E). y.base) (sym one) ∙ base)))) kept.slot
 
       hit : kept.serving ≡ k → Goes_on passes id v s
-      hit here = let (x, at_home, is, none_served) = home here in
+      hit here = let (x, at_home, is, there, none_served) = home here in
           let w : View E = record v { base = Some (stand_of x) } in
           let held : sum_by (λ (u : View E). holds_number u) (set s.views id w) + holds_number v ≡ sum_by (λ (u : View E). holds_number u) s.views + holds_number v = sum_set (λ (u : View E). holds_number u) s.views id v w at in
           let shares : sum_by (λ (u : View E). u.allowance) (set s.views id w) + v.allowance ≡ sum_by (λ (u : View E). u.allowance) s.views + v.allowance = sum_set (λ (u : View E). u.allowance) s.views id v w at in
@@ -342,7 +355,7 @@ module _ {T E : Type 0} (stand_of : T → Stand E) where
               slot = inr (id, w, set_here s.homes 0 none (omega (arith, long)), set_here s.views id w (got s.views id v at).0, ap Some is);
             }),
             λ n e. (
-              λ equal. (x, subst (λ (y : Stand E). IsOlder v.seen y.list) (sym is) knows.seen, refl),
+              λ equal. (x, subst (λ (y : Stand E). IsOlder v.seen y.list) (sym is) knows.seen, from_start v kept.start x knows.opening there, refl),
               λ differs. absurd (differs (found ∙ ap (λ m. m % 2 ^ 64) (here ∙ same_some (sym number ∙ e)))),
             ),
           )
@@ -352,15 +365,15 @@ module _ {T E : Type 0} (stand_of : T → Stand E) where
   no_base None h = refl
   no_base (Some y) h = absurd (h y refl)
 
-  not_served : (passes : ℕ) (s : State (Option T) (View E)) (kept : Running stand_of passes s) (id : ℕ) (v : View E) (k j : ℕ) (u : View E) → get_elem? s.views id ≡ some v → v.number ≡ Some k → k ≡ kept.serving
+  not_served : (passes : ℕ) (s : State (Option T) (View E)) (kept : Running stand_of reached passes s) (id : ℕ) (v : View E) (k j : ℕ) (u : View E) → get_elem? s.views id ≡ some v → v.number ≡ Some k → k ≡ kept.serving
       → get_elem? s.views j ≡ some u → j ≢ id → u.base ≡ None
   not_served passes s kept id v k j u at number here at_j ne =
       no_base u.base (λ y e. ne (kept.apart j id u v k at_j at (((kept.each j u at_j).served y e).0 ∙ ap Some (sym here)) number))
 
   -- ending the turn, with the state in the seat
-  pub ends : (passes id faults : ℕ) (v : View E) (k : ℕ) (b : Stand E) (x : T) → v.number ≡ Some k → v.base ≡ Some b → IsOpen v → MovesBy faults b (stand_of x)
-      → Allows (LockRule stand_of passes) 1 id (v, (0, Some x) ∷ []) 1 (λ n. (n + 1) % 2 ^ 64) (rule.ends stand_of faults (step 1 1 1 0 none) (v, (0, Some x) ∷ []))
-  ends passes id faults v k b x number based open_ moves_b s rule_holds long at small =
+  pub ends : (passes id faults : ℕ) (v : View E) (k : ℕ) (b : Stand E) (x : T) → v.number ≡ Some k → v.base ≡ Some b → IsOpen v → HasReached stand_of reached v x → MovesBy faults b (stand_of x)
+      → Allows (LockRule stand_of reached passes) 1 id (v, (0, Some x) ∷ []) 1 (λ n. (n + 1) % 2 ^ 64) (rule.ends stand_of reached faults (step 1 1 1 0 none) (v, (0, Some x) ∷ []))
+  ends passes id faults v k b x number based open_ there moves_b s rule_holds long at small =
       let kept = kept_of passes id s v at open_ rule_holds in
       let y : Stand E = stand_of x in
       let w : View E = after_turn faults b y v in
@@ -398,7 +411,7 @@ module _ {T E : Type 0} (stand_of : T → Stand E) where
           held = omega (arith, kept.held, bounds);
           shares = omega (arith, kept.shares);
           accounts = accounts_end kept.start kept.now y s.views id v w (mine_in b y) (settled_in b y) (left_in b y) faults at moves refl refl refl refl kept.accounts;
-          slot = inl (x, set_here s.homes 0 (some (Some x)) (omega (arith, long)), refl, λ j u at_j. ⊎_elim (λ t. ap (λ (z : View E). z.base) (sym t.1)) (λ t. not_served passes s kept id v k j u at number here t.1 t.0) (at_set s.views id j w u at_j));
+          slot = inl (x, set_here s.homes 0 (some (Some x)) (omega (arith, long)), refl, to_start v kept.start x mine.knows.opening open_ there, λ j u at_j. ⊎_elim (λ t. ap (λ (z : View E). z.base) (sym t.1)) (λ t. not_served passes s kept id v k j u at number here t.1 t.0) (at_set s.views id j w u at_j));
         }),
         λ z c e f.
             let same : x ≡ z = same_some (ap carried_state e) in
@@ -407,16 +420,16 @@ module _ {T E : Type 0} (stand_of : T → Stand E) where
       )
 
   -- the same of any seat that waits, and of any that is done
-  pub looks_me : (passes id : ℕ) (me : Me (Option T) (View E)) (found : ℕ) → IsWaiting found me → Allows (LockRule stand_of passes) 1 id me 1 (λ n. n) (rule.looks stand_of (step 1 1 0 0 none) me)
+  pub looks_me : (passes id : ℕ) (me : Me (Option T) (View E)) (found : ℕ) → IsWaiting found me → Allows (LockRule stand_of reached passes) 1 id me 1 (λ n. n) (rule.looks stand_of reached (step 1 1 0 0 none) me)
   looks_me passes id (v, carried) found (k, number, low, base, empty, open_) =
-      subst (λ l. Allows (LockRule stand_of passes) 1 id (v, l) 1 (λ n. n) (rule.looks stand_of (step 1 1 0 0 none) (v, l))) (sym empty) (looks passes id v k number base open_)
+      subst (λ l. Allows (LockRule stand_of reached passes) 1 id (v, l) 1 (λ n. n) (rule.looks stand_of reached (step 1 1 0 0 none) (v, l))) (sym empty) (looks passes id v k number base open_)
 
-  pub ends_me : (passes id fault : ℕ) (me : Me (Option T) (View E)) (x : T) (b : Stand E) → IsDone stand_of fault x b me → Allows (LockRule stand_of passes) 1 id me 1 (λ n. (n + 1) % 2 ^ 64) (rule.ends stand_of fault (step 1 1 1 0 none) me)
-  ends_me passes id fault (v, carried) x b (k, number, based, open_, has, went) =
-      subst (λ l. Allows (LockRule stand_of passes) 1 id (v, l) 1 (λ n. (n + 1) % 2 ^ 64) (rule.ends stand_of fault (step 1 1 1 0 none) (v, l))) (sym has) (ends passes id fault v k b x number based open_ went)
+  pub ends_me : (passes id fault : ℕ) (me : Me (Option T) (View E)) (x : T) (b : Stand E) → IsDone stand_of reached fault x b me → Allows (LockRule stand_of reached passes) 1 id me 1 (λ n. (n + 1) % 2 ^ 64) (rule.ends stand_of reached fault (step 1 1 1 0 none) me)
+  ends_me passes id fault (v, carried) x b (k, number, based, open_, has, there, went) =
+      subst (λ l. Allows (LockRule stand_of reached passes) 1 id (v, l) 1 (λ n. (n + 1) % 2 ^ 64) (rule.ends stand_of reached fault (step 1 1 1 0 none) (v, l))) (sym has) (ends passes id fault v k b x number based open_ there went)
 
   -- the seat learns which of its two lists is the longer
-  pub learns : (passes id : ℕ) (me : Me (Option T) (View E)) → IsIdle me → Allows (LockRule stand_of passes) 1 id me 0 (λ n. n) (rule.learns (step 1 0 0 0 none) me)
+  pub learns : (passes id : ℕ) (me : Me (Option T) (View E)) → IsIdle me → Allows (LockRule stand_of reached passes) 1 id me 0 (λ n. n) (rule.learns (step 1 0 0 0 none) me)
   learns passes id (v, carried) idle s rule_holds long at small =
       let kept = kept_of passes id s v at idle.0.2 rule_holds in
       let knows = (kept.each id v at).knows in
@@ -430,15 +443,15 @@ module _ {T E : Type 0} (stand_of : T → Stand E) where
       )
 
   -- what a look tells a seat that waits
-  pub look_tells : (m m' : Me (Option T) (View E)) (found number : ℕ) → IsWaiting number m → rule.looks stand_of (step 1 1 0 0 none) m found m' → MatchBool (found == number) (IsServedAfter stand_of m m') (m' ≡ m)
+  pub look_tells : (m m' : Me (Option T) (View E)) (found number : ℕ) → IsWaiting number m → rule.looks stand_of reached (step 1 1 0 0 none) m found m' → MatchBool (found == number) (IsServedAfter stand_of reached m m') (m' ≡ m)
   look_tells m m' found number (k, is, low, base, empty, open_) tells = go (found == number) refl
     where
-      go : (b : Bool) → (found == number) ≡ b → MatchBool b (IsServedAfter stand_of m m') (m' ≡ m)
+      go : (b : Bool) → (found == number) ≡ b → MatchBool b (IsServedAfter stand_of reached m m') (m' ≡ m)
       go true e = let same : found ≡ number = grind (arith, nat_tests) in (tells k is).0 (same ∙ low)
       go false e = let differs : found ≢ number = (λ s. let t : (found == number) ≡ true = grind (arith, nat_tests) in true≢false (sym t ∙ e)) in (tells k is).1 (λ s. differs (s ∙ sym low))
 
   -- cutting off a part of the allowance
-  pub splits : (passes id n : ℕ) (me : Me (Option T) (View E)) → IsIdle me → n < me.0.allowance → Splits (LockRule stand_of passes) id me.0 (with_less n me.0) (with_part n me.0)
+  pub splits : (passes id n : ℕ) (me : Me (Option T) (View E)) → IsIdle me → n < me.0.allowance → Splits (LockRule stand_of reached passes) id me.0 (with_less n me.0) (with_part n me.0)
   splits passes id n (v, carried) idle enough s rule_holds at =
       let kept = kept_of passes id s v at idle.0.2 rule_holds in
       let w : View E = with_less n v in
@@ -466,13 +479,13 @@ module _ {T E : Type 0} (stand_of : T → Stand E) where
         shares = omega (arith, kept.shares);
         accounts = accounts_snoc kept.start kept.now (set s.views id w) r (record { mine = refl; settled = refl; left = refl; faults = refl }) (accounts_set kept.start kept.now s.views id v w at refl refl refl refl kept.accounts);
         slot = ⊎_elim
-            (λ home. let (x, at_home, is, none_served) = home in inl (x, at_home, is, λ j u at_j. ⊎_elim (λ t. none_served_set s id v w at idle.0.1 none_served j u t) (λ t. ap (λ (y : View E). y.base) (sym t)) (at_snoc (set s.views id w) r u j at_j)))
+            (λ home. let (x, at_home, is, there, none_served) = home in inl (x, at_home, is, there, λ j u at_j. ⊎_elim (λ t. none_served_set s id v w at idle.0.1 none_served j u t) (λ t. ap (λ (y : View E). y.base) (sym t)) (at_snoc (set s.views id w) r u j at_j)))
             (λ away. let (j, u, gone, at_j, base) = away in inr (j, u, gone, at_longer (set s.views id w) (r ∷ []) j u (set_else s.views id j w (λ same. none_some (sym idle.0.1 ∙ (ap (λ (y : View E). y.base) (some-injective v u (sym at ∙ (ap (get_elem? s.views) (sym same) ∙ at_j))) ∙ base))) ∙ at_j), base))
             kept.slot;
       })
 
   -- taking in all that another seat has
-  pub joins : (passes id other : ℕ) (me me' : Me (Option T) (View E)) → IsIdle me → IsIdle me' → Joins (LockRule stand_of passes) id me.0 other me'.0 (with_other me.0 me'.0) (newcomer 0)
+  pub joins : (passes id other : ℕ) (me me' : Me (Option T) (View E)) → IsIdle me → IsIdle me' → Joins (LockRule stand_of reached passes) id me.0 other me'.0 (with_other me.0 me'.0) (newcomer 0)
   joins passes id other (v, carried) (w, carried') ((vn, vb, vo), ve) ((wn, wb, wo), we) s rule_holds at apart_ids at_other =
       let kept = kept_of passes id s v at vo rule_holds in
       let b : View E = with_other v w in
@@ -487,7 +500,7 @@ module _ {T E : Type 0} (stand_of : T → Stand E) where
       let knows_b : Holds kept.serving kept.waiting kept.start kept.now b = record { knows = knows_other kept.start kept.now v w vo (kept.each id v at).knows (kept.each other w at_old).knows; number = λ k e. absurd (none_some (sym vn ∙ e)); served = λ y e. absurd (none_some (sym vb ∙ e)) } in
       let knows_r : Holds kept.serving kept.waiting kept.start kept.now r = record { knows = knows_spent kept.start kept.now; number = λ k e. absurd (none_some e); served = λ y e. absurd (none_some e) } in
       let apart_one = apart_set s.views id b kept.apart (λ l y m ne at_l g h. none_some (sym vn ∙ h)) in
-      let slot_one = slot_set kept.now s s.words id v b at vb vb kept.slot in
+      let slot_one = slot_set kept.start kept.now s s.words id v b at vb vb kept.slot in
       inr (record {
         serving = kept.serving;
         waiting = kept.waiting;
@@ -500,15 +513,15 @@ module _ {T E : Type 0} (stand_of : T → Stand E) where
         held = omega (arith, kept.held);
         shares = omega (arith, kept.shares);
         accounts = accounts_join kept.start kept.now s.views id other v w b r at apart_ids at_other refl refl refl refl nothing kept.accounts;
-        slot = slot_set kept.now (record { words = s.words; homes = s.homes; views = one }) s.words other w r at_other wb refl slot_one;
+        slot = slot_set kept.start kept.now (record { words = s.words; homes = s.homes; views = one }) s.words other w r at_other wb refl slot_one;
       })
 
   -- with every allowance in one seat that rests, no other seat has anything
-  module _ (passes id : ℕ) (s : State (Option T) (View E)) (v : View E) (kept : Running stand_of passes s) (at : get_elem? s.views id ≡ some v) (all_of : v.allowance ≡ passes) where
+  module _ (passes id : ℕ) (s : State (Option T) (View E)) (v : View E) (kept : Running stand_of reached passes s) (at : get_elem? s.views id ≡ some v) (all_of : v.allowance ≡ passes) where
     no_other_share : (j : ℕ) (u : View E) → get_elem? s.views j ≡ some u → id ≢ j → u.allowance ≡ 0
     no_other_share j u at_j differs = omega (arith, two_below (λ (y : View E). y.allowance) s.views id j v u at at_j differs, kept.shares, all_of)
 
-    home_at_end : v.number ≡ None → AtHome stand_of kept.now s
+    home_at_end : v.number ≡ None → AtHome stand_of reached kept.start kept.now s
     home_at_end none_held = ⊎_elim (λ home. home) (λ away. let (j, u, gone, at_j, base) = away in
         let served = (kept.each j u at_j).served kept.now base in
         let share = (kept.each j u at_j).number kept.serving served.0 in
@@ -528,11 +541,13 @@ module _ {T E : Type 0} (stand_of : T → Stand E) where
     faults_alone : sum_by (λ (u : View E). u.faults) s.views ≡ v.faults
     faults_alone = sum_alone (λ (u : View E). u.faults) s.views id v at (λ j u at_j differs. ((kept.each j u at_j).knows.nothing (no_other_share j u at_j differs)).faults)
 
+    opened_by : IsOpen v → opening_of v.opening ≡ kept.start
+    opened_by open_ = ap opening_of (⊎_elim (λ (e : v.opening ≡ Some kept.start). e) (λ h. absurd (none_some (sym h.0 ∙ open_.1))) (kept.each id v at).knows.opening)
+
     closes_of : (lock : TableId) → IsOpen v → Closes (known lock v) kept.now
     closes_of lock open_ =
         let mine = (kept.each id v at).knows in
-        let opened : v.opening ≡ Some kept.start = ⊎_elim (λ (e : v.opening ≡ Some kept.start). e) (λ h. absurd (none_some (sym h.0 ∙ open_.1))) mine.opening in
-        let start_is : opening_of v.opening ≡ kept.start = ap opening_of opened in
+        let start_is : opening_of v.opening ≡ kept.start = opened_by open_ in
         let a = kept.accounts in
         record {
           added = a.added;
@@ -542,16 +557,21 @@ module _ {T E : Type 0} (stand_of : T → Stand E) where
           settled = λ entry has. left_at_end entry (a.settled id v entry at has);
           pending = λ entry is. left_at_end (length kept.now.list + 1, entry) (a.pending entry is);
           faults = subst (λ (y : Stand E). RoseBy v.faults y.faults kept.now.faults) (sym start_is) (subst (λ n. RoseBy n kept.start.faults kept.now.faults) faults_alone a.faults);
+          still = λ calm. a.still (faults_alone ∙ calm) ∙ ap (λ (y : Stand E). y.faults) (sym start_is);
           fixed = a.fixed ∙ ap (λ (y : Stand E). y.fixed) (sym start_is);
         }
 
   -- what is taken out at the end
-  pub closed_state : (passes id : ℕ) (me : Me (Option T) (View E)) (ws : List ℕ) (xs : List (Option T)) (lock : TableId) → Final (Seen (LockRule stand_of passes) id me.0) ws xs → IsIdle me → me.0.allowance ≡ passes
-      → (st : Option T) → get_elem? xs 0 ≡ some st → (x : T) × (st ≡ Some x) × Closes (known lock me.0) (stand_of x)
+  pub closed_state : (passes id : ℕ) (me : Me (Option T) (View E)) (ws : List ℕ) (xs : List (Option T)) (lock : TableId) → Final (Seen (LockRule stand_of reached passes) id me.0) ws xs → IsIdle me → me.0.allowance ≡ passes
+      → (st : Option T) → get_elem? xs 0 ≡ some st → (x : T) × (st ≡ Some x) × Closes (known lock me.0) (stand_of x) × reached (opening_of me.0.opening) x
   closed_state passes id (v, carried) ws xs lock (s, seen, words, long, kept_homes) idle all_of st there =
       let kept = kept_of passes id s v seen.1 idle.0.2 seen.0 in
-      let (x, at_home, is, none_served) = home_at_end passes id s v kept seen.1 all_of idle.0.0 in
-      (x, some-injective st (Some x) (sym there ∙ kept_homes 0 (Some x) at_home), subst (Closes (known lock v)) (sym is) (closes_of passes id s v kept seen.1 all_of lock idle.0.2))
+      let (x, at_home, is, come, none_served) = home_at_end passes id s v kept seen.1 all_of idle.0.0 in (
+        x,
+        some-injective st (Some x) (sym there ∙ kept_homes 0 (Some x) at_home),
+        subst (Closes (known lock v)) (sym is) (closes_of passes id s v kept seen.1 all_of lock idle.0.2),
+        subst (λ (y : Stand E). reached y x) (sym (opened_by passes id s v kept seen.1 all_of idle.0.2)) come,
+      )
 
   -- a whole turn: the seat draws, is served, has the state take its turn, and ends
   module _ (own : Option E) (says : Says) (Meets : Stand E → Stand E → Type 0) where
@@ -559,23 +579,23 @@ module _ {T E : Type 0} (stand_of : T → Stand E) where
     Drawn m0 m1 found = (k : ℕ) × (found ≡ k % 2 ^ 64) × (m1 ≡ (record m0.0 { number = Some k }, []))
 
     abbrev TurnedTo : Me (Option T) (View E) → Me (Option T) (View E) → Type 0
-    TurnedTo m2 m3 = (x : T) → m2.1 ≡ (0, Some x) ∷ [] → (y : T) × HasGone own says (stand_of x) (stand_of y) × Meets (stand_of x) (stand_of y) × (m3.1 ≡ (0, Some y) ∷ [])
+    TurnedTo m2 m3 = (x : T) → m2.1 ≡ (0, Some x) ∷ [] → (y : T) × HasGone own says (stand_of x) (stand_of y) × Meets (stand_of x) (stand_of y) × ((start : Stand E) → reached start x → reached start y) × (m3.1 ≡ (0, Some y) ∷ [])
 
-    pub done_of : (m0 m1 m2 m3 : Me (Option T) (View E)) (found : ℕ) → IsIdle m0 → Drawn m0 m1 found → IsServedAfter stand_of m1 m2 → m3.0 ≡ m2.0 → TurnedTo m2 m3
-        → (y : T) × (b : Stand E) × IsDone stand_of (faults_in says) y b m3
-    done_of m0 m1 m2 m3 found idle (k, low, is1) (x, pre, is2) same turned =
-        let (y, gone, relation, has) = turned x (ap (λ (m : Me (Option T) (View E)). m.1) is2) in
+    pub done_of : (m0 m1 m2 m3 : Me (Option T) (View E)) (found : ℕ) → IsIdle m0 → Drawn m0 m1 found → IsServedAfter stand_of reached m1 m2 → m3.0 ≡ m2.0 → TurnedTo m2 m3
+        → (y : T) × (b : Stand E) × IsDone stand_of reached (faults_in says) y b m3
+    done_of m0 m1 m2 m3 found idle (k, low, is1) (x, pre, there, is2) same turned =
+        let (y, gone, relation, reaches, has) = turned x (ap (λ (m : Me (Option T) (View E)). m.1) is2) in
         let view : m3.0 ≡ record m0.0 { number = Some k; base = Some (stand_of x) } =
         same ∙ (ap (λ (m : Me (Option T) (View E)). m.0) is2 ∙ ap (λ (m : Me (Option T) (View E)). record m.0 { base = Some (stand_of x) }) is1) in (
           y,
           stand_of x,
-          (k, ap (λ (v : View E). v.number) view, ap (λ (v : View E). v.base) view, (idle.0.2.0, ap (λ (v : View E). v.opening) view ∙ idle.0.2.1), has, moves_of (stand_of x) (stand_of y) own says gone),
+          (k, ap (λ (v : View E). v.number) view, ap (λ (v : View E). v.base) view, (idle.0.2.0, ap (λ (v : View E). v.opening) view ∙ idle.0.2.1), has, λ start e. reaches start (there start (ap (λ (m : Me (Option T) (View E)). m.0.opening) is1 ∙ (sym (ap (λ (v : View E). v.opening) view) ∙ e))), moves_of (stand_of x) (stand_of y) own says gone),
         )
 
-    pub whole_turn : (lock : TableId) (m0 m1 m2 m3 m4 : Me (Option T) (View E)) (found : ℕ) → IsIdle m0 → Drawn m0 m1 found → IsServedAfter stand_of m1 m2 → m3.0 ≡ m2.0 → TurnedTo m2 m3 → HasEnded stand_of (faults_in says) m3 m4
+    pub whole_turn : (lock : TableId) (m0 m1 m2 m3 m4 : Me (Option T) (View E)) (found : ℕ) → IsIdle m0 → Drawn m0 m1 found → IsServedAfter stand_of reached m1 m2 → m3.0 ≡ m2.0 → TurnedTo m2 m3 → HasEnded stand_of reached (faults_in says) m3 m4
         → IsIdle m4 × (m4.0.allowance ≡ m0.0.allowance) × TakesTurn own says Meets (known lock m0.0) (known lock m4.0)
-    whole_turn lock m0 m1 m2 m3 m4 found idle (k, low, is1) (x, pre, is2) same turned ended_so =
-        let (y, gone, relation, has) = turned x (ap (λ (m : Me (Option T) (View E)). m.1) is2) in
+    whole_turn lock m0 m1 m2 m3 m4 found idle (k, low, is1) (x, pre, there, is2) same turned ended_so =
+        let (y, gone, relation, reaches, has) = turned x (ap (λ (m : Me (Option T) (View E)). m.1) is2) in
         let view : m3.0 ≡ record m0.0 { number = Some k; base = Some (stand_of x) } =
         same ∙ (ap (λ (m : Me (Option T) (View E)). m.0) is2 ∙ ap (λ (m : Me (Option T) (View E)). record m.0 { base = Some (stand_of x) }) is1) in
         let after : m4 ≡ (after_turn (faults_in says) (stand_of x) (stand_of y) m0.0, []) =

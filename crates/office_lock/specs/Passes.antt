@@ -74,4 +74,6 @@ pub record Closes {E : Type 0} (pass : Known E) (new : Stand E) : Type 0 where
   pub settled : (entry : ℕ × E) → Contains pass.settled entry → Contains pass.left entry
   pub pending : (entry : E) → new.pending ≡ Some entry → Contains pass.left (length new.list + 1, entry)
   pub faults : RoseBy pass.faults pass.opening.faults new.faults
+  -- where no turn was told of a fault there was none
+  pub still : pass.faults ≡ 0 → new.faults ≡ pass.opening.faults
   pub fixed : new.fixed ≡ pass.opening.fixed

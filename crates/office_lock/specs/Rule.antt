@@ -51,7 +51,7 @@ pub record Holds {E : Type 0} (serving waiting : ℕ) (start now : Stand E) (v :
 abbrev pub LeftBy : {E : Type 0} → List (View E) → ℕ × E → Type 0
 LeftBy {E} views entry = (id : ℕ) × (v : View E) × (get_elem? views id ≡ some v) × Contains v.left entry
 
--- Past the opening list stands just what the seats' turns admitted and settled. What was settled, and what is pending, some seat's turn had left. The faults rose by those that the seats were told of.
+-- Past the opening list stands just what the seats' turns admitted and settled. What was settled, and what is pending, some seat's turn had left. The faults rose by those that the seats were told of, and where none was told of any they stood still.
 pub record Accounts {E : Type 0} (start now : Stand E) (views : List (View E)) : Type 0 where
   pub added : List E
   pub list : now.list ≡ added ++ start.list
@@ -59,11 +59,12 @@ pub record Accounts {E : Type 0} (start now : Stand E) (views : List (View E)) :
   pub settled : (id : ℕ) (v : View E) (entry : ℕ × E) → get_elem? views id ≡ some v → Contains v.settled entry → LeftBy views entry
   pub pending : (entry : E) → now.pending ≡ Some entry → LeftBy views (length now.list + 1, entry)
   pub faults : RoseBy (sum_by (λ v. v.faults) views) start.faults now.faults
+  pub still : sum_by (λ v. v.faults) views ≡ 0 → now.faults ≡ start.faults
   pub fixed : now.fixed ≡ start.fixed
 
 -- what a state's turn says
 abbrev pub HasGone : {E : Type 0} → Option E → Says → Stand E → Stand E → Type 0
-HasGone own says old new = Goes own old says new × RoseBy (faults_in says) old.faults new.faults × (new.fixed ≡ old.fixed)
+HasGone own says old new = Goes own old says new × RoseBy (faults_in says) old.faults new.faults × (faults_in says ≡ 0 → new.faults ≡ old.faults) × (new.fixed ≡ old.fixed)
 
 -- what the rule needs of a turn, which adds these entries
 pub record Moves {E : Type 0} (old new : Stand E) (mine settled left : List (ℕ × E)) (faults : ℕ) : Type 0 where
@@ -73,6 +74,7 @@ pub record Moves {E : Type 0} (old new : Stand E) (mine settled left : List (ℕ
   pub earlier : (entry : ℕ × E) → Contains settled entry → (old.pending ≡ Some entry.1) × (entry.0 ≡ length old.list + 1)
   pub pending : (entry : E) → new.pending ≡ Some entry → Contains left (length new.list + 1, entry) ⊎ ((old.pending ≡ Some entry) × (new.list ≡ old.list))
   pub rose : RoseBy faults old.faults new.faults
+  pub still : faults ≡ 0 → new.faults ≡ old.faults
   pub fixed : new.fixed ≡ old.fixed
 
 abbrev pub MovesBy : {E : Type 0} → ℕ → Stand E → Stand E → Type 0
@@ -91,11 +93,11 @@ abbrev pub learns : {T E : Type 0} → Step (Option T) → Me (Option T) (View E
 learns step me found me' =
     (me' ≡ (with_longer me.0, me.1)) × IsOlder me.0.seen (longer me.0.seen me.0.also) × IsOlder me.0.also (longer me.0.seen me.0.also)
 
-module _ {T E : Type 0} (stand_of : T → Stand E) where
-  -- the slot is at home with the state, and no seat is served
-  abbrev pub AtHome : Stand E → State (Option T) (View E) → Type 0
-  AtHome now s =
-      (x : T) × (get_elem? s.homes 0 ≡ some (some (Some x))) × (stand_of x ≡ now)
+module _ {T E : Type 0} (stand_of : T → Stand E) (reached : Stand E → T → Type 0) where
+  -- the slot is at home with the state, which was reached from the opening one, and no seat is served
+  abbrev pub AtHome : Stand E → Stand E → State (Option T) (View E) → Type 0
+  AtHome start now s =
+      (x : T) × (get_elem? s.homes 0 ≡ some (some (Some x))) × (stand_of x ≡ now) × reached start x
       × ((id : ℕ) (v : View E) → get_elem? s.views id ≡ some v → v.base ≡ None)
 
   -- or it is away, with the one seat that is served
@@ -125,7 +127,7 @@ module _ {T E : Type 0} (stand_of : T → Stand E) where
     pub held : waiting ≡ sum_by (λ v. holds_number v) s.views
     pub shares : sum_by (λ v. v.allowance) s.views ≡ passes
     pub accounts : Accounts start now s.views
-    pub slot : AtHome now s ⊎ Away now s
+    pub slot : AtHome start now s ⊎ Away now s
 
   abbrev pub LockRule : ℕ → State (Option T) (View E) → Type 0
   LockRule passes s = Fresh passes s ⊎ Running passes s
@@ -134,9 +136,13 @@ module _ {T E : Type 0} (stand_of : T → Stand E) where
   abbrev pub brings : Step (Option T) → Me (Option T) (View E) → ℕ → Me (Option T) (View E) → Type 0
   brings step me found me' = (x : T) → me.1 ≡ (0, Some x) ∷ [] → me' ≡ (begun me.0.allowance (stand_of x), [])
 
+  -- the state was reached from the one that the seat's lock was made with
+  abbrev pub HasReached : View E → T → Type 0
+  HasReached v x = (start : Stand E) → v.opening ≡ Some start → reached start x
+
   -- the seat is served: the state is in it, and what the seat had seen is the older part of its list
   abbrev pub IsServedAfter : Me (Option T) (View E) → Me (Option T) (View E) → Type 0
-  IsServedAfter me me' = (x : T) × IsOlder me.0.seen (stand_of x).list × (me' ≡ (record me.0 { base = Some (stand_of x) }, (0, Some x) ∷ []))
+  IsServedAfter me me' = (x : T) × IsOlder me.0.seen (stand_of x).list × HasReached me.0 x × (me' ≡ (record me.0 { base = Some (stand_of x) }, (0, Some x) ∷ []))
 
   -- where the number found is this seat's, it is served, and else nothing changes
   abbrev pub looks : Step (Option T) → Me (Option T) (View E) → ℕ → Me (Option T) (View E) → Type 0
@@ -152,4 +158,4 @@ module _ {T E : Type 0} (stand_of : T → Stand E) where
   -- a served seat, with the state in it after a turn from the base
   abbrev pub IsDone : ℕ → T → Stand E → Me (Option T) (View E) → Type 0
   IsDone faults x base me =
-      (k : ℕ) × (me.0.number ≡ Some k) × (me.0.base ≡ Some base) × IsOpen me.0 × (me.1 ≡ (0, Some x) ∷ []) × MovesBy faults base (stand_of x)
+      (k : ℕ) × (me.0.number ≡ Some k) × (me.0.base ≡ Some base) × IsOpen me.0 × (me.1 ≡ (0, Some x) ∷ []) × HasReached me.0 x × MovesBy faults base (stand_of x)

@@ -1,6 +1,7 @@
 // The steps of the seats of a lock's table, one after the other as its calls need them.
 ghost use Rattle.std.specs.Prelude.{◌≡◌, ◌<◌, ◌≤◌, ◌%◌, ◌^◌, ◌==◌, [], ◌∷◌, ℕ, Some, None, MatchBool};
 ghost use Rattle.office_lock.specs.Turning.{faults_in};
+ghost use Rattle.office_lock.specs.declared.turned.Stand.{Stand};
 ghost use Rattle.office_lock.specs.Passes.{IsOlder, TakesTurn};
 ghost use Rattle.office_lock.specs.Views.{newcomer, bringer, begun, known, with_less, with_part, with_other, with_longer};
 ghost use Rattle.office_lock.specs.Rule.{IsIdle, IsDone, IsServedAfter, IsWaiting, HasEnded, HasGone};
@@ -33,6 +34,7 @@ impl<T: Turned> Turns<T> {
         requires lock { seat.old.table_id ≡ self.now.id }
         requires first { seat.old.me ≡ (newcomer self.now.passes, []) }
         requires decided { (T.stand state).pending ≡ None }
+        requires reached { T.reached (T.stand state) state }
         ensures lock { seat.new.table_id ≡ seat.old.table_id }
         ensures begun { seat.new.me ≡ (begun self.now.passes (T.stand state), []) }
     {
@@ -45,7 +47,7 @@ impl<T: Turned> Turns<T> {
     // Gives the slot back with the state, and the lock is open.
     fn begin(&self, seat: &mut SeatOf<T>)
         requires lock { seat.old.table_id ≡ self.now.id }
-        requires first { (x : T) × (seat.old.me ≡ (bringer self.now.passes, (0, Some x) ∷ [])) × ((T.stand x).pending ≡ None) }
+        requires first { (x : T) × (seat.old.me ≡ (bringer self.now.passes, (0, Some x) ∷ [])) × ((T.stand x).pending ≡ None) × T.reached (T.stand x) x }
         ensures lock { seat.new.table_id ≡ seat.old.table_id }
         ensures begun { (x : T) → seat.old.me.1 ≡ (0, Some x) ∷ [] → seat.new.me ≡ (begun self.now.passes (T.stand x), []) }
     {
@@ -95,7 +97,7 @@ impl<T: Turned> Turns<T> {
         requires lock { seat.old.table_id ≡ self.now.id }
         requires waiting { IsWaiting number seat.old.me }
         ensures lock { seat.new.table_id ≡ seat.old.table_id }
-        ensures served { MatchBool (result == number) (IsServedAfter T.stand seat.old.me seat.new.me) (seat.new.me ≡ seat.old.me) }
+        ensures served { MatchBool (result == number) (IsServedAfter T.stand T.reached seat.old.me seat.new.me) (seat.new.me ≡ seat.old.me) }
     {
         self.table.shared.load::<Look<T>>(seat, 1)
     }
@@ -106,7 +108,7 @@ impl<T: Turned> Turns<T> {
         requires lock { seat.old.table_id ≡ self.now.id }
         requires waiting { IsWaiting number seat.old.me }
         ensures lock { seat.new.table_id ≡ seat.old.table_id }
-        ensures served { IsServedAfter T.stand seat.old.me seat.new.me }
+        ensures served { IsServedAfter T.stand T.reached seat.old.me seat.new.me }
     {
         let mut looks = 0;
         for _ in rt.forever() {
@@ -143,7 +145,8 @@ impl<T: Turned> Turns<T> {
 
     // Tells the state what was left on the board, as far as a full board goes.
     fn tell<R: Wait>(&self, rt: &R, state: &mut T)
-        ensures { T.stand state.new ≡ T.stand state.old }
+        ensures same { T.stand state.new ≡ T.stand state.old }
+        ensures reaches { (start : Stand T.Entry) → T.reached start state.old → T.reached start state.new }
     {
         for _ in 0..MOST_NOTES {
             let Some(note) = self.board.next(rt) else {
@@ -160,7 +163,7 @@ impl<T: Turned> Turns<T> {
         ensures lock { seat.new.table_id ≡ seat.old.table_id }
         ensures view { seat.new.me.0 ≡ seat.old.me.0 }
         ensures turned { (x : T) → seat.old.me.1 ≡ (0, Some x) ∷ [] → (y : T) × HasGone (T.own ask) (T.says result) (T.stand x) (T.stand y)
-            × T.meets (T.stand x) ask result (T.stand y) × (seat.new.me.1 ≡ (0, Some y) ∷ []) }
+            × T.meets (T.stand x) ask result (T.stand y) × ((start : Stand T.Entry) → T.reached start x → T.reached start y) × (seat.new.me.1 ≡ (0, Some y) ∷ []) }
     {
         let taken = self.table.shared.exchange(seat, 0, None);
         let Some(mut state) = taken else {
@@ -178,9 +181,9 @@ impl<T: Turned> Turns<T> {
     fn end<N: Ending>(&self, seat: &mut SeatOf<T>, reply: &T::Reply)
         requires picked { N.faults ≡ faults_in (T.says reply.now) }
         requires lock { seat.old.table_id ≡ self.now.id }
-        requires done { (x : T) × (base : _) × IsDone T.stand (faults_in (T.says reply.now)) x base seat.old.me }
+        requires done { (x : T) × (base : _) × IsDone T.stand T.reached (faults_in (T.says reply.now)) x base seat.old.me }
         ensures lock { seat.new.table_id ≡ seat.old.table_id }
-        ensures ended { HasEnded T.stand (faults_in (T.says reply.now)) seat.old.me seat.new.me }
+        ensures ended { HasEnded T.stand T.reached (faults_in (T.says reply.now)) seat.old.me seat.new.me }
     {
         let number = self.table.shared.fetch_add::<End<T, N>>(seat, 1, 1);
         self.sleepers.wake(number.wrapping_add(2));

@@ -59,6 +59,7 @@ impl<T: Turned> Turns<T> {
     ) -> Result<(Turns<T>, Pass<T::Entry>), (AllocError, T)>
         requires passes { (1 ≤ passes) × (passes ≤ 64) }
         requires decided { (T.stand state).pending ≡ None }
+        requires reached { T.reached (T.stand state) state }
         ensures lock { IfOk result (λ r. (r.0.id ≡ r.1.lock) × (r.0.passes ≡ passes)) }
         ensures first { IfOk result (λ r. r.1 ≡ record {
           lock = r.1.lock;
@@ -180,7 +181,8 @@ impl<T: Turned> Turns<T> {
     pub fn close(self, pass: Pass<T::Entry>) -> T
         requires lock { pass.lock ≡ self.id }
         requires all { pass.allowance ≡ self.passes }
-        ensures { Closes pass (T.stand result) }
+        ensures closes { Closes pass (T.stand result) }
+        ensures reached { T.reached pass.opening result }
     {
         let Turns {
             table,

@@ -38,7 +38,7 @@ pub struct Ticketed<T> {
 }
 
 impl<T: Turned> TableRule<Option<T>, View<T::Entry>, u32> for Ticketed<T> {
-    ghost holds = { LockRule T.stand };
+    ghost holds = { LockRule T.stand T.reached };
 
     ghost first = { newcomer };
 }
@@ -56,7 +56,7 @@ pub struct Bring<T> {
 }
 
 impl<T: Turned> Play<Option<T>, View<T::Entry>> for Bring<T> {
-    ghost then = { brings T.stand };
+    ghost then = { brings T.stand T.reached };
 }
 
 // A seat draws a number.
@@ -72,7 +72,7 @@ pub struct Look<T> {
 }
 
 impl<T: Turned> Play<Option<T>, View<T::Entry>> for Look<T> {
-    ghost then = { looks T.stand };
+    ghost then = { looks T.stand T.reached };
 }
 
 // What a call picks: how many faults the reply tells of.
@@ -90,7 +90,7 @@ pub struct End<T, N> {
 }
 
 impl<T: Turned, N: Ending> Play<Option<T>, View<T::Entry>> for End<T, N> {
-    ghost then = { ends T.stand N.faults };
+    ghost then = { ends T.stand T.reached N.faults };
 }
 
 // A seat learns which of its two lists is the longer one.

@@ -7,15 +7,16 @@ use Rattle.aid_edges.specs.declared.sink.Sink.{Ghosts as SinkGhosts}
 use Rattle.aid_filings.specs.declared.filing.Filing.{Filing}
 use Rattle.disk_model.specs.Telling.{EachImage, EachMoment, IsHonest}
 use Rattle.disk_model.specs.declared.disk.Disk.{Ghosts}
-use Rattle.disk_model.proofs.Moments.{started, weaken}
+use Rattle.disk_model.proofs.Moments.{started, weaken, join}
 use Rattle.filing_journal.specs.declared.opening.OpenError.{OpenError}
 use Rattle.filing_journal.specs.declared.opening.OpenError.TheVariants as opening
-use Rattle.headline.specs.AtOnce.{Admitted, DeskFiles, DeskTexts, FilesUnder, RanAtOnce, filed, idle, row_at}
+use Rattle.headline.specs.AtOnce.{Admitted, DeskFiles, DeskTexts, FilesUnder, OnTheWay, RanAtOnce, filed, idle, row_at}
 use Rattle.headline.specs.Filed.{IsFault, rows_in}
 use Rattle.headline.specs.Office.{Recovers}
 use Rattle.kept_desks.specs.Desks.{left_in}
 use Rattle.kept_list.specs.Names.{entries_of, filed_list, filed_pending, no_row, rows_of}
-use Rattle.kept_desks.specs.Shares.{stand_of}
+use Rattle.kept_desks.specs.Shares.{stand_of, RecoversBetween}
+use Rattle.kept_list.specs.Turns.{with_entry}
 use Rattle.kept_list.specs.declared.names.Filed.{Filed}
 use Rattle.kept_list.specs.declared.names.RowName.{RowName}
 use Rattle.kept_desks.specs.declared.stop.DeskEnd.TheVariants.{Stopped}
@@ -265,11 +266,33 @@ module _ {D S K : Type 0} (disk : Ghosts D) (source : SourceGhosts S) (sink : Si
             let (failed, by, files) = undecided_files stopped f is in
             ⊎_elim (λ without. inl (from_kept c history without)) (λ with. inr (failed, f, by, files, from_kept c (f ∷ history) with)) (undecided.images c image)
 
+    -- each image at each moment is on the way
+    way : ShowStops → (IsHonest (disk.tells new) → EachMoment (disk.tells at) (disk.tells new) (RecoversBetween office_scheme list (with_entry pending history)))
+        → EachMoment (disk.tells old) (disk.tells new) (OnTheWay files list (added ++ list) status)
+    way stopped between = subst (λ l. EachMoment (disk.tells old) (disk.tells new) (OnTheWay files list l status)) closed
+        (join (disk.tells old) (disk.tells at) (disk.tells new) (OnTheWay files list history status)
+        (weaken (disk.tells old) (disk.tells at) (λ file. kept.Recovers file list) (OnTheWay files list history status) (λ file is. inl (list, ([], refl), (added, closed), from_kept file list is)) (opened.moments honest listed))
+        (weaken (disk.tells at) (disk.tells new) (RecoversBetween office_scheme list (with_entry pending history)) (OnTheWay files list history status) (go pending refl) (between still)))
+      where
+        listed : EachImage (disk.tells old) (λ file. kept.Recovers file list)
+        listed = subst (λ (l : List (StampedEntry Filing)). EachImage (disk.tells old) (λ file. kept.Recovers file l)) (sym same) kept_images
+
+        go : (p : Option (StampedEntry Filing)) → pending ≡ p → (file : List ℕ) → RecoversBetween office_scheme list (with_entry p history) file → OnTheWay files list history status file
+        go None is file (h, from, to, recovers) = inl (h, from, to, from_kept file h recovers)
+        go (Some f) is file (h, from, (front, to), recovers) = split front to
+          where
+            split : (front : List (StampedEntry Filing)) → f ∷ history ≡ front ++ h → OnTheWay files list history status file
+            split [] e =
+                let (failed, by, files) = undecided_files stopped f is in
+                inr (failed, f, by, files, from_kept file (f ∷ history) (subst (kept.Recovers file) (sym e) recovers))
+            split (x ∷ xs) e = inl (h, from, (xs, ap (λ (l : List (StampedEntry Filing)). drop 1 l) e), from_kept file h recovers)
+
     abbrev whole_text : List ℕ
     whole_text = desks_text after ++ admitted_text (length list + 1) names
 
-    filed_by : EndsWith sink whole_text (desks_status after) out out' status → AtOnce
-    filed_by ends = (
+    filed_by : (IsHonest (disk.tells new) → EachMoment (disk.tells at) (disk.tells new) (RecoversBetween office_scheme list (with_entry pending history)))
+        → EndsWith sink whole_text (desks_status after) out out' status → AtOnce
+    filed_by between ends = (
       put.front,
       put.written,
       subst (λ (p : List (StampedEntry Filing)). RanAtOnce files p (disk.tells old) (disk.tells new) put.front status) same
@@ -278,7 +301,7 @@ module _ {D S K : Type 0} (disk : Ghosts D) (source : SourceGhosts S) (sink : Si
             other (desks_status after) status 6 put.shows (few_statuses after 6 (omega arith) (λ e. omega (arith, e)) (λ e. omega (arith, e))) (λ e. omega (arith, e)),
             other (desks_status after) status 7 put.shows (few_statuses after 7 (omega arith) (λ e. omega (arith, e)) (λ e. omega (arith, e))) (λ e. omega (arith, e)),
           )
-          (left stopped)),
+          (way stopped between) (left stopped)),
     )
       where
         put : Wrote sink whole_text (desks_status after) out out' status
@@ -299,7 +322,7 @@ module _ {D S K : Type 0} (disk : Ghosts D) (source : SourceGhosts S) (sink : Si
   of_files before has_read (unopened error _ is rose ends) =
       idle_by (open_line error) (open_status error) (open_fault error (is.complete honest past (kept_images (disk.tells old).reads (here old honest)))) (plainly (is.moments honest past kept_images)) ends
   of_files before has_read (starved list _ opened ends) = idle_by (codes "fault memory\n") 9 memory_fault (moments_of_opened list opened) ends
-  of_files before has_read (worked after list history pending log waiting at _ opened ran sound ends) = filed_by before after has_read list history pending log waiting at opened ran sound ends
+  of_files before has_read (worked after list history pending log waiting at _ opened ran sound between ends) = filed_by before after has_read list history pending log waiting at opened ran sound between ends
 
   of_run : RanDesks disk source sink old new inputs inputs' out out' status → AtOnce
   of_run (unasked _ wrong same unmoved ends) = idle_by (codes "fault usage\n") 2 usage_fault (stays same) ends

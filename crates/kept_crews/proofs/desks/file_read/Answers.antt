@@ -1,5 +1,15 @@
-use Rattle.std.proofs.Common.{◌∙◌, ap, length, sym, subst}
+use Rattle.std.proofs.Common.{◌∙◌, ◌+◌, ◌-◌, ◌++◌, ℕ, IsTrue, List, [], None, take, ap, length, refl, reverse, sym, subst}
+use Rattle.disk_model.specs.Telling.{EachMoment, IsHonest}
+use Rattle.kept_list.specs.Kept.{IsSound}
+use Rattle.kept_list.specs.Recovers.{Recovers}
+use Rattle.kept_list.specs.Turns.{with_entry}
+use Rattle.kept_desks.specs.Shares.{RecoversBetween, stand_of}
+use Rattle.kept_desks.proofs.Going.{entries_filed}
+use Rattle.kept_desks.proofs.Reaching.{moments_of}
 use Rattle.kept_runs.specs.Ends.{EndsWith}
+use Rattle.kept_list.specs.declared.names.RowName.{RowName}
+use Rattle.kept_crews.specs.DeskTexts.{admitted_text, desks_status, desks_text}
+use Rattle.kept_crews.specs.Names.{names_of}
 use Rattle.kept_crews.specs.RanCrew.{FilesAll, unopened, starved}
 use Rattle.kept_runs.specs.Statuses.{fault_line, status_of}
 use Rattle.kept_runs.specs.declared.stop.RunStop.TheVariants.{File}
@@ -13,10 +23,24 @@ returns-in-Err g c =
 
 pub returns-in-Ok-file_all : goal.returns-in-Ok-file_all
 returns-in-Ok-file_all g c =
-    let closed = c.in-Ok-file_all.closed in
-    files_worked g.R.Docket.scheme g.R.Docket.judging g.R.OwnDocket.own g.C.Copies.copied g.C.Marks.same g.L.Rows.texts g.L.Rows.left g.D.Disk g.K.Sink c.args.disk c.in-Ok.kept.disk closed.disk c.close.result.1 c.args.desks.now c.file_all.new.desks c.in-Ok.kept.history closed.history closed.pending closed.log closed.waiting
-    c.front-front.result c.close.result.0 c.args.out.now c.close.new.out c.requires c.in-Ok.ensures.opened c.in-Ok.ensures.unmoved c.in-Ok-file_all.ensures.ran c.close.ensures.disk c.close.ensures.sound
-    (c.front-front.ensures.value ∙ ap length c.docket.ensures) c.close.ensures.ends
+    let at = c.in-Ok.kept in
+    let kept = c.in-Ok-file_all.kept in
+    let log = c.in-Ok-file_all.log in
+    let e = c.in-Ok-file_all.ensures in
+    let opened = c.in-Ok.ensures.opened in
+    let past : IsHonest (g.D.Disk.tells kept.disk) → IsHonest (g.D.Disk.tells at.disk) = λ is. subst IsTrue e.ran.1.ran.fixed is in
+    let first : IsHonest (g.D.Disk.tells kept.disk) → (file : List ℕ) → (g.D.Disk.tells at.disk).image_since (g.D.Disk.tells at.disk).moment file → Recovers g.R.Docket.scheme file at.history =
+    λ is file since. opened.images (subst IsTrue opened.honest (past is)) file (c.only_now.ensures at.disk file (past is) since) in
+    let moments : IsHonest (g.D.Disk.tells kept.disk) → EachMoment (g.D.Disk.tells at.disk) (g.D.Disk.tells kept.disk) (RecoversBetween g.R.Docket.scheme at.history (with_entry kept.pending kept.history)) =
+    λ is. moments_of g.D.Disk g.R.Docket.scheme (g.D.Disk.tells at.disk).moment (λ t file. (g.D.Disk.tells at.disk).image_since t file) (stand_of at.history None [] None (g.D.Disk.faults at.disk) (g.D.Disk.tells at.disk).honest) at.history at.disk kept.disk kept.history kept.pending
+    refl (λ t file has. has) (first is) (entries_filed at.history []) e.reached is in
+    files_worked g.R.Docket.scheme g.R.Docket.judging g.R.OwnDocket.own g.C.Copies.copied g.C.Marks.same g.L.Rows.texts g.L.Rows.left g.D.Disk g.K.Sink c.args.disk at.disk kept.disk c.close.result.1 c.args.desks.now c.file_all.new.desks at.history kept.history kept.pending (reverse log.items) e.ran.0
+    c.front-front.result c.close.result.0 c.args.out.now c.close.new.out c.requires opened c.in-Ok.ensures.unmoved e.ran.1 c.close.ensures.disk
+    (subst (λ d. IsHonest (g.D.Disk.tells d) → IsSound g.R.Docket.scheme (g.D.Disk.tells d) kept.history kept.pending) (sym c.close.ensures.disk) e.sound) moments
+    (c.front-front.ensures.value ∙ ap length c.docket.ensures)
+    (subst (λ (l : List RowName). EndsWith g.K.Sink
+    (desks_text c.file_all.new.desks ++ admitted_text (c.front-front.result + 1) (names_of g.C.Marks.same c.file_all.new.desks (c.front-front.result + 1) (reverse (take (length kept.history - c.front-front.result) (reverse l)))))
+    (desks_status c.file_all.new.desks) c.args.out.now c.close.new.out c.close.result.0) c.deref.ensures.value c.close.ensures.ends)
 
 pub returns-in-Err-file_all : goal.returns-in-Err-file_all
 returns-in-Err-file_all g c =

@@ -1,6 +1,6 @@
 use Rattle.std.proofs.Common.{rules, ◌≡◌, ◌<◌, ◌∙◌, ap, arith, length, length-set, get_or, sym}
 use Rattle.std.proofs.Math.Seq.{map-set_same}
-use Rattle.kept_desks.specs.Desks.{HasEnded, IsJoined, shown_of}
+use Rattle.kept_desks.specs.Desks.{HasEnded, shown_of}
 use Rattle.kept_desks.proofs.Gathering.{fewer_ahead, still_ahead, gathers_more, get_or_self}
 use Rattle.kept_desks.proofs.crew.collect.Goals as goal
 

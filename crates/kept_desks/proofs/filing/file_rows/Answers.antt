@@ -1,4 +1,4 @@
-use Rattle.std.proofs.Common.{rules, ◌≡◌, [], sym, subst}
+use Rattle.std.proofs.Common.{rules, ◌≡◌, sym, subst}
 use Rattle.kept_desks.proofs.Ahead.{fewer_ahead}
 use Rattle.kept_desks.proofs.Rowing.{FilesOn, files_none, files_stopped, files_next}
 use Rattle.kept_desks.proofs.filing.file_rows.Goals as goal

@@ -80,3 +80,6 @@ returns-clause-alone_undecided g c honest none header h keep ends =
     on_ok c.stage_with_next.result _ shut (c.stage_with_next.ensures.alone honest (part_none c.part_ahead-next.result.now c.args.next.now c.part_ahead-next.ensures.part none) header h keep ends) in
     let lengths = c.open.ensures.lengths (subst IsTrue (sym c.stage_with_next.ensures.honest) honest) in
     err_any c.open.result _ (λ e is x now. let from = lengths x now in from.2 ∙ each from.0 from.1)
+
+pub returns-then-is_err-clause-not_put : goal.returns-then-is_err-clause-not_put
+returns-then-is_err-clause-not_put g c honest header h keep is = c.stage_with_next.ensures.moments honest header h keep

@@ -1,4 +1,4 @@
-use Rattle.std.proofs.Common.{rules, ◌≡◌, refl}
+use Rattle.std.proofs.Common.{rules, refl}
 use Rattle.kept_desks.specs.Answered.{Files}
 use Rattle.kept_desks.proofs.Working.{works_of}
 use Rattle.kept_desks.proofs.desk.Desk.work.Goals as goal

@@ -2,7 +2,7 @@ use Rattle.std.proofs.Common.{◌∙◌, IsTrue, Option, None, ap, arith, rules,
 use Rattle.kept_list.specs.Kept.{Kept, IsWhole}
 use Rattle.kept_list.specs.Recovers.{payloads_of}
 use Rattle.kept_list.specs.Added.{entry_of}
-use Rattle.kept_list.proofs.Sound.{IsPut, none_ruled, left_whole, refused_whole, kept_whole, put_moments}
+use Rattle.kept_list.proofs.Sound.{IsPut, none_ruled, left_whole, refused_whole, kept_whole, put_moments, not_put_moments}
 use Rattle.kept_list.proofs.kept.KeptList.keep.Goals as goal
 
 pub invariant_of-self-then-this : goal.invariant_of-self-then-this
@@ -186,3 +186,57 @@ returns-in-Err-DiskFault-false-clause-sound g c =
     } in
     rw (← c.self.view_is, put.none) (λ honest. (refused_whole g.D.Disk scheme g.met.D.Disk.reads_as_image g.met.R.Docket.legal_past i.journal c.lengthen_and_put.new.journal h (g.R.Docket.spare i.docket) (entry_of i.pending) c.args.added.entry c.bytes.result.now put
     c.in-Err-DiskFault-false.ensures.count_err (search rules) (λ honest keeps. c.in-Err-DiskFault-false.ensures.before honest scheme.header (payloads_of scheme.spelling h) keeps (search rules))).sound (subst IsTrue (sym put.same) honest))
+
+pub returns-in-Ok-clause-way : goal.returns-in-Ok-clause-way
+returns-in-Ok-clause-way g c =
+    let scheme = g.R.Docket.scheme in
+    let i = c.self.inside in
+    let h = g.R.Docket.history i.docket in
+    let admitted : IsTrue (scheme.admits h c.args.added.entry) = subst (λ (k : Kept g.row.D.Denot g.row.R-Entry.Denot). IsTrue (scheme.admits k.history c.args.added.entry)) (sym c.self.view_is) c.requires.admitted in
+    let put : IsPut g.D.Disk scheme i.journal c.lengthen_and_put.new.journal h (g.R.Docket.spare i.docket) (entry_of i.pending) c.args.added.entry c.bytes.result.now = record {
+      none = ap (λ k. k.pending) c.self.view_is ∙ c.requires.decided;
+      whole = c.self.invariant.0;
+      same = c.lengthen_and_put.ensures.honest;
+      spelled = c.bytes.ensures.held ∙ c.put.ensures.spelled;
+      is_entry = c.put.ensures.in_range;
+      admitted = admitted;
+      legal = λ legal. g.met.R.Docket.admitted_legal h c.args.added.entry legal admitted;
+    } in
+    rw (← c.self.view_is, put.none, c.admit.ensures.history) (λ honest. put_moments g.D.Disk scheme g.met.D.Disk.reads_as_image g.met.R.Docket.legal_past i.journal c.lengthen_and_put.new.journal h (g.R.Docket.spare i.docket) (entry_of i.pending) c.args.added.entry c.bytes.result.now put honest
+    (λ keeps. c.lengthen_and_put.ensures.moments honest scheme.header (payloads_of scheme.spelling h) keeps))
+
+pub returns-in-Err-DiskFault-true-clause-way : goal.returns-in-Err-DiskFault-true-clause-way
+returns-in-Err-DiskFault-true-clause-way g c =
+    let scheme = g.R.Docket.scheme in
+    let i = c.self.inside in
+    let h = g.R.Docket.history i.docket in
+    let admitted : IsTrue (scheme.admits h c.args.added.entry) = subst (λ (k : Kept g.row.D.Denot g.row.R-Entry.Denot). IsTrue (scheme.admits k.history c.args.added.entry)) (sym c.self.view_is) c.requires.admitted in
+    let put : IsPut g.D.Disk scheme i.journal c.lengthen_and_put.new.journal h (g.R.Docket.spare i.docket) (entry_of i.pending) c.args.added.entry c.bytes.result.now = record {
+      none = ap (λ k. k.pending) c.self.view_is ∙ c.requires.decided;
+      whole = c.self.invariant.0;
+      same = c.lengthen_and_put.ensures.honest;
+      spelled = c.bytes.ensures.held ∙ c.put.ensures.spelled;
+      is_entry = c.put.ensures.in_range;
+      admitted = admitted;
+      legal = λ legal. g.met.R.Docket.admitted_legal h c.args.added.entry legal admitted;
+    } in
+    rw (← c.self.view_is) (λ honest. put_moments g.D.Disk scheme g.met.D.Disk.reads_as_image g.met.R.Docket.legal_past i.journal c.lengthen_and_put.new.journal h (g.R.Docket.spare i.docket) (entry_of i.pending) c.args.added.entry c.bytes.result.now put honest
+    (λ keeps. c.lengthen_and_put.ensures.moments honest scheme.header (payloads_of scheme.spelling h) keeps))
+
+pub returns-in-Err-DiskFault-false-clause-way : goal.returns-in-Err-DiskFault-false-clause-way
+returns-in-Err-DiskFault-false-clause-way g c =
+    let scheme = g.R.Docket.scheme in
+    let i = c.self.inside in
+    let h = g.R.Docket.history i.docket in
+    let admitted : IsTrue (scheme.admits h c.args.added.entry) = subst (λ (k : Kept g.row.D.Denot g.row.R-Entry.Denot). IsTrue (scheme.admits k.history c.args.added.entry)) (sym c.self.view_is) c.requires.admitted in
+    let put : IsPut g.D.Disk scheme i.journal c.lengthen_and_put.new.journal h (g.R.Docket.spare i.docket) (entry_of i.pending) c.args.added.entry c.bytes.result.now = record {
+      none = ap (λ k. k.pending) c.self.view_is ∙ c.requires.decided;
+      whole = c.self.invariant.0;
+      same = c.lengthen_and_put.ensures.honest;
+      spelled = c.bytes.ensures.held ∙ c.put.ensures.spelled;
+      is_entry = c.put.ensures.in_range;
+      admitted = admitted;
+      legal = λ legal. g.met.R.Docket.admitted_legal h c.args.added.entry legal admitted;
+    } in
+    rw (← c.self.view_is, put.none) (λ honest. not_put_moments g.D.Disk scheme g.met.D.Disk.reads_as_image g.met.R.Docket.legal_past i.journal c.lengthen_and_put.new.journal h (g.R.Docket.spare i.docket) (entry_of i.pending) c.args.added.entry c.bytes.result.now put honest
+    (λ keeps. c.in-Err-DiskFault-false.ensures.not_put honest scheme.header (payloads_of scheme.spelling h) keeps (search rules)))

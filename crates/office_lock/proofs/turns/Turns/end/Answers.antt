@@ -7,5 +7,5 @@ pub fetch_add-number-requires : goal.fetch_add-number-requires
 fetch_add-number-requires g c = (
   search rules,
   search rules,
-  λ s kept long. rw c.requires.picked (steps.ends_me g.T.Turned.stand c.self.inside.table.shared.key c.args.seat.now.id (faults_in (g.T.Turned.says c.args.reply.now)) c.args.seat.now.me c.requires.done.0 c.requires.done.1 c.requires.done.2 s kept (long ∙ c.self.invariant.1)),
+  λ s kept long. rw c.requires.picked (steps.ends_me g.T.Turned.stand g.T.Turned.reached c.self.inside.table.shared.key c.args.seat.now.id (faults_in (g.T.Turned.says c.args.reply.now)) c.args.seat.now.me c.requires.done.0 c.requires.done.1 c.requires.done.2 s kept (long ∙ c.self.invariant.1)),
 )

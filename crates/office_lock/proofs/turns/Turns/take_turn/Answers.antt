@@ -3,16 +3,16 @@ use Rattle.office_lock.proofs.turns.Turns.take_turn.Goals as goal
 
 pub end-requires-clause-done : goal.end-requires-clause-done
 end-requires-clause-done g c =
-    steps.done_of g.T.Turned.stand (g.T.Turned.own c.args.ask) (g.T.Turned.says c.serve-reply.result) (λ before after. g.T.Turned.meets before c.args.ask c.serve-reply.result after) c.args.seat.now.me c.draw-number.new.seat.me c.wait.new.seat.me c.serve-reply.new.seat.me c.draw-number.result c.requires.idle c.draw-number.ensures.number c.wait.ensures.served c.serve-reply.ensures.view c.serve-reply.ensures.turned
+    steps.done_of g.T.Turned.stand g.T.Turned.reached (g.T.Turned.own c.args.ask) (g.T.Turned.says c.serve-reply.result) (λ before after. g.T.Turned.meets before c.args.ask c.serve-reply.result after) c.args.seat.now.me c.draw-number.new.seat.me c.wait.new.seat.me c.serve-reply.new.seat.me c.draw-number.result c.requires.idle c.draw-number.ensures.number c.wait.ensures.served c.serve-reply.ensures.view c.serve-reply.ensures.turned
 
 pub returns-clause-idle : goal.returns-clause-idle
 returns-clause-idle g c =
-    (steps.whole_turn g.T.Turned.stand (g.T.Turned.own c.args.ask) (g.T.Turned.says c.serve-reply.result) (λ before after. g.T.Turned.meets before c.args.ask c.serve-reply.result after) c.args.self.now.id c.args.seat.now.me c.draw-number.new.seat.me c.wait.new.seat.me c.serve-reply.new.seat.me c.end.new.seat.me c.draw-number.result c.requires.idle c.draw-number.ensures.number c.wait.ensures.served c.serve-reply.ensures.view c.serve-reply.ensures.turned c.end.ensures.ended).0
+    (steps.whole_turn g.T.Turned.stand g.T.Turned.reached (g.T.Turned.own c.args.ask) (g.T.Turned.says c.serve-reply.result) (λ before after. g.T.Turned.meets before c.args.ask c.serve-reply.result after) c.args.self.now.id c.args.seat.now.me c.draw-number.new.seat.me c.wait.new.seat.me c.serve-reply.new.seat.me c.end.new.seat.me c.draw-number.result c.requires.idle c.draw-number.ensures.number c.wait.ensures.served c.serve-reply.ensures.view c.serve-reply.ensures.turned c.end.ensures.ended).0
 
 pub returns-clause-share : goal.returns-clause-share
 returns-clause-share g c =
-    (steps.whole_turn g.T.Turned.stand (g.T.Turned.own c.args.ask) (g.T.Turned.says c.serve-reply.result) (λ before after. g.T.Turned.meets before c.args.ask c.serve-reply.result after) c.args.self.now.id c.args.seat.now.me c.draw-number.new.seat.me c.wait.new.seat.me c.serve-reply.new.seat.me c.end.new.seat.me c.draw-number.result c.requires.idle c.draw-number.ensures.number c.wait.ensures.served c.serve-reply.ensures.view c.serve-reply.ensures.turned c.end.ensures.ended).1
+    (steps.whole_turn g.T.Turned.stand g.T.Turned.reached (g.T.Turned.own c.args.ask) (g.T.Turned.says c.serve-reply.result) (λ before after. g.T.Turned.meets before c.args.ask c.serve-reply.result after) c.args.self.now.id c.args.seat.now.me c.draw-number.new.seat.me c.wait.new.seat.me c.serve-reply.new.seat.me c.end.new.seat.me c.draw-number.result c.requires.idle c.draw-number.ensures.number c.wait.ensures.served c.serve-reply.ensures.view c.serve-reply.ensures.turned c.end.ensures.ended).1
 
 pub returns-clause-turned : goal.returns-clause-turned
 returns-clause-turned g c =
-    (steps.whole_turn g.T.Turned.stand (g.T.Turned.own c.args.ask) (g.T.Turned.says c.serve-reply.result) (λ before after. g.T.Turned.meets before c.args.ask c.serve-reply.result after) c.args.self.now.id c.args.seat.now.me c.draw-number.new.seat.me c.wait.new.seat.me c.serve-reply.new.seat.me c.end.new.seat.me c.draw-number.result c.requires.idle c.draw-number.ensures.number c.wait.ensures.served c.serve-reply.ensures.view c.serve-reply.ensures.turned c.end.ensures.ended).2
+    (steps.whole_turn g.T.Turned.stand g.T.Turned.reached (g.T.Turned.own c.args.ask) (g.T.Turned.says c.serve-reply.result) (λ before after. g.T.Turned.meets before c.args.ask c.serve-reply.result after) c.args.self.now.id c.args.seat.now.me c.draw-number.new.seat.me c.wait.new.seat.me c.serve-reply.new.seat.me c.end.new.seat.me c.draw-number.result c.requires.idle c.draw-number.ensures.number c.wait.ensures.served c.serve-reply.ensures.view c.serve-reply.ensures.turned c.end.ensures.ended).2
