@@ -15,7 +15,7 @@ use Rattle.sai_index.specs.Fits.{is_size, size_for}
 use Rattle.sai_index.specs.Formulas.{formula}
 use Rattle.office_history.specs.Award.{unfit_under}
 use Rattle.office_history.specs.Least.{NonePasses}
-use Rattle.office_history.specs.Past.{OnFile, earliest, first_at, is_higher, terms_on_file}
+use Rattle.office_history.specs.Past.{FiledTerm, earliest, first_at, is_higher, terms_on_file}
 use Rattle.office_history.specs.Positions.{is_over, least_code, least_term, overlap_at, term_over, told_over, transaction_of}
 use Rattle.office_history.proofs.Among.{none_any}
 use Rattle.office_history.proofs.Asked.{none_told, some_told}
@@ -57,7 +57,7 @@ none_passes p past =
     none_where_zero (list_any p past) (first_at p past) (λ e. none_first p past (none_any p past e)) (λ e. any_none p past (skipped p past e))
 
 -- a number of terms that tells them is 0 where none passes
-none_tells : (number : OnFile → ℕ) (p : OnFile → Bool) (ts : List OnFile) (n : ℕ) → Tells number p ts n → not (list_any p ts) ≡ not (nat_lt 0 n)
+none_tells : (number : FiledTerm → ℕ) (p : FiledTerm → Bool) (ts : List FiledTerm) (n : ℕ) → Tells number p ts n → not (list_any p ts) ≡ not (nat_lt 0 n)
 none_tells number p ts n h =
     let k = told_none number p ts n h in
     none_where_zero (list_any p ts) n (λ e. k.1 (none_any p ts e)) (λ e. any_none p ts (k.0 e))
@@ -69,7 +69,7 @@ no_overlap past school this =
     none_tells (λ t. t.position) (λ t. t.school == school && shares_day this t.term) (terms_on_file past) (overlap_at past school this)
     (position_tells (λ t. t.school == school && shares_day this t.term) (terms_on_file past) (positions_fall past))
 
-pub no_code : (p : OnFile → Bool) (ts : List OnFile) → All (λ t. 0 < t.school) ts → not (list_any p ts) ≡ not (nat_lt 0 (least_code p ts))
+pub no_code : (p : FiledTerm → Bool) (ts : List FiledTerm) → All (λ t. 0 < t.school) ts → not (list_any p ts) ≡ not (nat_lt 0 (least_code p ts))
 no_code p ts coded = none_tells (λ t. t.school) p ts (least_code p ts) (code_tells p ts coded)
 
 -- no term is over an award exactly where the least of those that are is none
@@ -77,7 +77,7 @@ pub none_over : (past : List Filing) (award student year : ℕ) →
     not (list_any (is_over past award student year) (terms_on_file past)) ≡ is_none (term_over past award student year)
 none_over past award student year = least (least_term (filter (is_over past award student year) (terms_on_file past))) refl
   where
-    least : (o : Option OnFile) → least_term (filter (is_over past award student year) (terms_on_file past)) ≡ o →
+    least : (o : Option FiledTerm) → least_term (filter (is_over past award student year) (terms_on_file past)) ≡ o →
         not (list_any (is_over past award student year) (terms_on_file past)) ≡ is_none (told_over past award student year o)
     least None e = ap (λ (b : Bool). not b) (any_none (is_over past award student year) (terms_on_file past) (none_found (is_over past award student year) (terms_on_file past) e))
     least (Some t) e = go (list_any (is_over past award student year) (terms_on_file past)) refl

@@ -59,7 +59,7 @@ fn verdict_on<L: Ledger>(office: &Office, ask: &Ask, blank: Blank) -> Verdict
     ensures { result ≡ answer_to office.now.history ask.now }
 {
     let mut steps = Steps::<L>::new(blank);
-    office.ask(ask, &mut steps)
+    office.respond(ask, &mut steps)
 }
 
 // The verdict of an office on an ask.

@@ -68,7 +68,7 @@ impl<'a, D: Disk, R: Stampable + OwnDocket, T: DocketForms<R>, H: Wait> Clerk<Fo
 
     ghost faults = { stamped_faults };
 
-    fn ask(&mut self, ask: R::Ask, next: Option<R::Ask>) -> ListReply<R::Verdict>
+    fn handle(&mut self, ask: R::Ask, next: Option<R::Ask>) -> ListReply<R::Verdict>
         ensures asked { AsksUnder R.judging R.own self.old ask result self.new }
         ensures later { stamped_faults self.old ≤ stamped_faults self.new }
         ensures cause { T.scheme.status result ≡ Unavailable → Rose (stamped_faults self.old) (stamped_faults self.new) }

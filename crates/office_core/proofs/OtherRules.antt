@@ -24,7 +24,7 @@ use Rattle.filing_rules.specs.Lines.{amount_lines, past_cost, past_fseog, past_l
 use Rattle.office_history.specs.Award.{unfit_under}
 use Rattle.office_history.specs.FactsOf.{facts_of}
 use Rattle.office_history.specs.Positions.{told_over}
-use Rattle.office_history.specs.Past.{OnFile, the_book}
+use Rattle.office_history.specs.Past.{FiledTerm, the_book}
 use Rattle.office_history.specs.Rules.{rules_of}
 use Rattle.office_history.specs.Answer.{breaks}
 
@@ -70,7 +70,7 @@ others_unfit (Some b) a = go (nat_lt b.year a.birth_year) (is_size (formula b a)
     go false true = refl
     go false false = refl
 
-others_over : (past : List Filing) (award student year : ℕ) (o : Option OnFile) → are_others (told (told_over past award student year o)) ≡ true
+others_over : (past : List Filing) (award student year : ℕ) (o : Option FiledTerm) → are_others (told (told_over past award student year o)) ≡ true
 others_over past award student year None = refl
 others_over past award student year (Some t) = refl
 

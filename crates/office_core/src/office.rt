@@ -210,7 +210,7 @@ impl Office {
     /// The verdict on an ask: `judge`, `quote` or `standing`. It changes nothing and takes no memory. `steps` counts the
     /// looks at rows of an index: at most twelve for each binary digit of the number of filings, and four for each term of the
     /// school that is asked about and each term at a school in which the student is enrolled.
-    pub fn ask<L: Ledger>(&self, ask: &Ask, steps: &mut Steps<L>) -> Verdict
+    pub fn respond<L: Ledger>(&self, ask: &Ask, steps: &mut Steps<L>) -> Verdict
         ensures answer { result ≡ answer_to self.now.history ask.now }
 
         // A filing that stands is answered by its position and the outcome of its admission, and no other is.

@@ -14,7 +14,7 @@ use Rattle.aid_filings.specs.declared.filing.What.{What}
 use Rattle.aid_filings.specs.declared.filing.What.TheVariants.{Book as BookFiled, School, Calendar, Prior, Apply, Enrol, Originate, Pay, Withdraw, Repay, Adjust}
 use Rattle.enrolment.specs.Terms.{shares_day}
 use Rattle.aid_types.specs.Programs.{rank}
-use Rattle.office_history.specs.Past.{first_of_two, if_here, given, earlier, school_in, the_term, OnFile, terms_on_file}
+use Rattle.office_history.specs.Past.{first_of_two, if_here, given, earlier, school_in, the_term, FiledTerm, terms_on_file}
 use Rattle.office_history.specs.Net.{Cell, is_cell, cell_of, cell_at, paid, payments_in, pell_term}
 use Rattle.office_history.specs.FactsOf.{facts_of}
 use Rattle.office_history.specs.Positions.{school_at, least_code, lesser_code, is_paid_beside}
@@ -87,7 +87,7 @@ coded_holds [] h = λ c pos. absurd (omega arith)
 coded_holds (f ∷ past) h = coded_step past f.key f.what (coded_holds past h.0) h.2
 
 -- a term that is asked for and there stands among the terms on file
-term_stands : (past : List Filing) (school year number : ℕ) (u : Term) → the_term past school year number ≡ Some u → (p : OnFile → Bool) →
+term_stands : (past : List Filing) (school year number : ℕ) (u : Term) → the_term past school year number ≡ Some u → (p : FiledTerm → Bool) →
     ((k : ℕ) → u.number ≡ number → p (record { school = school; year = year; position = k; term = u }) ≡ true) → list_any p (terms_on_file past) ≡ true
 term_stands [] school year number u h p passes = cc
 term_stands (f ∷ past) school year number u h p passes = go f.key f.what h (λ e. term_stands past school year number u e p passes)
@@ -137,7 +137,7 @@ term_stands (f ∷ past) school year number u h p passes = go f.key f.what h (λ
     go key (Adjust b) h ih = ih h
 
 -- a least code of 0 is of no term
-none_least : (p : OnFile → Bool) (ts : List OnFile) → least_code p ts ≡ 0 → ((o : OnFile) → p o ≡ true → 0 < o.school) → list_any p ts ≡ true → ⊥
+none_least : (p : FiledTerm → Bool) (ts : List FiledTerm) → least_code p ts ≡ 0 → ((o : FiledTerm) → p o ≡ true → 0 < o.school) → list_any p ts ≡ true → ⊥
 none_least p [] h pos any = cc
 none_least p (t ∷ ts) h pos any = go (p t) (least_code p ts) refl h any (λ k any. none_least p ts k pos any)
   where

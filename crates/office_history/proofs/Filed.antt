@@ -9,7 +9,7 @@ use Rattle.aid_filings.specs.declared.filing.CalendarFacts.{CalendarFacts}
 use Rattle.aid_filings.specs.declared.filing.Filing.{Filing}
 use Rattle.aid_filings.specs.declared.filing.What.{What}
 use Rattle.aid_filings.specs.declared.filing.What.TheVariants.{Book as BookFiled, School, Calendar, Prior, Apply, Enrol, Originate, Pay, Withdraw, Repay, Adjust}
-use Rattle.office_history.specs.Past.{first_of_two, at_school, if_here, given, term_in, OnFile, terms_on_file}
+use Rattle.office_history.specs.Past.{first_of_two, at_school, if_here, given, term_in, FiledTerm, terms_on_file}
 use Rattle.office_history.specs.Net.{Cell, is_cell, cell_of, paid}
 use Rattle.office_history.specs.FactsOf.{facts_of}
 use Rattle.office_history.specs.Positions.{term_at}
@@ -18,7 +18,7 @@ use Rattle.office_history.proofs.Cells.{same_cell}
 use Rattle.office_history.proofs.PayRules.{term_filed}
 
 -- the term on file is this one
-abbrev pub is_term : ℕ → ℕ → ℕ → OnFile → Bool
+abbrev pub is_term : ℕ → ℕ → ℕ → FiledTerm → Bool
 is_term school year number o = o.school == school && (o.year == year && o.term.number == number)
 
 abbrev pub is_filed : List Filing → ℕ → ℕ → ℕ → Bool

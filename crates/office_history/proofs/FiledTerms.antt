@@ -9,7 +9,7 @@ use Rattle.aid_filings.specs.declared.filing.Filing.{Filing}
 use Rattle.aid_filings.specs.declared.filing.What.{What}
 use Rattle.aid_filings.specs.declared.filing.What.TheVariants.{Book, School, Calendar, Prior, Apply, Enrol, Originate, Pay, Withdraw, Repay, Adjust}
 use Rattle.enrolment.specs.Terms.{shares_day}
-use Rattle.office_history.specs.Past.{OnFile, on_file, terms_on_file, first_at, first_of_two}
+use Rattle.office_history.specs.Past.{FiledTerm, on_file, terms_on_file, first_at, first_of_two}
 use Rattle.office_history.specs.Positions.{first_term_at}
 use Rattle.office_history.specs.FiledTerms.{is_main_term, is_overlapping}
 
@@ -27,7 +27,7 @@ count_by-reverse p (x ∷ xs) =
     swapped m n = omega arith
 
 module _ (school : ℕ) (term : Term) where
-  one_overlap : (filer here : ℕ) (w : What) (rest : List OnFile)
+  one_overlap : (filer here : ℕ) (w : What) (rest : List FiledTerm)
       → first_term_at (λ t. t.school == school && shares_day term t.term) (cons_option (on_file filer here w) rest)
       ≡ first_of_two (is_overlapping school term filer w) (first_term_at (λ t. t.school == school && shares_day term t.term) rest) here
   one_overlap filer here (Calendar c) rest = refl
@@ -50,12 +50,12 @@ module _ (school : ℕ) (term : Term) where
       ∙ sym (one_overlap f.key.school (length past + 1) f.what (terms_on_file past))
 
 module _ (school year : ℕ) where
-  one_main : (filer here : ℕ) (w : What) (rest : List OnFile)
+  one_main : (filer here : ℕ) (w : What) (rest : List FiledTerm)
       → length (filter (λ t. t.school == school && (t.year == year && not t.term.extra)) (cons_option (on_file filer here w) rest))
       ≡ cond (is_main_term school year filer w) 1 0 + length (filter (λ t. t.school == school && (t.year == year && not t.term.extra)) rest)
   one_main filer here (Calendar c) rest = go (filer == school && (c.year == year && not c.extra)) _ _
     where
-      go : (b : Bool) (t : OnFile) (ts : List OnFile) → length (cond b (t ∷ ts) ts) ≡ cond b 1 0 + length ts
+      go : (b : Bool) (t : FiledTerm) (ts : List FiledTerm) → length (cond b (t ∷ ts) ts) ≡ cond b 1 0 + length ts
       go true t ts = omega arith
       go false t ts = omega arith
   one_main filer here (Book b) rest = omega arith

@@ -10,7 +10,7 @@ use Rattle.filing_rules.specs.Lines.{rule_63, past_payment, past_year, past_life
 use Rattle.rule_lines.specs.RuleLines.{stands, where_true, only, over, too_early}
 use Rattle.filing_rules.specs.Rules.{rule_21, rule_23, rule_24, rule_62}
 use Rattle.aid_filings.specs.declared.filing.Filing.{Filing}
-use Rattle.office_history.specs.Past.{amount_or, at_school, cost, cost_in, credits, credits_in, earlier, earliest, given, if_here, later, latest, OnFile, terms_on_file, the_school, the_withdrawal, the_term}
+use Rattle.office_history.specs.Past.{amount_or, at_school, cost, cost_in, credits, credits_in, earlier, earliest, given, if_here, later, latest, FiledTerm, terms_on_file, the_school, the_withdrawal, the_term}
 use Rattle.office_history.specs.Net.{Cell, is_cell, paid, net_at, at_school_in_year, Move, onto, cell_of, paid_after, repaid, used_else, use_in, all_years, net, taken, owed, post, sheet, days_of, last_of, withdrawn_cell}
 use Rattle.office_history.specs.FactsOf.{facts_of}
 use Rattle.office_history.specs.Positions.{terms_of}
@@ -251,7 +251,7 @@ used_else_within past legal student year =
     go false n = omega arith
 
 -- the main terms of a school's year that are on file
-abbrev pub main_terms : List Filing → ℕ → ℕ → List OnFile
+abbrev pub main_terms : List Filing → ℕ → ℕ → List FiledTerm
 main_terms past school year = filter (λ t. t.school == school && (t.year == year && not t.term.extra)) (terms_on_file past)
 
 -- a school has at most three main terms in a year
@@ -277,7 +277,7 @@ main_terms_are_few (f ∷ past) legal school year = go f.key f.what legal.2 (mai
         let most = few_terms (the_school past key.school) in
         omega arith
 
-    counted : (key : Key) (c : CalendarFacts) (x : OnFile) (a b d : Bool) → (key.school == school) ≡ a → (c.year == year) ≡ b → not c.extra ≡ d →
+    counted : (key : Key) (c : CalendarFacts) (x : FiledTerm) (a b d : Bool) → (key.school == school) ≡ a → (c.year == year) ≡ b → not c.extra ≡ d →
         breaks past (record { key = key; what = Calendar c }) ≡ None →
         length (main_terms past school year) ≤ 3 →
         length (cond (a && (b && d)) (x ∷ main_terms past school year) (main_terms past school year)) ≤ 3

@@ -14,7 +14,7 @@ use Rattle.aid_filings.specs.declared.filing.What.{What}
 use Rattle.aid_filings.specs.declared.filing.What.TheVariants.{Book as BookFiled, School, Calendar, Prior, Apply, Enrol, Originate, Pay, Withdraw, Repay, Adjust}
 use Rattle.enrolment.specs.Terms.{intensity_of, payment_of}
 use Rattle.aid_types.specs.Programs.{rank}
-use Rattle.office_history.specs.Past.{at_school, if_here, given, later, latest, earlier, amount_or, credits, credits_in, the_school, school_in, the_book, OnFile, terms_on_file}
+use Rattle.office_history.specs.Past.{at_school, if_here, given, later, latest, earlier, amount_or, credits, credits_in, the_school, school_in, the_book, FiledTerm, terms_on_file}
 use Rattle.office_history.specs.Award.{award_under, scheduled}
 use Rattle.office_history.specs.Net.{is_cell, cell_of, cell_at, paid, payments_in, pell_term}
 use Rattle.office_history.specs.FactsOf.{facts_of}
@@ -115,7 +115,7 @@ term_enrolled past key e ih h school student year number = go (key.school == sch
     go true true true false p q r s = ih school student year number
 
 -- no term is over an award only where none on file is
-least_some : (t : OnFile) (o : Option OnFile) → earlier_term t o ≡ None → ⊥
+least_some : (t : FiledTerm) (o : Option FiledTerm) → earlier_term t o ≡ None → ⊥
 least_some t None h = cc
 least_some t (Some u) h = go (nat_lt (9 * t.school + t.term.number) (9 * u.school + u.term.number)) h
   where
@@ -123,16 +123,16 @@ least_some t (Some u) h = go (nat_lt (9 * t.school + t.term.number) (9 * u.schoo
     go true h = cc
     go false h = cc
 
-pub least_none : (ts : List OnFile) → least_term ts ≡ None → ts ≡ []
+pub least_none : (ts : List FiledTerm) → least_term ts ≡ None → ts ≡ []
 least_none [] h = refl
 least_none (t ∷ ts) h = absurd (least_some t (least_term ts) h)
 
-pub told_none : (past : List Filing) (award student year : ℕ) (o : Option OnFile) → told_over past award student year o ≡ None → o ≡ None
+pub told_none : (past : List Filing) (award student year : ℕ) (o : Option FiledTerm) → told_over past award student year o ≡ None → o ≡ None
 told_none past award student year None h = refl
 told_none past award student year (Some t) h = cc
 
 -- where nothing passes, nothing that is there passes
-none_pass : (p q : OnFile → Bool) (ts : List OnFile) → filter p ts ≡ [] → list_any q ts ≡ true → ((o : OnFile) → q o ≡ true → p o ≡ true) → ⊥
+none_pass : (p q : FiledTerm → Bool) (ts : List FiledTerm) → filter p ts ≡ [] → list_any q ts ≡ true → ((o : FiledTerm) → q o ≡ true → p o ≡ true) → ⊥
 none_pass p q [] h any imp = cc
 none_pass p q (t ∷ ts) h any imp = go (p t) (q t) refl refl h any (λ h any. none_pass p q ts h any imp)
   where

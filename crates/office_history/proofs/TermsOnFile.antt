@@ -11,7 +11,7 @@ use Rattle.aid_filings.specs.declared.filing.CalendarFacts.{CalendarFacts}
 use Rattle.aid_filings.specs.declared.filing.Filing.{Filing}
 use Rattle.aid_filings.specs.declared.filing.What.{What}
 use Rattle.aid_filings.specs.declared.filing.What.TheVariants.{Book as BookFiled, School, Calendar, Prior, Apply, Enrol, Originate, Pay, Withdraw, Repay, Adjust}
-use Rattle.office_history.specs.Past.{OnFile, on_file, at_school, term_in, terms_on_file}
+use Rattle.office_history.specs.Past.{FiledTerm, on_file, at_school, term_in, terms_on_file}
 use Rattle.office_history.specs.Rules.{rules_of}
 use Rattle.office_history.specs.Positions.{school_at, term_at, is_over, least_term}
 use Rattle.office_history.specs.Answer.{breaks, IsLegal}
@@ -26,11 +26,11 @@ use Rattle.office_history.proofs.LeastTerms.{least_found, none_found}
 use Rattle.office_history.proofs.LeastNumbers.{Falls}
 
 -- the term that a calendar puts on file after the filings past
-abbrev pub put_on_file : List Filing → Key → CalendarFacts → OnFile
+abbrev pub put_on_file : List Filing → Key → CalendarFacts → FiledTerm
 put_on_file past key c = record { school = key.school; year = c.year; position = length past + 1; term = term_of c }
 
 -- a filing is a calendar, or leaves the terms on file as they are
-by_calendar : (P : List OnFile → Type 0) (past : List Filing) (f : Filing) →
+by_calendar : (P : List FiledTerm → Type 0) (past : List Filing) (f : Filing) →
     ((c : CalendarFacts) → f.what ≡ Calendar c → P (put_on_file past f.key c ∷ terms_on_file past)) → P (terms_on_file past) → P (terms_on_file (f ∷ past))
 by_calendar P past f new same = go f.what refl
   where
@@ -73,7 +73,7 @@ at_end (x ∷ xs) f zero e = absurd (omega arith)
 at_end (x ∷ xs) f (suc i) e = at_end xs f i (omega arith)
 
 -- the filing at a term's position is its calendar
-still_filed : (past : List Filing) (f : Filing) (t : OnFile) → IsFiledTerm (reverse past) t → IsFiledTerm (reverse (f ∷ past)) t
+still_filed : (past : List Filing) (f : Filing) (t : FiledTerm) → IsFiledTerm (reverse past) t → IsFiledTerm (reverse (f ∷ past)) t
 still_filed past f t k = record {
   index = k.index;
   filing = k.filing;
@@ -128,14 +128,14 @@ none_there past school year number h =
     (not_there past school year number (none_told (at_school school (term_in year number)) past h))
 
 -- two terms neither of which comes before the other are of one school and number
-same_place : (t u : OnFile) → is_before t u ≡ false → is_before u t ≡ false → (u.school ≡ t.school) × (u.term.number ≡ t.term.number)
+same_place : (t u : FiledTerm) → is_before t u ≡ false → is_before u t ≡ false → (u.school ≡ t.school) × (u.term.number ≡ t.term.number)
 same_place t u h k = go t.school t.term.number u.school u.term.number h k
   where
     go : (s m r n : ℕ) → (nat_lt s r || (s == r && nat_lt m n)) ≡ false → (nat_lt r s || (r == s && nat_lt n m)) ≡ false → (r ≡ s) × (n ≡ m)
     go s m r n h k = (grind (arith, nat_tests), grind (arith, nat_tests))
 
 -- a new term is none of those on file, so it comes before each of its year, or after it
-new_term : (past : List Filing) (key : Key) (c : CalendarFacts) (year : ℕ) (u : OnFile) → term_at past key.school c.year c.term ≡ 0 →
+new_term : (past : List Filing) (key : Key) (c : CalendarFacts) (year : ℕ) (u : FiledTerm) → term_at past key.school c.year c.term ≡ 0 →
     Contains (terms_on_file past) u → (c.year == year) ≡ true → (u.year == year) ≡ true →
     is_before (put_on_file past key c) u ≡ false → is_before u (put_on_file past key c) ≡ false → ⊥
 new_term past key c year u none there e d h k =
@@ -156,30 +156,30 @@ year_ordered (f ∷ past) h year =
     (among_cases (put_on_file past f.key c) (terms_on_file past) x hx) (among_cases (put_on_file past f.key c) (terms_on_file past) y hy) px py a b)
     (year_ordered past h.0 year)
   where
-    go : (c : CalendarFacts) → term_at past f.key.school c.year c.term ≡ 0 → AreOrdered is_before (λ t. t.year == year) (terms_on_file past) → (x y : OnFile) →
+    go : (c : CalendarFacts) → term_at past f.key.school c.year c.term ≡ 0 → AreOrdered is_before (λ t. t.year == year) (terms_on_file past) → (x y : FiledTerm) →
         (put_on_file past f.key c ≡ x) ⊎ Contains (terms_on_file past) x → (put_on_file past f.key c ≡ y) ⊎ Contains (terms_on_file past) y →
         (x.year == year) ≡ true → (y.year == year) ≡ true → is_before x y ≡ false → is_before y x ≡ false → x ≡ y
     go c none old x y (inl p) (inl q) px py a b = sym p ∙ q
     go c none old x y (inl p) (inr q) px py a b =
         absurd (new_term past f.key c year y none q
-        (subst (λ (t : OnFile). (t.year == year) ≡ true) (sym p) px) py
-        (subst (λ (t : OnFile). is_before t y ≡ false) (sym p) a) (subst (λ (t : OnFile). is_before y t ≡ false) (sym p) b))
+        (subst (λ (t : FiledTerm). (t.year == year) ≡ true) (sym p) px) py
+        (subst (λ (t : FiledTerm). is_before t y ≡ false) (sym p) a) (subst (λ (t : FiledTerm). is_before y t ≡ false) (sym p) b))
     go c none old x y (inr p) (inl q) px py a b =
         absurd (new_term past f.key c year x none p
-        (subst (λ (t : OnFile). (t.year == year) ≡ true) (sym q) py) px
-        (subst (λ (t : OnFile). is_before t x ≡ false) (sym q) b) (subst (λ (t : OnFile). is_before x t ≡ false) (sym q) a))
+        (subst (λ (t : FiledTerm). (t.year == year) ≡ true) (sym q) py) px
+        (subst (λ (t : FiledTerm). is_before t x ≡ false) (sym q) b) (subst (λ (t : FiledTerm). is_before x t ≡ false) (sym q) a))
     go c none old x y (inr p) (inr q) px py a b = old x y p q px py a b
 
 -- in a legal history the term that is least of those over an award is the one found
-pub over_found : (past : List Filing) → IsLegal past → (award student year : ℕ) (t : OnFile) →
+pub over_found : (past : List Filing) → IsLegal past → (award student year : ℕ) (t : FiledTerm) →
     IsLeastBy is_before (is_over past award student year) (terms_on_file past) t →
     least_term (filter (is_over past award student year) (terms_on_file past)) ≡ Some t
 over_found past h award student year t least = go (least_term (filter (is_over past award student year) (terms_on_file past))) refl
   where
-    of_year : (u : OnFile) → is_over past award student year u ≡ true → (u.year == year) ≡ true
+    of_year : (u : FiledTerm) → is_over past award student year u ≡ true → (u.year == year) ≡ true
     of_year u e = (and_parts (u.year == year) _ e).0
 
-    go : (o : Option OnFile) → least_term (filter (is_over past award student year) (terms_on_file past)) ≡ o → o ≡ Some t
+    go : (o : Option FiledTerm) → least_term (filter (is_over past award student year) (terms_on_file past)) ≡ o → o ≡ Some t
     go None e =
         let none = none_found (is_over past award student year) (terms_on_file past) e in
         let d : is_over past award student year t ≡ false = All-contains (λ u. is_over past award student year u ≡ false) (terms_on_file past) t none least.among in
@@ -187,6 +187,6 @@ over_found past h award student year t least = go (least_term (filter (is_over p
         absurd (cc)
     go (Some u) e =
         let found = least_found (is_over past award student year) (terms_on_file past) u e in
-        ap (λ (x : OnFile). Some x) (year_ordered past h year u t found.among least.among (of_year u found.accepted) (of_year t least.accepted)
+        ap (λ (x : FiledTerm). Some x) (year_ordered past h year u t found.among least.among (of_year u found.accepted) (of_year t least.accepted)
         (All-contains (λ v. is_over past award student year v ≡ true → is_before v t ≡ false) (terms_on_file past) u least.least found.among found.accepted)
         (All-contains (λ v. is_over past award student year v ≡ true → is_before v u ≡ false) (terms_on_file past) t found.least least.among least.accepted))

@@ -6,7 +6,7 @@ use Rattle.aid_types.specs.declared.number.Key.{Key}
 use Rattle.aid_filings.specs.declared.filing.EnrolFacts.{EnrolFacts}
 use Rattle.aid_filings.specs.declared.filing.Filing.{Filing}
 use Rattle.aid_filings.specs.declared.filing.What.TheVariants.{Enrol}
-use Rattle.office_history.specs.Past.{OnFile, on_file}
+use Rattle.office_history.specs.Past.{FiledTerm, on_file}
 use Rattle.office_history.specs.Net.{Cell, is_cell, paid}
 
 -- nothing in the list passes the test
@@ -31,7 +31,7 @@ AreOrdered {A} is_before passes xs = (x y : A) → Contains xs x → Contains xs
     is_before x y ≡ false → is_before y x ≡ false → x ≡ y
 
 -- a lesser school code, or the same code and a lesser term number
-abbrev pub is_before : OnFile → OnFile → Bool
+abbrev pub is_before : FiledTerm → FiledTerm → Bool
 is_before t u = nat_lt t.school u.school || (t.school == u.school && nat_lt t.term.number u.term.number)
 
 -- the filing at this index, counted from 0 from the oldest on, passes, and none before it does
@@ -42,7 +42,7 @@ pub record IsFirst (passes : Filing → Bool) (history : List Filing) (index : �
   pub first : (earlier : ℕ) (other : Filing) → earlier < index → slice_get history earlier ≡ Some other → passes other ≡ false
 
 -- the filing at a term's position is its calendar
-pub record IsFiledTerm (history : List Filing) (t : OnFile) : Type 0 where
+pub record IsFiledTerm (history : List Filing) (t : FiledTerm) : Type 0 where
   pub index : ℕ
   pub filing : Filing
   pub place : t.position ≡ index + 1

@@ -146,18 +146,18 @@ application [] student year = None
 application (f ∷ past) student year = higher (application_in student year f.what) (application past student year)
 
 -- a term on file, with its school, its year and its position
-pub record OnFile : Type 0 where
+pub record FiledTerm : Type 0 where
   pub school : ℕ
   pub year : ℕ
   pub position : ℕ
   pub term : Term
 
-abbrev pub on_file : ℕ → ℕ → What → Option OnFile
+abbrev pub on_file : ℕ → ℕ → What → Option FiledTerm
 on_file school here (Calendar c) = Some (record { school = school; year = c.year; position = here; term = term_of c })
 on_file school here _ = None
 
 -- the terms on file, the newest first
-abbrev pub terms_on_file : List Filing → List OnFile
+abbrev pub terms_on_file : List Filing → List FiledTerm
 terms_on_file [] = []
 terms_on_file (f ∷ past) = cons_option (on_file f.key.school (length past + 1) f.what) (terms_on_file past)
 

@@ -8,7 +8,7 @@ use Rattle.aid_filings.specs.declared.filing.WithdrawFacts.{WithdrawFacts}
 use Rattle.aid_types.specs.declared.award.Refusal.{Refusal}
 use Rattle.aid_filings.specs.declared.filing.Filing.{Filing}
 use Rattle.enrolment.specs.Terms.{intensity_of, payment_of, shares_day}
-use Rattle.office_history.specs.Past.{first_at, book_in, school_in, term_in, prior_in, application, application_in, is_higher, cost_in, withdrawal_in, pell_payment_in, at_school, the_book, the_school, credits, OnFile, terms_on_file, first_of_two}
+use Rattle.office_history.specs.Past.{first_at, book_in, school_in, term_in, prior_in, application, application_in, is_higher, cost_in, withdrawal_in, pell_payment_in, at_school, the_book, the_school, credits, FiledTerm, terms_on_file, first_of_two}
 use Rattle.office_history.specs.Award.{award_under, unfit_under}
 use Rattle.office_history.specs.Net.{pell_term}
 
@@ -58,7 +58,7 @@ could_of None = 0 ∷ 0 ∷ 0 ∷ 0 ∷ 0 ∷ 0 ∷ []
 could_of (Some w) = w.could
 
 -- the position of the earliest term on file that passes
-abbrev pub first_term_at : (OnFile → Bool) → List OnFile → ℕ
+abbrev pub first_term_at : (FiledTerm → Bool) → List FiledTerm → ℕ
 first_term_at p [] = 0
 first_term_at p (t ∷ ts) = first_of_two (p t) (first_term_at p ts) t.position
 
@@ -68,12 +68,12 @@ lesser_code false code rest = rest
 lesser_code true code zero = code
 lesser_code true code (suc n) = min code (suc n)
 
-abbrev pub least_code : (OnFile → Bool) → List OnFile → ℕ
+abbrev pub least_code : (FiledTerm → Bool) → List FiledTerm → ℕ
 least_code p [] = 0
 least_code p (t ∷ ts) = lesser_code (p t) t.school (least_code p ts)
 
 -- a term on file of another school that shares a day with this one and holds net Pell of the student
-abbrev pub is_paid_beside : List Filing → ℕ → ℕ → Option Term → OnFile → Bool
+abbrev pub is_paid_beside : List Filing → ℕ → ℕ → Option Term → FiledTerm → Bool
 is_paid_beside past school student None t = false
 is_paid_beside past school student (Some this) t =
     not (t.school == school) && (shares_day this t.term && nat_lt 0 (pell_term past t.school student t.year t.term.number))
@@ -87,21 +87,21 @@ abbrev pub payment_at : List Filing → ℕ → ℕ → ℕ → ℕ → ℕ → 
 payment_at past award school student year term = payment_for past award school (credits past school student year term)
 
 -- a term on file of the year holds more net Pell than an award gives
-abbrev pub is_over : List Filing → ℕ → ℕ → ℕ → OnFile → Bool
+abbrev pub is_over : List Filing → ℕ → ℕ → ℕ → FiledTerm → Bool
 is_over past award student year t =
     t.year == year && nat_lt (payment_at past award t.school student year t.term.number) (pell_term past t.school student year t.term.number)
 
 -- of two terms the one with the lesser school code, then the lesser number
-abbrev pub earlier_term : OnFile → Option OnFile → Option OnFile
+abbrev pub earlier_term : FiledTerm → Option FiledTerm → Option FiledTerm
 earlier_term t None = Some t
 earlier_term t (Some u) =
     if nat_lt (9 * t.school + t.term.number) (9 * u.school + u.term.number) then Some t else Some u
 
-abbrev pub least_term : List OnFile → Option OnFile
+abbrev pub least_term : List FiledTerm → Option FiledTerm
 least_term [] = None
 least_term (t ∷ ts) = earlier_term t (least_term ts)
 
-abbrev pub told_over : List Filing → ℕ → ℕ → ℕ → Option OnFile → Option Refusal
+abbrev pub told_over : List Filing → ℕ → ℕ → ℕ → Option FiledTerm → Option Refusal
 told_over past award student year None = None
 told_over past award student year (Some t) = Some (record {
   rule = 93;

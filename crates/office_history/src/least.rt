@@ -3,7 +3,7 @@
 ghost use Rattle.std.specs.Prelude.{◌≡◌, ◌↔◌, ◌==◌, ◌+◌, ◌<◌, ℕ, Bool, Some, None, reverse};
 ghost use Rattle.std.specs.List.{All, filter};
 ghost use Rattle.aid_filings.specs.declared.filing.Filing.{Filing};
-ghost use Rattle.office_history.specs.Past.{OnFile, first_at, terms_on_file};
+ghost use Rattle.office_history.specs.Past.{FiledTerm, first_at, terms_on_file};
 ghost use Rattle.office_history.specs.Net.{pell_term};
 ghost use Rattle.office_history.specs.Positions.{first_term_at, least_code, least_term, is_over, payment_at, term_over};
 ghost use Rattle.office_history.specs.Answer.{IsLegal};
@@ -22,8 +22,8 @@ pub fn one_least<T>(things: &[T])
 /// Of the terms on file that pass a test, the one found has the least school code and, of that school, the least number;
 /// none is found exactly where none passes.
 pub fn least_term_found(history: &[Filing])
-    ensures none { let terms = terms_on_file (reverse history.now) in (passes : OnFile → Bool) → (least_term (filter passes terms) ≡ None) ↔ NonePasses passes terms }
-    ensures least { let terms = terms_on_file (reverse history.now) in (passes : OnFile → Bool) (term : OnFile) → least_term (filter passes terms) ≡ Some term → IsLeastBy is_before passes terms term }
+    ensures none { let terms = terms_on_file (reverse history.now) in (passes : FiledTerm → Bool) → (least_term (filter passes terms) ≡ None) ↔ NonePasses passes terms }
+    ensures least { let terms = terms_on_file (reverse history.now) in (passes : FiledTerm → Bool) (term : FiledTerm) → least_term (filter passes terms) ≡ Some term → IsLeastBy is_before passes terms term }
 {
     let _ = history;
 }
@@ -41,7 +41,7 @@ pub fn terms_ordered(history: &[Filing])
 pub fn least_term_over(history: &[Filing])
     requires { IsLegal (reverse history.now) }
     ensures none { let past = reverse history.now in (award student year : ℕ) → (term_over past award student year ≡ None) ↔ NonePasses (is_over past award student year) (terms_on_file past) }
-    ensures least { let past = reverse history.now in (award student year : ℕ) (t : OnFile) → IsLeastBy is_before (is_over past award student year) (terms_on_file past) t
+    ensures least { let past = reverse history.now in (award student year : ℕ) (t : FiledTerm) → IsLeastBy is_before (is_over past award student year) (terms_on_file past) t
         → term_over past award student year ≡ Some (record {
           rule = 93;
           kept = pell_term past t.school student year t.term.number;
@@ -56,8 +56,8 @@ pub fn least_term_over(history: &[Filing])
 pub fn least_code_found(history: &[Filing])
     requires { IsLegal (reverse history.now) }
     ensures codes { All (λ t. 0 < t.school) (terms_on_file (reverse history.now)) }
-    ensures none { let terms = terms_on_file (reverse history.now) in (passes : OnFile → Bool) → (least_code passes terms ≡ 0) ↔ NonePasses passes terms }
-    ensures least { let terms = terms_on_file (reverse history.now) in (passes : OnFile → Bool) (code : ℕ) → 0 < code
+    ensures none { let terms = terms_on_file (reverse history.now) in (passes : FiledTerm → Bool) → (least_code passes terms ≡ 0) ↔ NonePasses passes terms }
+    ensures least { let terms = terms_on_file (reverse history.now) in (passes : FiledTerm → Bool) (code : ℕ) → 0 < code
         → (least_code passes terms ≡ code) ↔ IsLeastNumber (λ t. t.school) passes terms code }
 {
     let _ = history;
@@ -75,8 +75,8 @@ pub fn first_found(history: &[Filing])
 /// is that of its calendar.
 pub fn first_term_found(history: &[Filing])
     ensures filed { All (IsFiledTerm history.now) (terms_on_file (reverse history.now)) }
-    ensures none { let terms = terms_on_file (reverse history.now) in (passes : OnFile → Bool) → (first_term_at passes terms ≡ 0) ↔ NonePasses passes terms }
-    ensures first { let terms = terms_on_file (reverse history.now) in (passes : OnFile → Bool) (position : ℕ) → 0 < position
+    ensures none { let terms = terms_on_file (reverse history.now) in (passes : FiledTerm → Bool) → (first_term_at passes terms ≡ 0) ↔ NonePasses passes terms }
+    ensures first { let terms = terms_on_file (reverse history.now) in (passes : FiledTerm → Bool) (position : ℕ) → 0 < position
         → (first_term_at passes terms ≡ position) ↔ IsLeastNumber (λ t. t.position) passes terms position }
 {
     let _ = history;

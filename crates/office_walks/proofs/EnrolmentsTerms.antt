@@ -19,7 +19,7 @@ use Rattle.office_history.specs.Rules.{rules_of}
 use Rattle.office_history.specs.Positions.{is_over, is_paid_beside, least_code, payment_at, term_at, term_over, told_over}
 use Rattle.office_history.specs.Least.{IsLeastNumber, NonePasses, is_before}
 use Rattle.office_history.specs.Net.{cell_at, pell_term}
-use Rattle.office_history.specs.Past.{OnFile, at_school, earlier, given, term_in, terms_on_file, the_term}
+use Rattle.office_history.specs.Past.{FiledTerm, at_school, earlier, given, term_in, terms_on_file, the_term}
 use Rattle.office_history.proofs.Among.{among_cases, among_head, among_rest}
 use Rattle.office_history.proofs.Asked.{none_told}
 use Rattle.rule_lines.proofs.Holds.{all_hold, stands_holds}
@@ -36,7 +36,7 @@ use Rattle.office_walks.proofs.EnrolmentsLeast.{AreCoded, CodeFound, FirstFound,
 
 -- a term on file of a school, a year and a number
 pub record Stands (past : List Filing) (school year number : ℕ) : Type 0 where
-  pub term : OnFile
+  pub term : FiledTerm
   pub among : Contains (terms_on_file past) term
   pub own_school : term.school ≡ school
   pub own_year : term.year ≡ year
@@ -72,7 +72,7 @@ told_stays (Some n) None a h = absurd cc
 told_stays (Some n) (Some b) a h = h
 
 -- in a legal history the term on file is the one that is told of its school, year and number
-pub own_term : (past : List Filing) → IsLegal past → (t : OnFile) → Contains (terms_on_file past) t → the_term past t.school t.year t.term.number ≡ Some t.term
+pub own_term : (past : List Filing) → IsLegal past → (t : FiledTerm) → Contains (terms_on_file past) t → the_term past t.school t.year t.term.number ≡ Some t.term
 own_term [] legal t there = absurd (omega (arith, there.1))
 own_term (f ∷ past) legal t there = go f.key f.what legal.2 there (own_term past legal.0 t)
   where
@@ -81,7 +81,7 @@ own_term (f ∷ past) legal t there = go f.key f.what legal.2 there (own_term pa
         the_term (record { key = key; what = Calendar c } ∷ past) t.school t.year t.term.number ≡ Some t.term
     calendar key c sound (inl old) = told_stays _ (the_term past t.school t.year t.term.number) t.term old
     calendar key c sound (inr same) =
-        subst (λ (x : OnFile). the_term (record { key = key; what = Calendar c } ∷ past) x.school x.year x.term.number ≡ Some x.term) same
+        subst (λ (x : FiledTerm). the_term (record { key = key; what = Calendar c } ∷ past) x.school x.year x.term.number ≡ Some x.term) same
         (rw (none, eq-eqb key.school key.school refl, eq-eqb c.year c.year refl, eq-eqb c.term c.term refl) refl)
       where
         none : the_term past key.school c.year c.term ≡ None
@@ -129,7 +129,7 @@ module _ (past : List Filing) (legal : IsLegal past) (student : ℕ) where
 
   module _ (school : ℕ) (this : Term) where
     -- a term beside this one is enrolled in
-    beside_enrolled : (t : OnFile) → Contains (terms_on_file past) t → is_paid_beside past school student (Some this) t ≡ true →
+    beside_enrolled : (t : FiledTerm) → Contains (terms_on_file past) t → is_paid_beside past school student (Some this) t ≡ true →
         CodeFound (is_beside past school student this) firsts t.school
     beside_enrolled t there passes =
         let a = and_parts (not (t.school == school)) _ passes in
@@ -144,7 +144,7 @@ module _ (past : List Filing) (legal : IsLegal past) (student : ℕ) where
 
     -- and an enrolment beside it is in a term on file
     pub record Beside (code : ℕ) : Type 0 where
-      pub term : OnFile
+      pub term : FiledTerm
       pub among : Contains (terms_on_file past) term
       pub passes : is_paid_beside past school student (Some this) term ≡ true
       pub own_school : term.school ≡ code
@@ -194,7 +194,7 @@ module _ (past : List Filing) (legal : IsLegal past) (student : ℕ) where
     pub code_beside : least_school (is_beside past school student this) (first_enrolments past student) 0 ≡ least_code (is_paid_beside past school student (Some this)) (terms_on_file past)
     code_beside = go (least_school (is_beside past school student this) firsts 0) refl
       where
-        below : (n : ℕ) → least_school (is_beside past school student this) firsts 0 ≡ n → (t : OnFile) → Contains (terms_on_file past) t →
+        below : (n : ℕ) → least_school (is_beside past school student this) firsts 0 ≡ n → (t : FiledTerm) → Contains (terms_on_file past) t →
             is_paid_beside past school student (Some this) t ≡ true → IsAtMost t.school n
         below n e t there passes =
             let w = beside_enrolled t there passes in
@@ -206,7 +206,7 @@ module _ (past : List Filing) (legal : IsLegal past) (student : ℕ) where
             All-weaker (Contains (terms_on_file past)) (λ t. is_paid_beside past school student (Some this) t ≡ false)
             (λ t there. fails t there (is_paid_beside past school student (Some this) t) refl) (terms_on_file past) (All-contains_itself (terms_on_file past))
           where
-            fails : (t : OnFile) → Contains (terms_on_file past) t → (b : Bool) → is_paid_beside past school student (Some this) t ≡ b → b ≡ false
+            fails : (t : FiledTerm) → Contains (terms_on_file past) t → (b : Bool) → is_paid_beside past school student (Some this) t ≡ b → b ≡ false
             fails t there false d = refl
             fails t there true d = absurd (omega (arith, (below 0 e t there d).0))
 
@@ -214,7 +214,7 @@ module _ (past : List Filing) (legal : IsLegal past) (student : ℕ) where
             IsLeastNumber (λ t. t.school) (is_paid_beside past school student (Some this)) (terms_on_file past) n
         some n pos e = found (code_found (is_beside past school student this) firsts 0)
           where
-            least : (t : OnFile) → t.school ≡ n → (u : OnFile) → Contains (terms_on_file past) u → is_paid_beside past school student (Some this) u ≡ true → nat_lt u.school t.school ≡ false
+            least : (t : FiledTerm) → t.school ≡ n → (u : FiledTerm) → Contains (terms_on_file past) u → is_paid_beside past school student (Some this) u ≡ true → nat_lt u.school t.school ≡ false
             least t own u there passes = not_less u.school t.school (let m = (below n e u there passes).1 in omega arith)
               where
                 not_less : (a b : ℕ) → b ≤ a → nat_lt a b ≡ false
@@ -246,7 +246,7 @@ module _ (past : List Filing) (legal : IsLegal past) (student : ℕ) where
 
   module _ (award year : ℕ) where
     -- what is told of a term of the year
-    abbrev told_of : OnFile → Over
+    abbrev told_of : FiledTerm → Over
     told_of t = record {
       school = t.school;
       term = t.term.number;
@@ -271,7 +271,7 @@ module _ (past : List Filing) (legal : IsLegal past) (student : ℕ) where
     given_some false a o e = absurd cc
 
     -- a term over the award is enrolled in
-    over_enrolled : (t : OnFile) → is_over past award student year t ≡ true → FirstFound (over_of past award student year) firsts (Some (told_of t))
+    over_enrolled : (t : FiledTerm) → is_over past award student year t ≡ true → FirstFound (over_of past award student year) firsts (Some (told_of t))
     over_enrolled t passes =
         let a = and_parts (t.year == year) _ passes in
         let more = ltb-true (payment_at past award t.school student year t.term.number) (pell_term past t.school student year t.term.number) a.1 in
@@ -286,7 +286,7 @@ module _ (past : List Filing) (legal : IsLegal past) (student : ℕ) where
 
     -- and an enrolment over it is in a term on file
     pub record OverTerm (a : Over) : Type 0 where
-      pub term : OnFile
+      pub term : FiledTerm
       pub among : Contains (terms_on_file past) term
       pub passes : is_over past award student year term ≡ true
       pub own : a ≡ told_of term
@@ -335,7 +335,7 @@ module _ (past : List Filing) (legal : IsLegal past) (student : ℕ) where
         go key (Adjust b) h = absurd cc
 
     -- no term over the award comes before the first that the enrolments tell
-    below : (o : Option Over) → first_over (over_of past award student year) firsts None ≡ o → (t : OnFile) → is_over past award student year t ≡ true → IsNotBefore (told_of t) o
+    below : (o : Option Over) → first_over (over_of past award student year) firsts None ≡ o → (t : FiledTerm) → is_over past award student year t ≡ true → IsNotBefore (told_of t) o
     below o e t passes =
         let w = over_enrolled t passes in
         subst (IsNotBefore (told_of t)) e (first_below (over_of past award student year) firsts None w.0 (told_of t) w.1 w.2)
@@ -345,7 +345,7 @@ module _ (past : List Filing) (legal : IsLegal past) (student : ℕ) where
         All-weaker (Contains (terms_on_file past)) (λ t. is_over past award student year t ≡ false)
         (λ t there. fails t (is_over past award student year t) refl) (terms_on_file past) (All-contains_itself (terms_on_file past))
       where
-        fails : (t : OnFile) → (b : Bool) → is_over past award student year t ≡ b → b ≡ false
+        fails : (t : FiledTerm) → (b : Bool) → is_over past award student year t ≡ b → b ≡ false
         fails t false d = refl
         fails t true d = absurd (below None e t d)
 
@@ -380,6 +380,6 @@ module _ (past : List Filing) (legal : IsLegal past) (student : ℕ) where
         go (Some a) e = sym (some_over a e)
 
 -- beside no term nothing is paid
-pub none_beside : (past : List Filing) (school student : ℕ) (ts : List OnFile) → least_code (is_paid_beside past school student None) ts ≡ 0
+pub none_beside : (past : List Filing) (school student : ℕ) (ts : List FiledTerm) → least_code (is_paid_beside past school student None) ts ≡ 0
 none_beside past school student [] = refl
 none_beside past school student (t ∷ ts) = none_beside past school student ts

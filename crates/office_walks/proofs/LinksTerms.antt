@@ -12,7 +12,7 @@ use Rattle.aid_filings.specs.declared.filing.What.{What}
 use Rattle.aid_filings.specs.declared.filing.What.TheVariants.{Book, School, Calendar, Prior, Apply, Enrol, Originate, Pay, Withdraw, Repay, Adjust}
 use Rattle.enrolment.specs.Terms.{shares_day}
 use Rattle.office_history.specs.Positions.{term_at}
-use Rattle.office_history.specs.Past.{OnFile, at_school, earlier, earliest, first_at, first_of_two, given, if_here, later, on_file, term_in, terms_on_file, the_term}
+use Rattle.office_history.specs.Past.{FiledTerm, at_school, earlier, earliest, first_at, first_of_two, given, if_here, later, on_file, term_in, terms_on_file, the_term}
 use Rattle.office_history.specs.FiledTerms.{is_main_term, is_overlapping}
 use Rattle.office_history.specs.Rows.{calendar_row, term_row, terms_at}
 use Rattle.office_history.specs.declared.rows.CalendarRow.{CalendarRow}
@@ -113,11 +113,11 @@ module _ (p : Filing → Bool) (older : List Filing) (over : last_at (λ past. p
   ended_none = ended_count p (λ f fails. fails) (count_by p older) 0 (omega arith)
 
 -- terms on file are counted filing by filing
-abbrev is_told : (OnFile → Bool) → Option OnFile → Bool
+abbrev is_told : (FiledTerm → Bool) → Option FiledTerm → Bool
 is_told q None = false
 is_told q (Some t) = q t
 
-counted : (q : OnFile → Bool) (r : Filing → Bool) → ((f : Filing) (here : ℕ) → is_told q (on_file f.key.school here f.what) ≡ r f) → (past : List Filing) →
+counted : (q : FiledTerm → Bool) (r : Filing → Bool) → ((f : Filing) (here : ℕ) → is_told q (on_file f.key.school here f.what) ≡ r f) → (past : List Filing) →
     length (filter q (terms_on_file past)) ≡ count_by r past
 counted q r same [] = refl
 counted q r same (f ∷ past) =
@@ -126,11 +126,11 @@ counted q r same (f ∷ past) =
     ∙ ap (λ (k : ℕ). cond (r f) 1 0 + k) (counted q r same past)
     ∙ sym (sum_by-cons (λ g. cond (r g) 1 0) f past)
   where
-    more : (b : Bool) (t : OnFile) (ts : List OnFile) → length (cond b (t ∷ ts) ts) ≡ cond b 1 0 + length ts
+    more : (b : Bool) (t : FiledTerm) (ts : List FiledTerm) → length (cond b (t ∷ ts) ts) ≡ cond b 1 0 + length ts
     more true t ts = omega arith
     more false t ts = omega arith
 
-    one : (o : Option OnFile) (ts : List OnFile) → length (filter q (cons_option o ts)) ≡ cond (is_told q o) 1 0 + length (filter q ts)
+    one : (o : Option FiledTerm) (ts : List FiledTerm) → length (filter q (cons_option o ts)) ≡ cond (is_told q o) 1 0 + length (filter q ts)
     one None ts = omega arith
     one (Some t) ts = more (q t) t (filter q ts)
 

@@ -6,7 +6,7 @@ use Rattle.aid_filings.specs.declared.filing.CalendarFacts.{CalendarFacts}
 use Rattle.aid_filings.specs.declared.filing.Filing.{Filing}
 use Rattle.aid_filings.specs.declared.filing.What.{What}
 use Rattle.aid_filings.specs.declared.filing.What.TheVariants.{Book as BookFiled, School, Calendar, Prior, Apply, Enrol, Originate, Pay, Withdraw, Repay, Adjust}
-use Rattle.office_history.specs.Past.{OnFile, on_file, terms_on_file}
+use Rattle.office_history.specs.Past.{FiledTerm, on_file, terms_on_file}
 use Rattle.office_history.specs.Positions.{earlier_term, is_paid_beside, least_code, least_term, lesser_code, payment_at, told_over}
 use Rattle.office_history.specs.Net.{pell_term}
 use Rattle.plain_list.specs.Terms.{calendar_in, earlier_place, on_file_at, place_of}
@@ -28,11 +28,11 @@ filed school here (Adjust b) = refl
 one_more : (past : List Filing) (f : Filing) (o : Option CalendarFacts) → calendar_in f.what ≡ o →
     terms_on_file (f ∷ past) ≡ cons_option (option_map (on_file_at f.key.school (length past + 1)) o) (terms_on_file past)
 one_more past f o e =
-    ap (λ (o : Option OnFile). cons_option o (terms_on_file past))
+    ap (λ (o : Option FiledTerm). cons_option o (terms_on_file past))
     (filed f.key.school (length past + 1) f.what ∙ ap (option_map (on_file_at f.key.school (length past + 1))) e)
 
 -- the place of the earliest term that passes, with a term more
-earlier-place : (t : OnFile) (o : Option OnFile) → option_map place_of (earlier_term t o) ≡ earlier_place (place_of t) (option_map place_of o)
+earlier-place : (t : FiledTerm) (o : Option FiledTerm) → option_map place_of (earlier_term t o) ≡ earlier_place (place_of t) (option_map place_of o)
 earlier-place t None = refl
 earlier-place t (Some u) = go (nat_lt (9 * t.school + t.term.number) (9 * u.school + u.term.number))
   where
@@ -40,7 +40,7 @@ earlier-place t (Some u) = go (nat_lt (9 * t.school + t.term.number) (9 * u.scho
     go true = refl
     go false = refl
 
-module _ (test : OnFile → Bool) where
+module _ (test : FiledTerm → Bool) where
   abbrev pub code : List Filing → ℕ
   code past = least_code test (terms_on_file past)
 
@@ -72,18 +72,18 @@ module _ (test : OnFile → Bool) where
       )
 
 -- what is told of that term
-pub told : (past : List Filing) (award student year school number : ℕ) (o : Option OnFile) → option_map place_of o ≡ Some (school, number) →
+pub told : (past : List Filing) (award student year school number : ℕ) (o : Option FiledTerm) → option_map place_of o ≡ Some (school, number) →
     told_over past award student year o ≡ Some (record { rule = 93; kept = pell_term past school student year number; bound = payment_at past award school student year number })
 told past award student year school number None e = absurd cc
 told past award student year school number (Some t) e =
     let both : place_of t ≡ (school, number) = cc in
     λ i. Some (record { rule = 93; kept = pell_term past (both i).0 student year (both i).1; bound = payment_at past award (both i).0 student year (both i).1 })
 
-pub told_none : (past : List Filing) (award student year : ℕ) (o : Option OnFile) → option_map place_of o ≡ None → None ≡ told_over past award student year o
+pub told_none : (past : List Filing) (award student year : ℕ) (o : Option FiledTerm) → option_map place_of o ≡ None → None ≡ told_over past award student year o
 told_none past award student year None e = refl
 told_none past award student year (Some t) e = absurd cc
 
 -- beside no term nothing is paid
-pub none_beside : (past : List Filing) (school student : ℕ) (ts : List OnFile) → least_code (is_paid_beside past school student None) ts ≡ 0
+pub none_beside : (past : List Filing) (school student : ℕ) (ts : List FiledTerm) → least_code (is_paid_beside past school student None) ts ≡ 0
 none_beside past school student [] = refl
 none_beside past school student (t ∷ ts) = none_beside past school student ts

@@ -1,7 +1,7 @@
 //! Terms on file that a rule compares with others.
 ghost use Rattle.std.specs.Prelude.{◌≡◌, ◌≤◌, ◌+◌, ◌*◌, ◌%◌, Bool, Some, false, filter, get_or, option_copied, option_map, true};
 ghost use Rattle.office_history.specs.Net.{cell_at, is_cell, paid as paid_at};
-ghost use Rattle.office_history.specs.Past.{OnFile as TermOnFile, terms_on_file};
+ghost use Rattle.office_history.specs.Past.{FiledTerm as TermOnFile, terms_on_file};
 ghost use Rattle.office_history.specs.Positions.{is_over as is_over_of, is_paid_beside, least_code, least_term, lesser_code, main_term_count, overlap_at, payment_at as payment_of_term, term_over as term_over_of};
 ghost use Rattle.plain_list.specs.Asked.{Tests};
 ghost use Rattle.plain_list.specs.Terms.{calendar_in as calendar_filed, earlier_place, on_file_at, place_of};

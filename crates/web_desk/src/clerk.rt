@@ -14,7 +14,7 @@ pub trait Clerk<F: CallForms> {
 
     /// Answers an ask. A reply of the status 503 comes only where the count of disk faults rose in this call. The ask that
     /// stands behind it is told ahead, where it has come; nothing rests on it.
-    fn ask(&mut self, ask: F::Ask, next: Option<F::Ask>) -> F::Reply
+    fn handle(&mut self, ask: F::Ask, next: Option<F::Ask>) -> F::Reply
         ensures asked { asked self.old ask result self.new }
         ensures later { faults self.old ≤ faults self.new }
         ensures cause { F.scheme.status result ≡ Status.Unavailable → Rose (faults self.old) (faults self.new) };

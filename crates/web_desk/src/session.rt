@@ -63,7 +63,7 @@ fn answer_call<F: CallForms, C: Clerk<F>>(
     let Some(ask) = F::read(alloc, call, body)? else {
         return failure(alloc, Status::BadRequest);
     };
-    let reply = clerk.ask(ask, next);
+    let reply = clerk.handle(ask, next);
     let text = F::write(alloc, &reply)?;
     Ok(Answer::new(F::status(&reply), text))
 }

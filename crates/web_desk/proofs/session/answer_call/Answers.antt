@@ -11,17 +11,17 @@ pub returns-in_default-clause-reached : goal.returns-in_default-clause-reached
 returns-in_default-clause-reached g c = reach_none (IsAsked g.C.Clerk.asked g.C.Clerk.faults g.F.CallForms.scheme.status) c.args.clerk.now
 
 pub returns-in_err-text-clause-reached : goal.returns-in_err-text-clause-reached
-returns-in_err-text-clause-reached g c = reach_one (IsAsked g.C.Clerk.asked g.C.Clerk.faults g.F.CallForms.scheme.status) c.args.clerk.now c.in-Some.ask c.ask-reply.result c.ask-reply.new.self (record { step = c.ask-reply.ensures.asked; later = c.ask-reply.ensures.later; cause = c.ask-reply.ensures.cause })
+returns-in_err-text-clause-reached g c = reach_one (IsAsked g.C.Clerk.asked g.C.Clerk.faults g.F.CallForms.scheme.status) c.args.clerk.now c.in-Some.ask c.handle-reply.result c.handle-reply.new.self (record { step = c.handle-reply.ensures.asked; later = c.handle-reply.ensures.later; cause = c.handle-reply.ensures.cause })
 
 pub returns-clause-reached : goal.returns-clause-reached
-returns-clause-reached g c = reach_one (IsAsked g.C.Clerk.asked g.C.Clerk.faults g.F.CallForms.scheme.status) c.args.clerk.now c.in-Some.ask c.ask-reply.result c.ask-reply.new.self (record { step = c.ask-reply.ensures.asked; later = c.ask-reply.ensures.later; cause = c.ask-reply.ensures.cause })
+returns-clause-reached g c = reach_one (IsAsked g.C.Clerk.asked g.C.Clerk.faults g.F.CallForms.scheme.status) c.args.clerk.now c.in-Some.ask c.handle-reply.result c.handle-reply.new.self (record { step = c.handle-reply.ensures.asked; later = c.handle-reply.ensures.later; cause = c.handle-reply.ensures.cause })
 
 pub returns-in_err-text-clause-err : goal.returns-in_err-text-clause-err
 returns-in_err-text-clause-err g c =
     on_err c.from_residual-in_err-text.result
     (inr (
-      record { status = g.F.CallForms.scheme.status c.ask-reply.result; text = g.F.CallForms.scheme.text c.ask-reply.result },
-      subst (λ o. AnswersAsk g.F.CallForms.scheme g.C.Clerk.asked g.C.Clerk.faults c.args.clerk.now o (record { status = g.F.CallForms.scheme.status c.ask-reply.result; text = g.F.CallForms.scheme.text c.ask-reply.result }) c.ask-reply.new.self)
+      record { status = g.F.CallForms.scheme.status c.handle-reply.result; text = g.F.CallForms.scheme.text c.handle-reply.result },
+      subst (λ o. AnswersAsk g.F.CallForms.scheme g.C.Clerk.asked g.C.Clerk.faults c.args.clerk.now o (record { status = g.F.CallForms.scheme.status c.handle-reply.result; text = g.F.CallForms.scheme.text c.handle-reply.result }) c.handle-reply.new.self)
           (sym c.in-Some.is ∙ c.in_ok-ask.ensures)
-          (c.ask-reply.result, record { step = c.ask-reply.ensures.asked; later = c.ask-reply.ensures.later; cause = c.ask-reply.ensures.cause }, refl),
+          (c.handle-reply.result, record { step = c.handle-reply.ensures.asked; later = c.handle-reply.ensures.later; cause = c.handle-reply.ensures.cause }, refl),
     ))

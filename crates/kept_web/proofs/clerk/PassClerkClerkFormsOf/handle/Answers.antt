@@ -6,7 +6,7 @@ use Rattle.stamped_list.specs.Rows.{ask_under}
 use Rattle.stamped_list.specs.Stamped.{stamped_judging}
 use Rattle.kept_desks.proofs.Turning.{replies}
 use Rattle.kept_web.proofs.Stamped.{replies_under}
-use Rattle.kept_web.proofs.clerk.PassClerkClerkFormsOf.ask.Goals as goal
+use Rattle.kept_web.proofs.clerk.PassClerkClerkFormsOf.handle.Goals as goal
 
 pub returns-clause-asked : goal.returns-clause-asked
 returns-clause-asked g c =

@@ -17,7 +17,7 @@ use Rattle.office_core.proofs.Digits.{digits_least}
 use Rattle.office_core.proofs.Quoted.{payable, unpayable}
 use Rattle.office_core.proofs.StandingLemmas.{standing}
 use Rattle.office_core.proofs.Unpaid.{unpaid}
-use Rattle.office_core.proofs.office.Office.ask.Goals as goal
+use Rattle.office_core.proofs.office.Office.respond.Goals as goal
 
 -- the index counts
 it_counts : IsTrue true
