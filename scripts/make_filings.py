@@ -18,10 +18,10 @@ from datetime import date, timedelta
 
 TOP = os.path.dirname(os.path.dirname(os.path.abspath(__file__)))
 # Where the kinds stand with their codes and names, their fields, the fields of a book, and the words of the programs.
-KINDS = "crates/filing_kinds/src/kind.rt"
-PARTS = "crates/filing_kinds/src/parts.rt"
-BOOK = "crates/filing_kinds/src/book.rt"
-PROGRAMS = "crates/filing_kinds/src/words.rt"
+KINDS = "crates/format_kinds/src/kind.rt"
+PARTS = "crates/format_kinds/src/parts.rt"
+BOOK = "crates/format_kinds/src/book.rt"
+PROGRAMS = "crates/format_kinds/src/words.rt"
 # The form of a field that is one of these words.
 WORD_FORM = "Word"
 WORDS = "docs/fields.tsv"

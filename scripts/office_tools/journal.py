@@ -1,5 +1,5 @@
 """What the bytes of a journal say of its end. They are a header of 16 bytes, for each filing a gate that is 1, the payload's length in four
-bytes, the least first, and the payload, and behind them a gate that is closed, 0 (crates/filing_journal). The program takes each gate that
+bytes, the least first, and the payload, and behind them a gate that is closed, 0 (crates/log_journal). The program takes each gate that
 isn't 1 for the closed one, and cuts what stands behind it. So here is asked whether a run can have left what stands there."""
 import os
 import re

@@ -3,7 +3,7 @@ use Rattle.std.proofs.Common.{◌≡◌, ℕ, zero, suc, true, ℤ, pos, int_le,
 use Rattle.std.specs.List.{All, list_all}
 use Rattle.std.proofs.lemmas.Bool.{and_parts, and_from}
 use Rattle.std.proofs.lemmas.Int.{ints}
-use Rattle.aid_num.proofs.SignedLemmas.{int_le-true}
+use Rattle.aid_types.proofs.SignedLemmas.{int_le-true}
 use Rattle.aid_types.specs.Ranges.{IsAmount, EachIsAmount, is_amount}
 
 pub IsAmount-is_amount : (z : ℤ) → is_amount z ≡ true → IsAmount z

@@ -5,7 +5,7 @@ use Rattle.std.specs.Cmp.Rules.{signed_items}
 use denote.Struct.Props.{props}
 use lib.Pointwise.{pointwise}
 use Rattle.std.specs.Coded.{le_prop}
-use Rattle.aid_num.specs.Nearest.{share}
+use Rattle.aid_types.specs.Nearest.{share}
 use Rattle.aid_types.proofs.Same.{Tells, tells_filled, tells_pair, tells_by, same_with_fact, tells_ℕ, tells_ℤ, le_ℤ-prop}
 use Rattle.aid_types.specs.Ranges.{EachIsAmount, IsAmount, IsFloor, IsPercent, IsRate, IsWithin}
 use Rattle.aid_books.specs.contracts.ages.AgesPartialEq.TheImpl.{eq-value as ages_eq}

@@ -2,7 +2,7 @@
 -- (HEA 475(e), 477(d), 478(e): the assessment schedules; 478(c): the adjusted net worth of a business).
 use Rattle.std.specs.Prelude.{ℤ, ◌+ℤ◌, ◌-ℤ◌, int_lt, Bool, true, false, ◌&&◌, List, [], ◌∷◌, reverse, find, Option, option_map, IsTrue}
 use Rattle.std.specs.Ordering.{int_eq}
-use Rattle.aid_num.specs.Nearest.{share}
+use Rattle.aid_types.specs.Nearest.{share}
 use Rattle.aid_types.specs.Ranges.{IsAmount, IsRate}
 use Rattle.aid_books.specs.declared.marginal.Bracket.{Bracket}
 

@@ -1,7 +1,7 @@
 -- What makes the book of an award year valid: its figures are in range (own ranges), and its tables meet the conditions
 -- that the law's schedules have (HEA 475(d), (e), 476, 477, 478).
 use Rattle.std.specs.Prelude.{◌≡◌, ℕ, suc, ◌≤◌, pos, ◌<ℤ◌, List, length, All, slice_get, Some}
-use Rattle.aid_num.specs.Nearest.{share}
+use Rattle.aid_types.specs.Nearest.{share}
 use Rattle.aid_books.specs.Ages.{IsAgeRow}
 use Rattle.aid_books.specs.Marginal.{IsBracket, row_value}
 use Rattle.aid_types.specs.Ranges.{IsAmount, IsBetween, IsFloor, IsPercent, IsRate, IsWithin}

@@ -1,6 +1,6 @@
 //! The book of an award year: the figures and tables that the Department publishes for it.
 ghost use Rattle.std.specs.Prelude.{◌≡◌, ◌≤◌, ◌≤ℤ◌, Some, option_map, pos, slice_get};
-ghost use Rattle.aid_num.specs.Nearest.{share};
+ghost use Rattle.aid_types.specs.Nearest.{share};
 ghost use Rattle.aid_types.specs.Ranges.{IsAmount, IsFloor, IsPercent, IsRate, IsWithin};
 
 use crate::ages::Ages;

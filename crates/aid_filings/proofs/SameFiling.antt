@@ -13,17 +13,17 @@ use Rattle.aid_types.specs.declared.number.Program.{Program}
 use Rattle.aid_filings.specs.declared.filing.SchoolFacts.{SchoolFacts}
 use Rattle.aid_filings.specs.declared.filing.CalendarFacts.{CalendarFacts}
 use Rattle.aid_filings.specs.declared.filing.PriorFacts.{PriorFacts}
-use Rattle.aid_filings.specs.declared.filing.EnrolFacts.{EnrolFacts}
+use Rattle.aid_filings.specs.declared.filing.EnrollFacts.{EnrollFacts}
 use Rattle.aid_filings.specs.declared.filing.OriginateFacts.{OriginateFacts}
 use Rattle.aid_filings.specs.declared.filing.Amount.{Amount}
 use Rattle.aid_filings.specs.declared.filing.WithdrawFacts.{WithdrawFacts}
 use Rattle.aid_filings.specs.declared.filing.Filing.{Filing}
 use Rattle.aid_filings.specs.declared.filing.What.{What}
-use Rattle.aid_filings.specs.declared.filing.What.TheVariants.{Book as BookFiled, School, Calendar, Prior, Apply, Enrol, Originate, Pay, Withdraw, Repay, Adjust}
+use Rattle.aid_filings.specs.declared.filing.What.TheVariants.{Book as BookFiled, School, Calendar, Prior, Apply, Enroll, Originate, Pay, Withdraw, Repay, Adjust}
 use Rattle.aid_filings.specs.contracts.filing.SchoolFactsPartialEq.TheImpl.{eq-value as school_facts_eq}
 use Rattle.aid_filings.specs.contracts.filing.CalendarFactsPartialEq.TheImpl.{eq-value as calendar_facts_eq}
 use Rattle.aid_filings.specs.contracts.filing.PriorFactsPartialEq.TheImpl.{eq-value as prior_facts_eq}
-use Rattle.aid_filings.specs.contracts.filing.EnrolFactsPartialEq.TheImpl.{eq-value as enrol_facts_eq}
+use Rattle.aid_filings.specs.contracts.filing.EnrollFactsPartialEq.TheImpl.{eq-value as enroll_facts_eq}
 use Rattle.aid_filings.specs.contracts.filing.OriginateFactsPartialEq.TheImpl.{eq-value as originate_facts_eq}
 use Rattle.aid_filings.specs.contracts.filing.AmountPartialEq.TheImpl.{eq-value as amount_eq}
 use Rattle.aid_filings.specs.contracts.filing.WithdrawFactsPartialEq.TheImpl.{eq-value as withdraw_facts_eq}
@@ -72,22 +72,22 @@ pub tells_calendar_facts : Tells calendar_facts_eq.it
 unfolding calendar_facts_parts
 tells_calendar_facts = tells_by calendar_facts_parts calendar_facts_whole (tells_pair tells_ℕ (tells_pair tells_ℕ (tells_pair tells_Bool (tells_pair tells_day (tells_pair tells_day tells_breaks)))))
 
-abbrev pub EnrolFactsParts : Type 0
-EnrolFactsParts = ℕ × (ℕ × (ℕ × (ℕ)))
+abbrev pub EnrollFactsParts : Type 0
+EnrollFactsParts = ℕ × (ℕ × (ℕ × (ℕ)))
 
-unfoldable pub enrol_facts_parts : EnrolFacts → EnrolFactsParts
-enrol_facts_parts x = (x.student, (x.year, (x.term, x.credits)))
+unfoldable pub enroll_facts_parts : EnrollFacts → EnrollFactsParts
+enroll_facts_parts x = (x.student, (x.year, (x.term, x.credits)))
 
-pub enrol_facts_whole : (x y : EnrolFacts) → enrol_facts_parts x ≡ enrol_facts_parts y → x ≡ y
-unfolding enrol_facts_parts
-enrol_facts_whole x y e =
-    let P : EnrolFactsParts → Type 0 = λ b. IsBetween 1 8 b.1.1.0 in
-    let make : (b : EnrolFactsParts) → P b → EnrolFacts = λ b p. record { student = b.0; year = b.1.0; term = b.1.1.0; credits = b.1.1.1; in_range = p } in
-    same_with_fact P make (λ b. hlevel (le_prop, props)) (enrol_facts_parts x) (enrol_facts_parts y) x.in_range y.in_range e
+pub enroll_facts_whole : (x y : EnrollFacts) → enroll_facts_parts x ≡ enroll_facts_parts y → x ≡ y
+unfolding enroll_facts_parts
+enroll_facts_whole x y e =
+    let P : EnrollFactsParts → Type 0 = λ b. IsBetween 1 8 b.1.1.0 in
+    let make : (b : EnrollFactsParts) → P b → EnrollFacts = λ b p. record { student = b.0; year = b.1.0; term = b.1.1.0; credits = b.1.1.1; in_range = p } in
+    same_with_fact P make (λ b. hlevel (le_prop, props)) (enroll_facts_parts x) (enroll_facts_parts y) x.in_range y.in_range e
 
-pub tells_enrol_facts : Tells enrol_facts_eq.it
-unfolding enrol_facts_parts
-tells_enrol_facts = tells_by enrol_facts_parts enrol_facts_whole (tells_pair tells_ℕ (tells_pair tells_ℕ (tells_pair tells_ℕ tells_ℕ)))
+pub tells_enroll_facts : Tells enroll_facts_eq.it
+unfolding enroll_facts_parts
+tells_enroll_facts = tells_by enroll_facts_parts enroll_facts_whole (tells_pair tells_ℕ (tells_pair tells_ℕ (tells_pair tells_ℕ tells_ℕ)))
 
 abbrev pub OriginateFactsParts : Type 0
 OriginateFactsParts = ℕ × (ℕ × (ℕ))
@@ -148,7 +148,7 @@ tells_what = record { same = same; told = told } where
   same (Calendar x) (Calendar y) h = ap Calendar (tells_calendar_facts.same x y h)
   same (Prior x) (Prior y) h = ap Prior (tells_prior_facts.same x y h)
   same (Apply x) (Apply y) h = ap Apply (tells_application.same x y h)
-  same (Enrol x) (Enrol y) h = ap Enrol (tells_enrol_facts.same x y h)
+  same (Enroll x) (Enroll y) h = ap Enroll (tells_enroll_facts.same x y h)
   same (Originate x) (Originate y) h = ap Originate (tells_originate_facts.same x y h)
   same (Pay x) (Pay y) h = ap Pay (tells_amount.same x y h)
   same (Withdraw x) (Withdraw y) h = ap Withdraw (tells_withdraw_facts.same x y h)
@@ -162,7 +162,7 @@ tells_what = record { same = same; told = told } where
   told (Calendar x) = tells_calendar_facts.told x
   told (Prior x) = tells_prior_facts.told x
   told (Apply x) = tells_application.told x
-  told (Enrol x) = tells_enrol_facts.told x
+  told (Enroll x) = tells_enroll_facts.told x
   told (Originate x) = tells_originate_facts.told x
   told (Pay x) = tells_amount.told x
   told (Withdraw x) = tells_withdraw_facts.told x

@@ -1,7 +1,7 @@
 -- Whom a filing is about.
 use Rattle.std.specs.Prelude.{ℕ, Option, Some, None}
 use Rattle.aid_filings.specs.declared.filing.What.{What}
-use Rattle.aid_filings.specs.declared.filing.What.TheVariants.{Book, School, Calendar, Prior, Apply, Enrol, Originate, Pay, Withdraw, Repay, Adjust}
+use Rattle.aid_filings.specs.declared.filing.What.TheVariants.{Book, School, Calendar, Prior, Apply, Enroll, Originate, Pay, Withdraw, Repay, Adjust}
 
 -- the student of what is filed; a book, a school and a term are about none
 abbrev pub student_of : What → Option ℕ
@@ -10,7 +10,7 @@ student_of (School s) = None
 student_of (Calendar c) = None
 student_of (Prior p) = Some p.student
 student_of (Apply a) = Some a.student
-student_of (Enrol e) = Some e.student
+student_of (Enroll e) = Some e.student
 student_of (Originate o) = Some o.student
 student_of (Pay a) = Some a.student
 student_of (Withdraw w) = Some w.student

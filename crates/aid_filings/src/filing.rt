@@ -36,7 +36,7 @@ pub struct PriorFacts {
 
 /// A student's credits in a term of the filing school. `term` is 1 to 8.
 #[derive(Clone, Copy, PartialEq, Eq, Debug)]
-pub struct EnrolFacts {
+pub struct EnrollFacts {
     pub student: Student,
     pub year: Year,
     pub term: u8,
@@ -92,7 +92,7 @@ pub enum What {
     /// An application, or a correction of it.
     Apply(Application),
     /// Credits in a term; those filed last are in force.
-    Enrol(EnrolFacts),
+    Enroll(EnrollFacts),
     Originate(OriginateFacts),
     /// A disbursement.
     Pay(Amount),
@@ -138,7 +138,7 @@ impl What {
             What::Book(_) | What::School(_) | What::Calendar(_) => None,
             What::Prior(prior) => Some(prior.student),
             What::Apply(application) => Some(application.student),
-            What::Enrol(enrolment) => Some(enrolment.student),
+            What::Enroll(enrollment) => Some(enrollment.student),
             What::Originate(origination) => Some(origination.student),
             What::Withdraw(withdrawal) => Some(withdrawal.student),
             What::Pay(amount) | What::Repay(amount) | What::Adjust(amount) => Some(amount.student),

@@ -5,7 +5,7 @@ mod filing;
 mod reply;
 
 pub use filing::{
-    Amount, CalendarFacts, EnrolFacts, Filing, OriginateFacts, PriorFacts, SchoolFacts, What,
+    Amount, CalendarFacts, EnrollFacts, Filing, OriginateFacts, PriorFacts, SchoolFacts, What,
     WithdrawFacts,
 };
-pub use reply::{Ask, Outcome, Reply, StandingRow, Verdict};
+pub use reply::{Operation, Outcome, Reply, Response, StandingRow};

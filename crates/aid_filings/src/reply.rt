@@ -4,7 +4,7 @@ use aid_types::{Formula, Refusal, School, Student, Way, Year};
 
 /// What a desk asks: to file, the greatest Pell payment that the office would take, or where a student stands in a year.
 #[derive(Drop, PartialEq, Eq, Debug)]
-pub enum Ask {
+pub enum Operation {
     File(Filing),
     Quote {
         school: School,
@@ -61,7 +61,7 @@ pub struct StandingRow {
 
 /// How the office judges an ask. `position` is the place of a filing from 1. A quote is in cents.
 #[derive(Clone, Copy, PartialEq, Eq, Debug)]
-pub enum Verdict {
+pub enum Response {
     Again { position: u32, outcome: Outcome },
     Refused(Refusal),
     Admit(Outcome),

@@ -1,21 +1,20 @@
 //! The program of a federal student aid office: its words, its journal, what it reads and what it writes.
 #![tactic(auto)]
 
-use aid_edges::{
-    FreeGate, ReadEdge, Sink, WriteEdge, fill_streams, is_born, keep_in_folder, open_input,
-    open_journal, say, words_of,
+use aid_stamps::Stamp;
+use io_traits::{
+    HostDisk, HostReader, HostWriter, NoSyncPoint, Sink, fill_streams, is_born, keep_in_folder,
+    open_input, open_journal, say, words_of,
 };
-use disk_model::HostDisk;
-use filing_journal::OpenError;
-use fund_policy::{Rule, level, quarter, standard};
-use kept_runs::{RunStop, end};
-use kept_session::ReadStop;
+use law_funds::{Rule, level, quarter, standard};
+use log_journal::OpenError;
+use log_runs::{RunStop, end};
+use log_session::ReadStop;
 use page_cache::{take, take_to_read};
 use run_office::{DeskInput, run, run_desks};
+use run_server::run_web;
 use run_upgrade::upgrade;
-use run_web::run_web;
 use run_words::{MainRow, behind_at, is_found, needs_journal, row_of, upgrade_file};
-use stamps::Stamp;
 use std::alloc::{AllocError, Global};
 use std::fs::File;
 use std::io::ErrorKind;
@@ -23,7 +22,7 @@ use std::net::{Ipv4Addr, Net, TcpListener, TcpStream};
 use std::process::ExitCode;
 use std::sync::Wait;
 use std::thread::Threads;
-use web_edges::PortEdge;
+use web_session::HostAcceptor;
 
 // How the program is used.
 const USAGE: &str = "\
@@ -67,7 +66,7 @@ fn open_inputs(
     rt: &HostRuntime,
     words: &[String],
     stamp: &Stamp,
-) -> Result<Vec<DeskInput<ReadEdge<File>>>, ReadStop> {
+) -> Result<Vec<DeskInput<HostReader<File>>>, ReadStop> {
     let mut desks = Vec::new(rt.alloc());
     for path in words.iter().skip(words_before_files(words)) {
         let Some(input) = open_input(rt, path.as_str()) else {
@@ -119,7 +118,7 @@ fn run_alone<K: Sink>(
         |need: u32, sai: i32, intensity: u8| quarter(need, sai, intensity),
     )?;
     let policies = standard(alloc, level_rule, quarter_rule)?;
-    let mut input = ReadEdge::new(rt.stdin());
+    let mut input = HostReader::new(rt.stdin());
     Ok(run(alloc, words, disk, &mut input, out, &policies).0)
 }
 
@@ -139,7 +138,7 @@ fn serve<H: Net<Listener = TcpListener, Stream = TcpStream> + Threads + Wait + S
     };
     let mut ports = Vec::new(alloc);
     for _ in 0..workers {
-        if ports.push(PortEdge::new(&listener)).is_err() {
+        if ports.push(HostAcceptor::new(&listener)).is_err() {
             return end(Err(RunStop::File(ReadStop::NoMemory.into())), out);
         }
     }
@@ -151,7 +150,7 @@ fn main(rt: HostRuntime) -> ExitCode {
         say(&rt, "the program may open too few files at once");
         return ExitCode::from(RunStop::File(OpenError::DiskFault.into()).status());
     };
-    let mut out = WriteEdge::new(rt.stdout());
+    let mut out = HostWriter::new(rt.stdout());
     let mut words = match words_of(&rt) {
         Ok(words) => words,
         Err(error) if error.kind() == ErrorKind::OutOfMemory => {
@@ -195,7 +194,7 @@ fn main(rt: HostRuntime) -> ExitCode {
             Err(_) => end(Err(RunStop::File(ReadStop::NoMemory.into())), &mut out),
         },
         MainRow::Desks { stamp, .. } => match open_inputs(&rt, &words, &stamp) {
-            Ok(mut desks) => run_desks(&rt, rt.alloc(), &mut desks, disk, &FreeGate, &mut out).0,
+            Ok(mut desks) => run_desks(&rt, rt.alloc(), &mut desks, disk, &NoSyncPoint, &mut out).0,
             Err(stop) => end(Err(RunStop::File(stop.into())), &mut out),
         },
         MainRow::Serve {

@@ -1,10 +1,10 @@
 //! The program of the auditor: it checks an export, or answers rows about clock-hour programs, and has no journal.
 #![tactic(auto)]
 
-use aid_audit::run_audit;
-use aid_edges::{ReadEdge, WriteEdge, say, words_of};
-use kept_runs::{RunStop, end};
-use kept_session::CheckStop;
+use audit::run_audit;
+use io_traits::{HostReader, HostWriter, say, words_of};
+use log_runs::{RunStop, end};
+use log_session::CheckStop;
 use std::io::ErrorKind;
 use std::process::ExitCode;
 
@@ -14,10 +14,10 @@ usage: audit_desk audit < EXPORT
        audit_desk clock < ROWS.csv";
 
 fn main(rt: HostRuntime) -> ExitCode {
-    let mut out = WriteEdge::new(rt.stdout());
+    let mut out = HostWriter::new(rt.stdout());
     let status = match words_of(&rt) {
         Ok(words) => {
-            let mut input = ReadEdge::new(rt.stdin());
+            let mut input = HostReader::new(rt.stdin());
             run_audit(rt.alloc(), &words, &mut input, &mut out)
         }
         Err(error) if error.kind() == ErrorKind::OutOfMemory => {

@@ -4,7 +4,7 @@ use Rattle.std.specs.Prelude.{None, ℤ, pos, negsuc, Result, Ok, Err}
 use Rattle.std.specs.List.{AllByRecursion, position, position_or_len}
 use Rattle.std.proofs.lemmas.Bool.Decides.{nat_tests}
 use Rattle.std.proofs.lemmas.Bool.{and_from}
-use Rattle.aid_num.specs.declared.text.Malformed.{Malformed}
+use Rattle.aid_types.specs.declared.text.Malformed.{Malformed}
 use Rattle.aid_types.specs.Ranges.{EachIsCents, is_cents}
 use Rattle.clock_hours.specs.Fields.{IsInRange, between, cents_at, size, up_to}
 use Rattle.clock_hours.specs.Rows.{amount_at, cents_in}

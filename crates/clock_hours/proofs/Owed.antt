@@ -4,8 +4,8 @@ use Rattle.std.specs.Prelude.{slice_index}
 use Rattle.std.proofs.lemmas.Bool.Decides.{nat_tests}
 use Rattle.aid_types.proofs.ProgramLemmas.{cents_at}
 use Rattle.aid_types.specs.Ranges.{EachIsCents, is_cents}
-use Rattle.withdrawal_returns.specs.Worksheet.{grant_owed, owed_by_program, owed_of, worksheet_of}
-use Rattle.withdrawal_returns.proofs.Programs.{within-net}
+use Rattle.law_r2t4.specs.Worksheet.{grant_owed, owed_by_program, owed_of, worksheet_of}
+use Rattle.law_r2t4.proofs.Programs.{within-net}
 
 grant_owed_small : (laid half : ℕ) → laid ≤ 99999999 → is_cents (grant_owed laid half) ≡ true
 grant_owed_small laid half h = grind (arith, nat_tests)

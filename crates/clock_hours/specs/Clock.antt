@@ -1,6 +1,6 @@
 -- Payments of clock-hour programs, and their returns of funds (34 CFR 690.63(e), 668.22(f)).
 use Rattle.std.specs.Prelude.{ℕ, ◌*◌, ◌≤◌, nat_le, if◌then◌else◌}
-use Rattle.aid_num.specs.Nearest.{half_up}
+use Rattle.aid_types.specs.Nearest.{half_up}
 
 -- hours and weeks of a payment period, within those of the academic year that the program defines
 pub record AreHours (hours year_hours weeks year_weeks : ℕ) : Type 0 where

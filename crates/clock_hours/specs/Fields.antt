@@ -2,14 +2,14 @@
 use Rattle.std.specs.Prelude.{◌≡◌, ℕ, ◌+◌, ◌-◌, ◌^◌, ℤ, pos, neg_ℤ, int_le, unsigned_abs, Bool, true, false, not, ◌&&◌, List, [], Option, Some, None, unwrap_or, Result, Ok, Err}
 use Rattle.std.specs.List.{position}
 use Rattle.std.specs.Result.{result_map_both}
-use Rattle.aid_num.specs.Cents.{cents_of, cents_up_to}
-use Rattle.aid_num.specs.Whole.{whole_between, whole_of}
-use Rattle.aid_num.specs.declared.text.Malformed.{Malformed}
-use Rattle.aid_num.specs.declared.text.Malformed.TheVariants as malformed
+use Rattle.aid_types.specs.Cents.{cents_of, cents_up_to}
+use Rattle.aid_types.specs.Whole.{whole_between, whole_of}
+use Rattle.aid_types.specs.declared.text.Malformed.{Malformed}
+use Rattle.aid_types.specs.declared.text.Malformed.TheVariants as malformed
 use Rattle.csv.specs.Records.{field_at}
-use Rattle.field_rows.specs.Numbers.{refused}
-use Rattle.field_rows.specs.declared.error.Cause.TheVariants.{Spelling, Range}
-use Rattle.field_rows.specs.declared.error.RowError.{RowError}
+use Rattle.format_rows.specs.Numbers.{refused}
+use Rattle.format_rows.specs.declared.error.Cause.TheVariants.{Spelling, Range}
+use Rattle.format_rows.specs.declared.error.RowError.{RowError}
 use Rattle.clock_hours.specs.declared.field.Field.{Field}
 
 -- the text of a field of a row, of which the kind is field 1

@@ -1,10 +1,10 @@
 -- The lines that answer rows about clock-hour programs. Own format.
 use Rattle.std.specs.Prelude.{ℕ, suc, List, [], ◌∷◌, ◌++◌, codes, decimal, Result, Ok, Err}
-use Rattle.aid_num.specs.Cents.{cents_text}
-use Rattle.aid_num.specs.Percents.{percent_text}
-use Rattle.field_rows.specs.Lines.{error_line}
-use Rattle.field_rows.specs.Meanings.{meanings}
-use Rattle.field_rows.specs.declared.error.RowError.{RowError}
+use Rattle.aid_types.specs.Cents.{cents_text}
+use Rattle.aid_types.specs.Percents.{percent_text}
+use Rattle.format_rows.specs.Lines.{error_line}
+use Rattle.format_rows.specs.Meanings.{meanings}
+use Rattle.format_rows.specs.declared.error.RowError.{RowError}
 use Rattle.clock_hours.specs.Rows.{clock_meaning}
 use Rattle.clock_hours.specs.declared.answer.ClockAnswer.{ClockAnswer}
 use Rattle.clock_hours.specs.declared.answer.ClockAnswer.TheVariants.{Pay, Returned}

@@ -1,12 +1,12 @@
 -- What the rows about clock-hour programs mean. Own format.
 use Rattle.std.specs.Prelude.{ℕ, ◌==◌, if◌then◌else◌, List, [], ◌∷◌, length, map, sum, bytes_eq, codes, Option, Some, None, Result, Err}
 use Rattle.csv.specs.Records.{field_at}
-use Rattle.field_rows.specs.Numbers.{refused}
-use Rattle.field_rows.specs.declared.error.Cause.TheVariants.{UnknownKind, WrongCount}
-use Rattle.field_rows.specs.declared.error.RowError.{RowError}
+use Rattle.format_rows.specs.Numbers.{refused}
+use Rattle.format_rows.specs.declared.error.Cause.TheVariants.{UnknownKind, WrongCount}
+use Rattle.format_rows.specs.declared.error.RowError.{RowError}
 use Rattle.clock_hours.specs.Clock.{clock_payment}
-use Rattle.withdrawal_returns.specs.Worksheet.{worksheet_of}
-use Rattle.withdrawal_returns.specs.declared.Lines.{Lines}
+use Rattle.law_r2t4.specs.Worksheet.{worksheet_of}
+use Rattle.law_r2t4.specs.declared.Lines.{Lines}
 use Rattle.clock_hours.specs.Fields.{between, cents_at, judged, size, up_to, whole_at}
 use Rattle.clock_hours.specs.declared.answer.ClockAnswer.{ClockAnswer}
 use Rattle.clock_hours.specs.declared.answer.ClockAnswer.TheVariants.{Pay, Returned}

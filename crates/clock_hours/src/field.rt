@@ -2,12 +2,12 @@
 ghost use Rattle.std.specs.Prelude.{◌≡◌, ◌≤◌, ◌<◌, ◌^◌, OnOk, length};
 ghost use Rattle.std.specs.List.{AllByRecursion, position};
 ghost use Rattle.csv.specs.Records.{fields_of};
-ghost use Rattle.field_rows.specs.Numbers.{refused as refusal};
+ghost use Rattle.format_rows.specs.Numbers.{refused as refusal};
 ghost use Rattle.clock_hours.specs.Fields.{IsInRange, between as between_of, cents_at as cents_in_field, is_misspelled, is_outside, judged, size as size_of, text_at as text_in_field, up_to as up_to_of, whole_at as whole_in_field};
 
-use aid_num::{Malformed, read_cents, read_whole};
+use aid_types::{Malformed, read_cents, read_whole};
 use csv::ByteRecord;
-use field_rows::{Cause, RowError};
+use format_rows::{Cause, RowError};
 
 /// The number that a field spells, or why it spells none, and the range that it has to be in.
 #[derive(Clone, Copy, Debug)]

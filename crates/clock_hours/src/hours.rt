@@ -1,13 +1,12 @@
 //! What a payment period of clock hours pays, and the worksheet of a withdrawal by hours.
 ghost use Rattle.std.specs.Prelude.{◌≡◌, ◌*◌, ◌≤◌};
-ghost use Rattle.aid_num.specs.Nearest.{half_up};
+ghost use Rattle.aid_types.specs.Nearest.{half_up};
 ghost use Rattle.aid_types.specs.Ranges.{EachIsCents};
 ghost use Rattle.clock_hours.specs.Clock.{AreHours, clock_payment};
-ghost use Rattle.withdrawal_returns.specs.Worksheet.{worksheet_of};
+ghost use Rattle.law_r2t4.specs.Worksheet.{worksheet_of};
 
-use aid_num::nearest_whole;
-use aid_types::ByProgram;
-use withdrawal_returns::{Inputs, Lines, worksheet};
+use aid_types::{ByProgram, nearest_whole};
+use law_r2t4::{Inputs, Lines, worksheet};
 
 /// The payment of a payment period by Formula 4, in whole dollars: the Scheduled Award by the lesser of two fractions, that of the
 /// hours of the period in those of the academic year, and that of its weeks. It takes no memory.

@@ -1,13 +1,13 @@
 //! The lines that answer rows about clock-hour programs.
 ghost use Rattle.std.specs.Prelude.{◌≡◌, ◌+◌, ◌≤◌, ◌<◌, [], ◌∷◌, ◌++◌, IfOk, OnOk, length};
 ghost use Rattle.arrayvec.specs.ArrayString.{array_string_len};
-ghost use Rattle.aid_num.specs.Percents.{percent_text};
+ghost use Rattle.aid_types.specs.Percents.{percent_text};
 ghost use Rattle.clock_hours.specs.Lines.{answer_line as line_of_answer, clock_line, clock_text};
 
 use crate::answer::ClockAnswer;
 use crate::row::ClockForm;
 use arrayvec::ArrayString;
-use field_rows::{RowError, TextRows, push_cents, push_count, put_error};
+use format_rows::{RowError, TextRows, push_cents, push_count, put_error};
 use std::alloc::{AllocError, Global};
 
 /// The whole answer to a text of rows: a line for each.

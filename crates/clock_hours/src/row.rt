@@ -2,7 +2,7 @@
 ghost use Rattle.std.specs.Prelude.{◌≡◌, ◌≤◌, bytes_eq, length, map};
 ghost use Rattle.aid_types.specs.Ranges.{EachIsCents};
 ghost use Rattle.csv.specs.Records.{field_at, fields_of};
-ghost use Rattle.field_rows.specs.Meanings.{said_of};
+ghost use Rattle.format_rows.specs.Meanings.{said_of};
 ghost use Rattle.clock_hours.specs.Fields.{size as size_of};
 ghost use Rattle.clock_hours.specs.Rows.{amount_at as amount_in_field, clock_meaning, pay_fields as fields_of_pay, pay_row as pay_row_of, returned as returned_of, withdraw_row as withdraw_row_of, withdrawal as withdrawal_of, withdrawal_fields as fields_of_withdrawal};
 
@@ -10,14 +10,14 @@ use crate::answer::ClockAnswer;
 use crate::field::{Field, cents_at, judge, refused, whole_at};
 use crate::hours::{clock_pay, clock_sheet};
 use csv::ByteRecord;
-use field_rows::{Cause, RowError, RowForm};
+use format_rows::{Cause, RowError, RowReader};
+use law_r2t4::Lines;
 use std::alloc::Global;
-use withdrawal_returns::Lines;
 
 /// Rows about clock-hour programs, each of which gives its answer.
 pub struct ClockForm;
 
-impl RowForm for ClockForm {
+impl RowReader for ClockForm {
     type Entry = ClockAnswer;
 
     type Said = ClockAnswer;

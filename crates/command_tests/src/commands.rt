@@ -1,7 +1,7 @@
 // Commands on the rows of a first day, on files and texts that are none, and what each fault leaves.
 use crate::runs::{assert_run, assert_runs};
-use aid_edges::MemorySource;
-use kept_session::INPUT_LIMIT;
+use io_traits::MemorySource;
+use log_session::INPUT_LIMIT;
 use specimen::BOOK_TEXT;
 use std::test::Fail;
 use whole_runs::{BOTH, CUT, EMPTY, OLD, Run, disk, long_input, ran, ran_over};

@@ -1,8 +1,8 @@
 // A file in memory that tells nothing of itself and keeps no record of its calls, so that a long run takes no long time.
 ghost use Rattle.std.specs.Prelude.{◌≡◌, ◌≤◌};
-ghost use Rattle.disk_model.specs.Faults.{Rose};
+ghost use Rattle.io_traits.specs.Faults.{Rose};
 
-use disk_model::{Disk, Failed};
+use io_traits::{Disk, Failed};
 
 #[derive(Drop)]
 pub(crate) struct PlainFile {
@@ -26,8 +26,8 @@ impl PlainFile {
 }
 
 impl Disk for PlainFile {
-    ghost use Rattle.disk_model.specs.Silent.{silent};
-    ghost use Rattle.disk_model.specs.Laws.{not_honest};
+    ghost use Rattle.io_traits.specs.Silent.{silent};
+    ghost use Rattle.io_traits.specs.Laws.{not_honest};
 
     ghost tells = { λ _. silent };
 

@@ -1,8 +1,7 @@
 // Policies whose caller names them: a word that begins with a hyphen is in no row, though a policy has that name.
-use aid_edges::{MemorySink, SteadySource};
 use aid_types::Name;
-use disk_model::MemoryDisk;
-use fund_policy::{Policies, Policy, Rule, level, quarter};
+use io_traits::{MemoryDisk, MemorySink, SteadySource};
+use law_funds::{Policies, Policy, Rule, level, quarter};
 use run_office::run;
 use std::alloc::{AllocError, Global};
 use std::test::Fail;

@@ -1,5 +1,5 @@
 // Runs one after another over a file in memory.
-use disk_model::MemoryDisk;
+use io_traits::MemoryDisk;
 use specimen::BOOK_TEXT;
 use std::alloc::Global;
 use std::process::Abort;

@@ -1,13 +1,13 @@
 // What many desks do at once: two that pay one student, in either order, one that ends early, those that don't begin, and
 // those whose lines can't be written.
 use crate::desk_runs::{assert_runs, with_book};
-use aid_edges::{
-    FreeGate, Gate, HoldGate, MemorySink, MemorySource, Source, SteadySource, read_to_limit,
+use aid_stamps::Stamp;
+use io_traits::{
+    HoldSyncPoint, MemoryDisk, MemorySink, MemorySource, NoSyncPoint, Source, SteadySource,
+    SyncPoint, read_to_limit,
 };
-use disk_model::MemoryDisk;
-use kept_session::INPUT_LIMIT;
+use log_session::INPUT_LIMIT;
 use run_office::{DeskInput, run_desks};
-use stamps::Stamp;
 use std::alloc::{AllocError, Global};
 use std::process::Abort;
 use std::sync::Wait;
@@ -57,7 +57,7 @@ fn assert_filed<H: Threads + Wait + Abort + Sync>(
     rt: &H,
     alloc: Global,
     disk: MemoryDisk,
-    gate: &HoldGate,
+    gate: &HoldSyncPoint,
     rows: [&[u8]; 2],
     ends: (u8, &[u8]),
 ) -> Result<(), Fail> {
@@ -70,7 +70,7 @@ fn assert_written<H: Threads + Wait + Abort + Sync>(
     rt: &H,
     alloc: Global,
     disk: MemoryDisk,
-    gate: &HoldGate,
+    gate: &HoldSyncPoint,
     rows: [&[u8]; 2],
     failing: &[u64],
     ends: (u8, &[u8]),
@@ -80,7 +80,7 @@ fn assert_written<H: Threads + Wait + Abort + Sync>(
 }
 
 // Desks file their rows behind a gate, where these calls of the sink fail. They end with this status and this text. Gives the disk.
-fn assert_ends<G: Gate + Sync, H: Threads + Wait + Abort + Sync>(
+fn assert_ends<G: SyncPoint + Sync, H: Threads + Wait + Abort + Sync>(
     rt: &H,
     alloc: Global,
     desks: &mut [DeskInput<SteadySource>],
@@ -96,7 +96,7 @@ fn assert_ends<G: Gate + Sync, H: Threads + Wait + Abort + Sync>(
 }
 
 // The same without asserting how they end. Gives the status, the sink with the text, and the disk.
-fn filed<S: Source, G: Gate + Sync, H: Threads + Wait + Sync>(
+fn filed<S: Source, G: SyncPoint + Sync, H: Threads + Wait + Sync>(
     rt: &H,
     alloc: Global,
     desks: &mut [DeskInput<S>],
@@ -136,7 +136,7 @@ const PAYMENTS: [&[u8]; 2] = [
 
 #[test]
 fn desk_1_pays_first(rt: HostRuntime) -> Result<(), Fail> {
-    let gate = HoldGate::new(2, 1, 1_000_000);
+    let gate = HoldSyncPoint::new(2, 1, 1_000_000);
     let text =
         b"desk 1 1 14 accepted 15 paid 3000.00 590568\ndesk 2 1 15 refused 56 631136 600000\nadmitted 15 1 1\n";
     assert_paid(&rt, rt.alloc(), &gate, text)
@@ -144,7 +144,7 @@ fn desk_1_pays_first(rt: HostRuntime) -> Result<(), Fail> {
 
 #[test]
 fn desk_2_pays_first(rt: HostRuntime) -> Result<(), Fail> {
-    let gate = HoldGate::new(1, 2, 1_000_000);
+    let gate = HoldSyncPoint::new(1, 2, 1_000_000);
     let text =
         b"desk 1 1 15 refused 56 631136 600000\ndesk 2 1 14 accepted 15 paid 3000.00 590568\nadmitted 15 2 1\n";
     assert_paid(&rt, rt.alloc(), &gate, text)
@@ -154,7 +154,7 @@ fn desk_2_pays_first(rt: HostRuntime) -> Result<(), Fail> {
 fn assert_paid<H: Threads + Wait + Abort + Sync>(
     rt: &H,
     alloc: Global,
-    gate: &HoldGate,
+    gate: &HoldSyncPoint,
     text: &[u8],
 ) -> Result<(), Fail> {
     let disk = two_schools(rt, alloc)?;
@@ -178,7 +178,7 @@ fn assert_disk_fault<H: Threads + Wait + Abort + Sync>(
     calls: &[u64],
     text: &[u8],
 ) -> Result<(), Fail> {
-    let gate = HoldGate::new(2, 1, 1_000_000);
+    let gate = HoldSyncPoint::new(2, 1, 1_000_000);
     let disk = disk(alloc, BOTH, calls, None)?;
     assert_filed(rt, alloc, disk, &gate, TWO_AND_ONE, (5, text))
 }
@@ -233,7 +233,7 @@ fn failed_write<H: Threads + Wait + Abort + Sync>(
     call: u64,
     ends: (u8, &[u8]),
 ) -> Result<MemoryDisk, Fail> {
-    let gate = HoldGate::new(2, 1, 1_000_000);
+    let gate = HoldSyncPoint::new(2, 1, 1_000_000);
     let disk = disk(alloc, BOTH, &[], None)?;
     assert_written(rt, alloc, disk, &gate, ONE_AND_ONE, &[call], ends)
 }
@@ -303,7 +303,7 @@ fn assert_untouched<H: Threads + Wait + Abort + Sync>(
 ) -> Result<(), Fail> {
     let count = desks.len();
     let disk = disk(alloc, image, &[], None)?;
-    let (status, sink, after) = filed(rt, alloc, desks, disk, &FreeGate, failing)?;
+    let (status, sink, after) = filed(rt, alloc, desks, disk, &NoSyncPoint, failing)?;
     let (want, text) = ends;
     assert_eq!(rt; status, want, "{count} desks, {text}");
     assert_eq!(rt; sink.text(), text.as_bytes(), "{count} desks");
@@ -399,11 +399,11 @@ fn desks_of(
 // Two gates, each of which holds a desk up.
 #[derive(Drop)]
 struct TwoGates {
-    first: HoldGate,
-    second: HoldGate,
+    first: HoldSyncPoint,
+    second: HoldSyncPoint,
 }
 
-impl Gate for TwoGates {
+impl SyncPoint for TwoGates {
     fn hold(&self, desk: u32, row: u32) {
         self.first.hold(desk, row);
         self.second.hold(desk, row);
@@ -445,8 +445,8 @@ fn assert_named<H: Threads + Wait + Abort + Sync>(
     text: &[u8],
 ) -> Result<(), Fail> {
     let gate = TwoGates {
-        first: HoldGate::new(1, 2, 1_000_000),
-        second: HoldGate::new(3, 1, 1_000_000),
+        first: HoldSyncPoint::new(1, 2, 1_000_000),
+        second: HoldSyncPoint::new(3, 1, 1_000_000),
     };
     let rows: [&[u8]; 3] = [row, b"prior,0,7,5007,1\n", b"prior,0,8,5008,1\n"];
     let mut desks = desks_with(alloc, &rows)?;

@@ -1,14 +1,14 @@
 // Offices whose disk stops or fails in the middle of a turn, what they answer then, that room is kept for a turn, and an office
 // under a lock.
-use aid_filings::{Ask, Filing, Outcome, PriorFacts, Reply, SchoolFacts, What};
+use aid_filings::{Filing, Operation, Outcome, PriorFacts, Reply, SchoolFacts, What};
+use aid_stamps::{ClerkName, Stamp};
 use aid_types::{Day, Key, School, Student};
-use desk_forms::put_line;
-use disk_model::{Disk, DiskStop, Fill, MemoryDisk};
-use filing_codec::{Room, TakeError, put, take};
-use kept_office::{FoundFault, KeptOffice, OpenError, Stamped};
-use office_lock::Turns;
-use stamped_list::StampedAsk;
-use stamps::{ClerkName, Stamp};
+use format_bytes::{PayloadBuffer, TakeError, put, take};
+use format_filings::put_line;
+use io_traits::{Disk, DiskStop, Fill, MemoryDisk};
+use log_lock::TicketLock;
+use log_stamps::StampedOperation;
+use office_log::{FoundFault, KeptOffice, OpenError, Stamped};
 use std::alloc::Global;
 use std::process::Abort;
 use std::test::Fail;
@@ -56,14 +56,14 @@ fn filing(rt: &impl Abort, row: (u32, Filed)) -> Filing {
 
 // The ask to file a row under a stamp.
 fn ask_under(rt: &impl Abort, stamp: Stamp, row: (u32, Filed)) -> Stamped {
-    StampedAsk {
-        ask: Ask::File(filing(rt, row)),
+    StampedOperation {
+        operation: Operation::File(filing(rt, row)),
         stamp,
     }
 }
 
 // The ask to file a row under the plain stamp.
-fn ask(rt: &impl Abort, row: (u32, Filed)) -> Stamped {
+fn operation(rt: &impl Abort, row: (u32, Filed)) -> Stamped {
     ask_under(rt, Stamp::plain(), row)
 }
 
@@ -120,8 +120,8 @@ fn open_and_file<D: Disk + Drop>(
 ) -> Result<D, OpenError> {
     let mut kept = opened(alloc, disk)?;
     assert_eq!(rt; kept.office().front(), front);
-    let first = kept.turn(ask(rt, rows[0]));
-    let second = kept.turn(ask(rt, rows[1]));
+    let first = kept.submit(operation(rt, rows[0]));
+    let second = kept.submit(operation(rt, rows[1]));
     assert_eq!(rt; [first, second], replies);
     Ok(kept.into_disk())
 }
@@ -206,7 +206,7 @@ fn assert_stop(
 fn reserves(rt: HostRuntime) -> Result<(), Fail> {
     let mut kept = founded(rt.alloc(), disk(rt.alloc(), b"", &[], None)?)?;
     kept.reserve(2)?;
-    assert_eq!(rt; kept.turn(ask(&rt, SCHOOL)), FIRST);
+    assert_eq!(rt; kept.submit(operation(&rt, SCHOOL)), FIRST);
     assert_eq!(rt; kept.into_disk().image().len(), 46);
     Ok(())
 }
@@ -216,9 +216,9 @@ fn settles_at_last(rt: HostRuntime) -> Result<(), Fail> {
     // The sync behind the gate fails, and then the write of the gate when it is settled.
     let failing = disk(rt.alloc(), &BOTH, &[8, 9], None)?;
     let mut kept = opened(rt.alloc(), failing)?;
-    assert_eq!(rt; kept.turn(ask(&rt, THIRD)), UNDECIDED);
-    assert_eq!(rt; kept.turn(ask(&rt, THIRD)), UNDECIDED);
-    assert_eq!(rt; kept.turn(ask(&rt, THIRD)), THIRD_AGAIN);
+    assert_eq!(rt; kept.submit(operation(&rt, THIRD)), UNDECIDED);
+    assert_eq!(rt; kept.submit(operation(&rt, THIRD)), UNDECIDED);
+    assert_eq!(rt; kept.submit(operation(&rt, THIRD)), THIRD_AGAIN);
     Ok(())
 }
 
@@ -232,7 +232,7 @@ fn a_short_payload(rt: HostRuntime) {
 // A filing's one spelling, in the room of a payload.
 #[test]
 fn a_filing_is_spelled(rt: HostRuntime) -> Result<(), Fail> {
-    let mut room = Room::new(rt.alloc())?;
+    let mut room = PayloadBuffer::new(rt.alloc())?;
     put(&filing(&rt, SECOND), &mut room);
     assert_eq!(rt; room.bytes(), &BOTH[55..80]);
     Ok(())
@@ -245,14 +245,14 @@ fn an_office_takes_turns(rt: HostRuntime) -> Result<(), Fail> {
     let Ok(kept) = KeptOffice::found(rt.alloc(), empty) else {
         return Err(Fail::new("no office"));
     };
-    let Ok((turns, mut pass)) = Turns::new(rt.alloc(), kept, 1) else {
+    let Ok((turns, mut handle)) = TicketLock::new(rt.alloc(), kept, 1) else {
         return Err(Fail::new("no memory"));
     };
-    let one = turns.turn(&rt, &mut pass, ask(&rt, SCHOOL));
-    let two = turns.turn(&rt, &mut pass, ask(&rt, SECOND));
-    let three = turns.turn(&rt, &mut pass, ask(&rt, SCHOOL));
-    let four = turns.turn(&rt, &mut pass, ask(&rt, SCHOOL_ANEW));
-    let disk = turns.close(pass).into_disk();
+    let one = turns.submit(&rt, &mut handle, operation(&rt, SCHOOL));
+    let two = turns.submit(&rt, &mut handle, operation(&rt, SECOND));
+    let three = turns.submit(&rt, &mut handle, operation(&rt, SCHOOL));
+    let four = turns.submit(&rt, &mut handle, operation(&rt, SCHOOL_ANEW));
+    let disk = turns.close(handle).into_disk();
     let mut text = Vec::new(rt.alloc());
     for (number, reply) in [(1, one), (2, two), (3, three), (4, four)] {
         put_line(number, &reply, &mut text)?;
@@ -277,9 +277,9 @@ fn stamps_are_kept(rt: HostRuntime) -> Result<(), Fail> {
         clerk,
     };
     let mut kept = founded(rt.alloc(), disk(rt.alloc(), b"", &[], None)?)?;
-    kept.turn(ask(&rt, SCHOOL));
-    kept.turn(ask_under(&rt, brown, SECOND));
-    let again = kept.turn(ask_under(&rt, brown, SCHOOL));
+    kept.submit(operation(&rt, SCHOOL));
+    kept.submit(ask_under(&rt, brown, SECOND));
+    let again = kept.submit(ask_under(&rt, brown, SCHOOL));
     assert_eq!(rt; again, SCHOOL_AGAIN);
     let kept = opened(rt.alloc(), kept.into_disk())?;
     assert_eq!(rt; kept.stamp(0), None);

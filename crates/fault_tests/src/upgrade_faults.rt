@@ -3,9 +3,9 @@ ghost use Rattle.std.specs.Prelude.{◌≤◌};
 
 use crate::upgrade_files::{NEW, OLD};
 use crate::upgrade_runs::{Ran, disk, stopped, upgraded};
-use disk_model::{DiskStop, Fill, MemoryDisk};
-use kept_office::{KeptOffice, OpenError};
-use stamps::Stamp;
+use aid_stamps::Stamp;
+use io_traits::{DiskStop, Fill, MemoryDisk};
+use office_log::{KeptOffice, OpenError};
 use std::alloc::Global;
 use std::process::Abort;
 use std::test::Fail;

@@ -1,6 +1,5 @@
 // One upgrade over files in memory.
-use aid_edges::MemorySink;
-use disk_model::{DiskStop, MemoryDisk};
+use io_traits::{DiskStop, MemoryDisk, MemorySink};
 use run_upgrade::upgrade;
 use std::alloc::Global;
 use std::test::Fail;

@@ -1,6 +1,6 @@
 //! What no clause says of disks: which calls fail, what a stop leaves, and that a real file is read and written.
 use crate::tools::{assert_same, disk};
-use disk_model::{Disk, DiskStop, Failed, Fill, HostDisk, MemoryDisk};
+use io_traits::{Disk, DiskStop, Failed, Fill, HostDisk, MemoryDisk};
 use std::alloc::AllocError;
 use std::fs::{self, OpenOptions};
 use std::process::Abort;

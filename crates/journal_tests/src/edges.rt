@@ -1,8 +1,8 @@
 //! What no clause says of edges: a read or a write that fails in mid-stream, and edges over slices.
 use crate::tools::assert_same;
-use aid_edges::{
-    Failed, MemorySink, MemorySource, ReadEdge, ReadError, Sink, Source, SteadySource, WriteEdge,
-    read_to_limit, write_whole,
+use io_traits::{
+    Failed, HostReader, HostWriter, MemorySink, MemorySource, ReadError, Sink, Source,
+    SteadySource, read_to_limit, write_whole,
 };
 use std::alloc::{AllocError, Global};
 use std::process::Abort;
@@ -35,7 +35,7 @@ fn reads_a_steady_source_and_a_slice(rt: HostRuntime) -> Result<(), AllocError> 
     let text = b"abc".as_slice();
     let steady = SteadySource::new(text.to_vec(rt.alloc())?);
     assert_read(&rt, rt.alloc(), steady, Ok(text));
-    assert_read(&rt, rt.alloc(), ReadEdge::new(text), Ok(text));
+    assert_read(&rt, rt.alloc(), HostReader::new(text), Ok(text));
     Ok(())
 }
 
@@ -70,7 +70,7 @@ fn writes_whole_texts(rt: HostRuntime) -> Result<(), AllocError> {
 fn writes_into_a_slice(rt: HostRuntime) {
     let mut room = [0; 4];
     let texts: [(&[u8], Result<(), Failed>); 2] = [(b"abc", Ok(())), (b"de", Err(Failed))];
-    written(&rt, WriteEdge::new(room.as_mut_slice()), &texts);
+    written(&rt, HostWriter::new(room.as_mut_slice()), &texts);
     assert_same(&rt, &"the text", &room, b"abcd");
 }
 

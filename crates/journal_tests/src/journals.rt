@@ -2,9 +2,8 @@
 ghost use Rattle.std.specs.Prelude.{◌≤◌};
 
 use crate::tools::{HEADER, assert_read, assert_same, disk, read};
-use aid_edges::Room;
-use disk_model::{Disk, DiskStop, Fill};
-use filing_journal::{OpenError, PutError, found};
+use io_traits::{Disk, DiskStop, Fill, PayloadBuffer};
+use log_journal::{OpenError, PutError, found};
 use std::alloc::{AllocError, Global};
 use std::process::Abort;
 
@@ -80,7 +79,7 @@ fn assert_writes(rt: &impl Abort, alloc: Global, guess: &[u8]) -> Result<(), All
 
 #[test]
 fn answers_by_the_length(rt: HostRuntime) -> Result<(), AllocError> {
-    let mut room = Room::new(rt.alloc())?;
+    let mut room = PayloadBuffer::new(rt.alloc())?;
     for len in 0..72 {
         assert_read(&rt, &len, rt.alloc(), &BOTH[..len], &mut room, of_cut(len))?;
     }
@@ -89,7 +88,7 @@ fn answers_by_the_length(rt: HostRuntime) -> Result<(), AllocError> {
 
 #[test]
 fn answers_by_each_byte(rt: HostRuntime) -> Result<(), AllocError> {
-    let mut room = Room::new(rt.alloc())?;
+    let mut room = PayloadBuffer::new(rt.alloc())?;
     for place in 0..71 {
         let mut bytes = BOTH;
         bytes[place] = !bytes[place];
@@ -100,7 +99,7 @@ fn answers_by_each_byte(rt: HostRuntime) -> Result<(), AllocError> {
 
 #[test]
 fn answers_by_the_bytes_of_an_empty_journal(rt: HostRuntime) -> Result<(), AllocError> {
-    let mut room = Room::new(rt.alloc())?;
+    let mut room = PayloadBuffer::new(rt.alloc())?;
     for place in 0..17 {
         let mut bytes = EMPTY;
         bytes[place] = 7;
@@ -192,7 +191,7 @@ fn of_fault_ahead(call: u64) -> Went {
 
 #[test]
 fn keeps_what_stood_where_it_stops_with_a_payload_ahead(rt: HostRuntime) -> Result<(), AllocError> {
-    let mut room = Room::new(rt.alloc())?;
+    let mut room = PayloadBuffer::new(rt.alloc())?;
     for guess in GUESSES {
         assert_stops(&rt, rt.alloc(), guess, &mut room)?;
     }
@@ -204,7 +203,7 @@ fn assert_stops(
     rt: &impl Abort,
     alloc: Global,
     guess: &[u8],
-    room: &mut Room,
+    room: &mut PayloadBuffer,
 ) -> Result<(), AllocError> {
     for call in 9..18 {
         assert_stop(rt, alloc, guess, call, Fill::Unwritten, room)?;
@@ -222,7 +221,7 @@ fn assert_stop(
     guess: &[u8],
     call: u64,
     fill: Fill,
-    room: &mut Room,
+    room: &mut PayloadBuffer,
 ) -> Result<(), AllocError> {
     let stopping = disk(alloc, b"", &[], Some(DiskStop { call, fill }))?;
     let (went, stopped) = session(stopping, guess);

@@ -1,9 +1,8 @@
 //! What no clause says of a journal that is read in pieces: records across the end of a piece come back whole, and how many
 //! bytes are read at once, and how often.
 use crate::tools::{HEADER, assert_read, assert_same, disk, opening};
-use aid_edges::Room;
-use disk_model::Disk;
-use filing_journal::{OpenError, found};
+use io_traits::{Disk, PayloadBuffer};
+use log_journal::{OpenError, found};
 use std::alloc::{AllocError, Global};
 use std::process::Abort;
 
@@ -34,7 +33,12 @@ fn holding<D: Disk>(rt: &impl Abort, disk: D, payloads: &[&[u8]]) -> D {
 }
 
 // Reads a journal of these payloads.
-fn read_back<D: Disk + Drop>(rt: &impl Abort, disk: D, room: &mut Room, payloads: &[&[u8]]) -> D {
+fn read_back<D: Disk + Drop>(
+    rt: &impl Abort,
+    disk: D,
+    room: &mut PayloadBuffer,
+    payloads: &[&[u8]],
+) -> D {
     let Ok(mut opening) = opening(disk) else {
         panic!(rt; "not opened");
     };
@@ -53,7 +57,7 @@ const LAST: usize = 4119;
 
 #[test]
 fn reads_across_pieces(rt: HostRuntime) -> Result<(), AllocError> {
-    let mut room = Room::new(rt.alloc())?;
+    let mut room = PayloadBuffer::new(rt.alloc())?;
     let bytes = pattern();
     for place in FIRST..=LAST {
         assert_across(&rt, rt.alloc(), &bytes, place, &mut room)?;
@@ -67,7 +71,7 @@ fn assert_across(
     alloc: Global,
     bytes: &[u8; 8192],
     place: usize,
-    room: &mut Room,
+    room: &mut PayloadBuffer,
 ) -> Result<(), AllocError> {
     assert!(rt; 21 <= place && place <= LAST);
     let payloads = [&bytes[..place - 21], &bytes[100..130], bytes];
@@ -80,7 +84,7 @@ fn assert_across(
 
 #[test]
 fn tells_where_a_payload_is_cut(rt: HostRuntime) -> Result<(), AllocError> {
-    let mut room = Room::new(rt.alloc())?;
+    let mut room = PayloadBuffer::new(rt.alloc())?;
     let bytes = pattern();
     let long = holding(
         &rt,
@@ -104,7 +108,7 @@ fn tells_where_a_payload_is_cut(rt: HostRuntime) -> Result<(), AllocError> {
 
 #[test]
 fn reads_a_piece_at_once(rt: HostRuntime) -> Result<(), AllocError> {
-    let mut room = Room::new(rt.alloc())?;
+    let mut room = PayloadBuffer::new(rt.alloc())?;
     let bytes = pattern();
     let payloads = vec![in rt.alloc(); bytes.as_slice(); 13]?;
     let kept = holding(&rt, disk(rt.alloc(), &[], &[], None)?, &payloads);

@@ -1,7 +1,6 @@
 //! What the tests share: an assertion that is proved once for all types, a disk in memory, and how a journal is read.
-use aid_edges::Room;
-use disk_model::{Disk, DiskStop, MemoryDisk};
-use filing_journal::{Header, OpenError, Opening, recover};
+use io_traits::{Disk, DiskStop, MemoryDisk, PayloadBuffer};
+use log_journal::{Header, OpenError, Opening, recover};
 use std::alloc::{AllocError, Global};
 use std::fmt::{Debug, Display};
 use std::process::Abort;
@@ -42,7 +41,7 @@ pub(crate) fn opening<D: Disk + Drop>(disk: D) -> Result<Opening<D>, OpenError> 
 }
 
 // How many payloads a file has, up to 9.
-pub(crate) fn read<D: Disk + Drop>(disk: D, room: &mut Room) -> Result<u64, OpenError> {
+pub(crate) fn read<D: Disk + Drop>(disk: D, room: &mut PayloadBuffer) -> Result<u64, OpenError> {
     let mut opening = opening(disk)?;
     for n in 0..9 {
         if opening.next(room)?.is_none() {
@@ -58,7 +57,7 @@ pub(crate) fn assert_read<C: Display>(
     case: &C,
     alloc: Global,
     bytes: &[u8],
-    room: &mut Room,
+    room: &mut PayloadBuffer,
     wanted: Result<u64, OpenError>,
 ) -> Result<(), AllocError> {
     let found = read(disk(alloc, bytes, &[], None)?, room);

@@ -1,8 +1,8 @@
 //! What no clause says of versions: which bytes are those of the version before, and the answers at them.
 use crate::journals::{BOTH, EMPTY};
 use crate::tools::{assert_same, disk};
-use disk_model::Disk;
-use filing_journal::{FoundError, Header, OpenError, found, recover};
+use io_traits::Disk;
+use log_journal::{FoundError, Header, OpenError, found, recover};
 use std::alloc::{AllocError, Global};
 use std::process::Abort;
 

@@ -4,9 +4,8 @@ ghost use Rattle.aid_types.specs.Ranges.{IsAmount, IsBetween, IsIndex, IsSignedA
 
 use crate::households::{applicant, earner, family_of_four, no_lines, nothing};
 use aid_types::{Application, Formula, Refusal, Way};
-use pell_schedule::{Decision, ceiling_for, decide};
-use sai_index::{IndexLines, fits, formula_of, index};
-use sai_parent::ParentLines;
+use law_pell::{Decision, ceiling_for, decide};
+use law_sai::{IndexLines, ParentLines, fits, formula_of, index};
 use specimen::specimen_book;
 use std::process::Abort;
 

@@ -4,7 +4,7 @@ ghost use Rattle.aid_types.specs.Ranges.{IsAmount, IsSumOf};
 use crate::households::nothing;
 use aid_books::{BoxedBook, Bracket};
 use aid_types::Year;
-use sai_parent::{
+use law_sai::{
     asset_protection, business_worth, employment_allowance, payroll_allowance, schedule_value,
 };
 use specimen::specimen_book;

@@ -1,9 +1,9 @@
 //! A full office: it holds 1,000,000 filings, and refuses the next by rule 90.
 ghost use Rattle.std.specs.Prelude.{◌≤◌};
 
-use aid_filings::{Filing, Outcome, PriorFacts, Verdict, What};
+use aid_filings::{Filing, Outcome, PriorFacts, Response, What};
 use aid_types::{Key, Refusal, School, Student};
-use office_core::Office;
+use office_index::Office;
 use std::alloc::AllocError;
 use std::process::Abort;
 use std::test::Fail;
@@ -12,21 +12,21 @@ use std::test::Fail;
 const FILINGS: u32 = 1_000_000;
 
 // Judges a filing, and admits it where the office would.
-fn file(office: &mut Office, filing: Filing) -> Result<Verdict, AllocError> {
+fn file(office: &mut Office, filing: Filing) -> Result<Response, AllocError> {
     office.reserve(1)?;
-    let verdict = office.judge(&filing);
-    if let Verdict::Admit(outcome) = verdict {
+    let response = office.judge(&filing);
+    if let Response::Admit(outcome) = response {
         office.admit_with(filing, outcome);
     }
-    Ok(verdict)
+    Ok(response)
 }
 
 // Files as many filings as an office holds.
 fn fill(rt: &impl Abort, office: &mut Office) -> Result<(), Fail> {
     office.reserve(FILINGS)?;
     for number in 0..FILINGS {
-        let verdict = file(office, prior(number))?;
-        assert_eq!(rt; verdict, Verdict::Admit(Outcome::Noted), "{number}");
+        let response = file(office, prior(number))?;
+        assert_eq!(rt; response, Response::Admit(Outcome::Noted), "{number}");
     }
     Ok(())
 }
@@ -39,8 +39,8 @@ fn assert_full(rt: &impl Abort, office: &Office) {
         kept: 1_000_000,
         bound: 1_000_000,
     };
-    assert_eq!(rt; office.judge(&prior(FILINGS)), Verdict::Refused(full));
-    let first = Verdict::Again {
+    assert_eq!(rt; office.judge(&prior(FILINGS)), Response::Refused(full));
+    let first = Response::Again {
         position: 1,
         outcome: Outcome::Noted,
     };

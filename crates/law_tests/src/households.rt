@@ -2,7 +2,7 @@
 ghost use Rattle.aid_types.specs.Ranges.{IsAmount, IsBetween, IsSignedAmount};
 
 use aid_types::{Application, Region, Side, Student, Year};
-use sai_parent::ParentLines;
+use law_sai::ParentLines;
 
 /// A household without income and assets.
 pub(crate) fn nothing() -> Side {

@@ -1,6 +1,6 @@
 //! Worked rounds of awards: three candidates with needs of 9,000, 900 and 5,000 dollars, by the level and the quarter policy.
 use aid_types::Student;
-use fund_policy::{Candidate, Policies, Rule, is_in_order, level, quarter, round, standard};
+use law_funds::{Candidate, Policies, Rule, is_in_order, level, quarter, round, standard};
 use std::alloc::{AllocError, Global};
 use std::process::Abort;
 

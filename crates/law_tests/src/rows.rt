@@ -105,8 +105,8 @@ fn look<L: Ledger>(
     requires parts { blank.parts ≡ L.parts }
     requires some { 0 < blank.parts }
 {
-    let mut looks: Steps<L> = Steps::new(blank);
-    table.get(&Seat { school, student }, &mut looks)
+    let mut lookups: Steps<L> = Steps::new(blank);
+    table.get(&Seat { school, student }, &mut lookups)
 }
 
 #[test]
@@ -206,8 +206,8 @@ fn find<L: Ledger>(slots: &Slots<u32, char>, key: u32, blank: Blank) -> Option<(
     requires parts { blank.parts ≡ L.parts }
     requires some { 0 < blank.parts }
 {
-    let mut looks: Steps<L> = Steps::new(blank);
-    let slot = slots.slot_of(&key, &mut looks)?;
-    let (_, value) = *slots.look(slot, &mut looks);
-    Some((slot, value, *slots.get(&key, &mut looks)?))
+    let mut lookups: Steps<L> = Steps::new(blank);
+    let slot = slots.slot_of(&key, &mut lookups)?;
+    let (_, value) = *slots.look(slot, &mut lookups);
+    Some((slot, value, *slots.get(&key, &mut lookups)?))
 }

@@ -2,7 +2,7 @@
 ghost use Rattle.std.specs.Prelude.{◌≤◌, length, Ok};
 
 use csv::ByteRecord;
-use field_rows::{RowError, RowForm, TextRows};
+use format_rows::{RowError, RowReader, TextRows};
 use std::alloc::Global;
 use std::process::Abort;
 use std::test::Fail;
@@ -10,7 +10,7 @@ use std::test::Fail;
 /// Rows of which nothing is read.
 struct AnyRow;
 
-impl RowForm for AnyRow {
+impl RowReader for AnyRow {
     type Entry = ();
 
     type Said = ();

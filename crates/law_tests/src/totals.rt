@@ -1,6 +1,6 @@
 //! Lifetime totals: what students have used, what may still be paid to them, and what may not be written.
 use aid_types::{Student, Year};
-use lifetime_ledger::Totals;
+use law_terms::Totals;
 use std::process::Abort;
 use std::test::Fail;
 

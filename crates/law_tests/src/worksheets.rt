@@ -1,6 +1,6 @@
 //! Worksheets of a withdrawal.
 use aid_types::{ByProgram, Program};
-use withdrawal_returns::{Inputs, Lines, worksheet};
+use law_r2t4::{Inputs, Lines, worksheet};
 
 // The days completed and those of the term, the charges, the net of Unsub and of Pell, what could have been disbursed of Pell, and
 // the percent, what the school returns, what is owed of Pell, and what is still to be disbursed. Past 60 percent of the days all is

@@ -1,9 +1,9 @@
 //! The program of a Direct Loan desk.
 #![tactic(auto)]
 
-use aid_edges::WriteEdge;
-use desk_program::{Opened, close_program, open_program, run_ruled_words};
-use direct_loans::Loans;
+use io_traits::HostWriter;
+use loans::Loans;
+use run_rules::{Opened, close_program, open_program, run_ruled_words};
 use std::process::ExitCode;
 
 // How the program is used.
@@ -13,7 +13,7 @@ usage: loan_office JOURNAL found
        loan_office JOURNAL desks ROWS.csv..";
 
 fn main(rt: HostRuntime) -> ExitCode {
-    let mut out = WriteEdge::new(rt.stdout());
+    let mut out = HostWriter::new(rt.stdout());
     match open_program(&rt, USAGE, &mut out) {
         Ok(
             Opened {

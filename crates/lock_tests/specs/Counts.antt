@@ -2,7 +2,7 @@
 use Rattle.std.specs.Prelude.{ℕ, Bool, true, false, List, [], ◌∷◌}
 use Rattle.lock_tests.specs.declared.counter.Answer.{Answer}
 use Rattle.lock_tests.specs.declared.counter.Answer.TheVariants as answer
-use Rattle.office_lock.specs.Turning.{Says, Admitted, Undecided, Nothing}
+use Rattle.log_lock.specs.Turning.{Says, Admitted, Undecided, Nothing}
 
 abbrev pub said : Answer → Says
 said (answer.Accepted position) = Admitted position
@@ -17,6 +17,6 @@ wants_memory answer.NoMemory = true
 
 -- the entry that an answer says was admitted, with its position
 abbrev pub accepted : Answer → ℕ → List (ℕ × ℕ)
-accepted (answer.Accepted position) ask = (position, ask) ∷ []
-accepted (answer.Undecided position) ask = []
-accepted answer.NoMemory ask = []
+accepted (answer.Accepted position) operation = (position, operation) ∷ []
+accepted (answer.Undecided position) operation = []
+accepted answer.NoMemory operation = []

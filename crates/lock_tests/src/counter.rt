@@ -1,8 +1,8 @@
 // A list of numbers beside a device that may fail.
 ghost use Rattle.std.specs.Prelude.{◌≡◌, ◌≤◌, ℕ, Bool, true, false};
-ghost use Rattle.office_lock.specs.Turning.{RoseBy};
+ghost use Rattle.log_lock.specs.Turning.{RoseBy};
 
-use office_lock::Turned;
+use log_lock::LockedState;
 
 /// A device that counts its faults.
 pub trait Device {
@@ -34,25 +34,25 @@ pub struct Counter<D: Device> {
     pub waiting: Option<u64>,
 }
 
-impl<D: Device> Turned for Counter<D> {
+impl<D: Device> LockedState for Counter<D> {
     ghost use Rattle.std.specs.Prelude.{Some, reverse};
     ghost use Rattle.lock_tests.specs.Counts.{said, wants_memory};
 
-    type Ask = u64;
+    type Operation = u64;
 
     type Reply = Answer;
 
     type Entry = u64;
 
-    type Note = ();
+    type Hint = ();
 
-    ghost stand = { λ s. record { list = reverse s.log.items; pending = s.waiting; faults = D.faults s.device; fixed = D.honest s.device } };
+    ghost snapshot = { λ s. record { list = reverse s.log.items; pending = s.waiting; faults = D.faults s.device; fixed = D.honest s.device } };
 
-    ghost own = { λ ask. Some ask };
+    ghost own = { λ operation. Some operation };
 
     ghost says = { said };
 
-    ghost meets = { λ old ask answer new. Unit {0} };
+    ghost meets = { λ old operation answer new. Unit {0} };
 
     ghost reached = { λ start s. start.faults ≤ D.faults s.device };
 
@@ -61,7 +61,7 @@ impl<D: Device> Turned for Counter<D> {
 
     ghost wants = { wants_memory };
 
-    fn turn(&mut self, ask: u64) -> Answer {
+    fn submit(&mut self, operation: u64) -> Answer {
         if self.log.reserve(2).is_err() {
             return Answer::NoMemory;
         }
@@ -73,12 +73,12 @@ impl<D: Device> Turned for Counter<D> {
             self.waiting = None;
         }
         if !self.device.poke() {
-            self.waiting = Some(ask);
+            self.waiting = Some(operation);
             return Answer::Undecided(self.log.len() as u64 + 1);
         }
-        self.log.push_reserved(ask);
+        self.log.push_reserved(operation);
         Answer::Accepted(self.log.len() as u64)
     }
 
-    fn hear(&mut self, _note: ()) {}
+    fn hint(&mut self, _note: ()) {}
 }

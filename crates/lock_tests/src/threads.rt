@@ -78,10 +78,10 @@ fn many_threads_file_in_one_list(rt: HostRuntime) -> Result<(), Fail> {
     // The device fails in no poke, or in one of those whose entry another turn settles then.
     for bad in [0u64, 1, 2, 5] {
         let mut desks = Vec::new(rt.alloc());
-        for ask in 0..8u64 {
+        for operation in 0..8u64 {
             desks.push(Desk {
-                pass: None,
-                ask,
+                handle: None,
+                operation,
                 answer: None,
             })?;
         }
@@ -98,7 +98,7 @@ fn many_threads_file_in_one_list(rt: HostRuntime) -> Result<(), Fail> {
                 return Err(Fail::new("no position"));
             };
             let place = (position as usize).wrapping_sub(1);
-            assert!(rt; desk.pass.is_none() && closed.log.get(place) == Some(&desk.ask));
+            assert!(rt; desk.handle.is_none() && closed.log.get(place) == Some(&desk.operation));
         }
     }
     Ok(())

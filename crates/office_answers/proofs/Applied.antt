@@ -6,10 +6,10 @@ use Rattle.aid_filings.specs.declared.filing.Filing.{Filing}
 use Rattle.aid_filings.specs.declared.filing.What.TheVariants.{Apply}
 use Rattle.aid_types.specs.declared.application.Application.{Application}
 use Rattle.aid_types.specs.declared.award.Refusal.{Refusal}
-use Rattle.pell_schedule.proofs.AwardLaws.{decision_under-award}
-use Rattle.pell_schedule.specs.Award.{decision_of}
-use Rattle.sai_index.specs.Formulas.{formula}
-use Rattle.sai_index.specs.Indices.{index_of}
+use Rattle.law_pell.proofs.AwardLaws.{decision_under-award}
+use Rattle.law_pell.specs.Award.{decision_of}
+use Rattle.law_sai.specs.Formulas.{formula}
+use Rattle.law_sai.specs.Indices.{index_of}
 use Rattle.office_history.specs.Answer.{breaks, indexed, outcome_in}
 use Rattle.office_history.specs.Award.{award_under, scheduled_of, unfit_under}
 use Rattle.office_history.specs.Positions.{if_fit}

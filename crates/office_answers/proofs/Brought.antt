@@ -9,8 +9,8 @@ use Rattle.aid_filings.specs.declared.filing.Amount.{Amount}
 use Rattle.aid_filings.specs.declared.filing.Filing.{Filing}
 use Rattle.aid_filings.specs.declared.filing.What.TheVariants.{Pay}
 use Rattle.aid_filings.specs.declared.reply.Outcome.TheVariants.{Paid}
-use Rattle.lifetime_ledger.specs.Used.{use_of}
-use Rattle.filing_rules.specs.Lines.{year_limit}
+use Rattle.law_terms.specs.Used.{use_of}
+use Rattle.law_rules.specs.Lines.{year_limit}
 use Rattle.office_history.specs.Past.{prior_units}
 use Rattle.office_history.specs.Award.{scheduled}
 use Rattle.office_history.specs.Net.{Cell, all_years, cell_of, in_year, net, pell_year, sum_over, use_in, used, used_else}

@@ -5,7 +5,7 @@ use Rattle.aid_types.specs.declared.number.Key.{Key}
 use Rattle.aid_filings.specs.declared.filing.Filing.{Filing}
 use Rattle.aid_filings.specs.declared.filing.WithdrawFacts.{WithdrawFacts}
 use Rattle.aid_filings.specs.declared.filing.What.TheVariants.{Withdraw}
-use Rattle.withdrawal_returns.specs.Worksheet.{worksheet_of}
+use Rattle.law_r2t4.specs.Worksheet.{worksheet_of}
 use Rattle.office_history.specs.Net.{is_cell, moved, moves_at, sheet, cell_at}
 use Rattle.office_history.proofs.Cells.{moved_own}
 use Rattle.office_history.specs.Accounts.{IsEntry}

@@ -1,7 +1,7 @@
 pub mod Applied
 pub mod Brought
 pub mod Entries
-pub mod Judged
+pub mod Decided
 pub mod Looked
 pub mod Owed
 pub mod Ranges

@@ -7,7 +7,7 @@ use Rattle.aid_types.specs.Programs.{six}
 use Rattle.aid_types.specs.declared.number.Key.{Key}
 use Rattle.aid_filings.specs.declared.filing.Filing.{Filing}
 use Rattle.aid_filings.specs.declared.filing.WithdrawFacts.{WithdrawFacts}
-use Rattle.withdrawal_returns.specs.Worksheet.{worksheet_of}
+use Rattle.law_r2t4.specs.Worksheet.{worksheet_of}
 use Rattle.office_history.specs.Answer.{IsLegal}
 use Rattle.office_history.specs.Net.{Cell, days_of, last_of, net_at, sheet, withdrawn_cell}
 use Rattle.office_history.specs.Past.{the_term}

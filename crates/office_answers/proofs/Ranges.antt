@@ -7,9 +7,9 @@ use Rattle.aid_types.specs.declared.number.Key.{Key}
 use Rattle.aid_types.specs.declared.term.Term.{Term}
 use Rattle.aid_filings.specs.declared.filing.Filing.{Filing}
 use Rattle.aid_filings.specs.declared.filing.WithdrawFacts.{WithdrawFacts}
-use Rattle.enrolment.specs.Terms.{days_upto}
-use Rattle.withdrawal_returns.specs.Worksheet.{worksheet_of}
-use Rattle.withdrawal_returns.specs.declared.Lines.{Lines}
+use Rattle.law_terms.specs.Terms.{days_upto}
+use Rattle.law_r2t4.specs.Worksheet.{worksheet_of}
+use Rattle.law_r2t4.specs.declared.Lines.{Lines}
 use Rattle.office_history.specs.Past.{at_school, earliest, first_at, the_term, the_withdrawal, withdrawal_in}
 use Rattle.office_history.specs.Net.{cell_at, days_of, last_of, net_at, sheet, withdrawn_cell}
 use Rattle.office_history.specs.Answer.{IsLegal}
@@ -40,8 +40,8 @@ sheet-is past key w t a l e is h =
     ∙ ap (λ (o : Option Term). worksheet_of (days_of o w.last) (days_of o (last_of o)) w.charges (six (λ p. net_at past (withdrawn_cell key w p))) w.could) is
 
 -- what is told stands at a position
-pub told-at : {A : Type 0} (ask : Filing → Option A) (past : List Filing) → nat_lt 0 (first_at (λ f. is_some (ask f)) past) ≡ is_some (earliest ask past)
-told-at ask past = go (first_at (λ f. is_some (ask f)) past) (is_some (earliest ask past)) (some_told ask past) (told_at ask past)
+pub told-at : {A : Type 0} (operation : Filing → Option A) (past : List Filing) → nat_lt 0 (first_at (λ f. is_some (operation f)) past) ≡ is_some (earliest operation past)
+told-at operation past = go (first_at (λ f. is_some (operation f)) past) (is_some (earliest operation past)) (some_told operation past) (told_at operation past)
   where
     go : (n : ℕ) (b : Bool) → (0 < n → b ≡ true) → (b ≡ true → 0 < n) → nat_lt 0 n ≡ b
     go zero true some at = absurd (omega (arith, at refl))

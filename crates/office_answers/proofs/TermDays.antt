@@ -4,7 +4,7 @@ use Rattle.std.specs.Prelude.{if◌then◌else◌}
 use Rattle.std.specs.List.{list_any}
 use Rattle.std.proofs.lemmas.Bool.Decides.{nat_tests}
 use Rattle.aid_types.specs.declared.term.Term.{Term}
-use Rattle.enrolment.specs.Terms.{is_long_break_day, is_counted, counted, days_upto, AreAfter, IsLawful}
+use Rattle.law_terms.specs.Terms.{is_long_break_day, is_counted, counted, days_upto, AreAfter, IsLawful}
 
 -- a day before all breaks lies in none
 no_break : (day : ℕ) (breaks : List (ℕ × ℕ)) (before : ℕ) → AreAfter before breaks → day ≤ before → list_any (is_long_break_day day) breaks ≡ false

@@ -8,7 +8,7 @@ use Rattle.aid_filings.specs.declared.filing.Amount.{Amount}
 use Rattle.aid_filings.specs.declared.filing.Filing.{Filing}
 use Rattle.aid_filings.specs.declared.reply.Outcome.{Outcome}
 use Rattle.aid_filings.specs.declared.reply.Outcome.TheVariants.{Indexed, Noted, Paid}
-use Rattle.lifetime_ledger.specs.Used.{use_of}
+use Rattle.law_terms.specs.Used.{use_of}
 use Rattle.office_history.specs.Answer.{indexed}
 use Rattle.office_history.specs.Award.{scheduled}
 use Rattle.office_history.specs.Net.{in_year, net, used, used_else}

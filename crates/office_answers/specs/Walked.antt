@@ -1,7 +1,7 @@
 -- How many rows a question may walk over.
 use Rattle.std.specs.Prelude.{ℕ, ◌+◌, List, Option, Some, None}
 use Rattle.aid_filings.specs.declared.filing.Filing.{Filing}
-use Rattle.office_history.specs.FirstEnrolments.{places_of}
+use Rattle.office_history.specs.FirstEnrollments.{places_of}
 use Rattle.office_history.specs.Rows.{terms_at}
 
 -- the terms at schools in which a student is enrolled, where a student is named

@@ -8,8 +8,8 @@ ghost use Rattle.office_history.specs.Award.{unfit_under};
 use aid_books::Book;
 use aid_filings::Outcome;
 use aid_types::{Application, Refusal};
+use law_sai::{fits, formula_of};
 use office_history::decision;
-use sai_index::{fits, formula_of};
 
 /// What an application brings under a book: its formula, final index, way and award.
 pub fn indexed_by_book(book: &Book, application: &Application) -> Outcome

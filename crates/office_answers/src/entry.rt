@@ -13,13 +13,13 @@ ghost use Rattle.office_history.specs.declared.place.Place.{Place};
 use crate::sheets::sheet_on_file;
 use aid_filings::{Amount, Filing, What};
 use aid_types::{ByProgram, Term};
-use office_history::{Account, OnFile};
-use withdrawal_returns::Lines;
+use law_r2t4::Lines;
+use office_history::{Account, HistoryView};
 
 /// What a filing moves in the student's term that it is about, after what is on file; nothing where it moves no money. Of that
 /// term before the filing are told the position of the student's withdrawal from it, and what moved in it; and of a withdrawal the
 /// term on file.
-pub fn entry_of<P: OnFile>(
+pub fn entry_of<P: HistoryView>(
     past: &P,
     filing: &Filing,
     withdrawn_at: u32,

@@ -8,7 +8,7 @@ ghost use Rattle.office_history.specs.Answer.{indexed};
 ghost use Rattle.office_history.specs.Award.{unfit_under};
 ghost use Rattle.office_history.specs.FactsOf.{aid_facts as aid_facts_of, facts_of, payment_facts as payment_facts_of};
 ghost use Rattle.office_history.specs.Net.{used_else as used_else_of};
-ghost use Rattle.office_history.specs.FirstEnrolments.{places_of};
+ghost use Rattle.office_history.specs.FirstEnrollments.{places_of};
 ghost use Rattle.office_history.specs.Past.{the_book, the_term};
 ghost use Rattle.office_history.specs.Rows.{place_row, student_row, term_row, terms_at, year_row};
 ghost use Rattle.office_answers.specs.Walked.{walked};
@@ -17,9 +17,9 @@ use crate::applications::{award_in, brought_under, unfit};
 use crate::noted::desk_facts;
 use aid_filings::{Outcome, WithdrawFacts};
 use aid_types::{Application, Key, Program, School, Student, Year};
-use filing_rules::Facts;
-use lifetime_ledger::use_of;
-use office_history::{OnFile, PlaceRow, StudentRow, TermRow, YearRow};
+use law_rules::Facts;
+use law_terms::use_of;
+use office_history::{HistoryView, PlaceRow, StudentRow, TermRow, YearRow};
 use sorted_rows::Steps;
 use std::sync::ledger::Ledger;
 
@@ -49,7 +49,7 @@ pub(crate) struct AidFacts {
 
 /// What an application reads, with what it brings.
 #[tactic(auto, using(crate::proofs::Applied::award_brought, crate::proofs::Applied::brought_at_most))]
-pub(crate) fn application_facts<P: OnFile, L: Ledger>(
+pub(crate) fn application_facts<P: HistoryView, L: Ledger>(
     past: &P,
     key: &Key,
     filed: &Application,
@@ -59,7 +59,7 @@ pub(crate) fn application_facts<P: OnFile, L: Ledger>(
     ensures brought { unfit_under (the_book (P.history past.now) filed.now.year) filed.now ≡ None
         → result.brought ≡ indexed (the_book (P.history past.now) filed.now.year) (Some filed.now) }
     ensures later { steps.old ≤ steps.new }
-    ensures cost { steps.new ≤ steps.old + 5 * P.looks past.now + 4 * walked (P.history past.now) key.now.school (Some filed.now.student) }
+    ensures cost { steps.new ≤ steps.old + 5 * P.lookups past.now + 4 * walked (P.history past.now) key.now.school (Some filed.now.student) }
 {
     let book = past.book(filed.year, steps);
     let year = past.year(filed.student, filed.year, steps);
@@ -85,7 +85,7 @@ pub(crate) fn application_facts<P: OnFile, L: Ledger>(
 
 /// The lifetime units that a student has used but for those of one year.
 #[tactic(auto, using(crate::proofs::Brought::used_apart, office_history::proofs::Awards::year_holds, office_history::proofs::Ranges::used_else_within))]
-pub(crate) fn used_else<P: OnFile>(
+pub(crate) fn used_else<P: HistoryView>(
     past: &P,
     student: Student,
     year: Year,
@@ -104,7 +104,7 @@ pub(crate) fn used_else<P: OnFile>(
 }
 
 // What a payment and a withdrawal read alike, but for the use of other years.
-fn aid_facts<P: OnFile, L: Ledger>(
+fn aid_facts<P: HistoryView, L: Ledger>(
     past: &P,
     school: School,
     student: Student,
@@ -117,7 +117,7 @@ fn aid_facts<P: OnFile, L: Ledger>(
     ensures place { result.place ≡ place_row (P.history past.now) school student award_year number }
     ensures year { result.year ≡ year_row (P.history past.now) student award_year }
     ensures later { steps.old ≤ steps.new }
-    ensures cost { steps.new ≤ steps.old + 4 * P.looks past.now + 4 * terms_at (P.history past.now) school }
+    ensures cost { steps.new ≤ steps.old + 4 * P.lookups past.now + 4 * terms_at (P.history past.now) school }
 {
     let (desk, term) = past.term(school, award_year, number, steps);
     let place = past.place(school, student, award_year, number, steps);
@@ -146,7 +146,7 @@ fn aid_facts<P: OnFile, L: Ledger>(
 }
 
 /// What a payment of a program reads, with the year and the student.
-pub(crate) fn payment_facts<P: OnFile, L: Ledger>(
+pub(crate) fn payment_facts<P: HistoryView, L: Ledger>(
     past: &P,
     school: School,
     student: Student,
@@ -161,7 +161,7 @@ pub(crate) fn payment_facts<P: OnFile, L: Ledger>(
     ensures later { steps.old ≤ steps.new }
     ensures walked { IsTrue (P.counts past.now) → IsSome (the_term (P.history past.now) school year number)
         → steps.old + 3 * places_of (P.history past.now) student ≤ steps.new }
-    ensures cost { steps.new ≤ steps.old + 5 * P.looks past.now + 4 * walked (P.history past.now) school (Some student) }
+    ensures cost { steps.new ≤ steps.old + 5 * P.lookups past.now + 4 * walked (P.history past.now) school (Some student) }
 {
     let aid = aid_facts(past, school, student, year, number, steps);
     let (of_student, other_school) = past.beside(student, school, &aid.term.term, steps);
@@ -184,7 +184,7 @@ pub(crate) fn payment_facts<P: OnFile, L: Ledger>(
 }
 
 /// What a withdrawal reads, with its term and what moved in it.
-pub(crate) fn withdrawal_facts<P: OnFile, L: Ledger>(
+pub(crate) fn withdrawal_facts<P: HistoryView, L: Ledger>(
     past: &P,
     key: &Key,
     withdrawal: &WithdrawFacts,
@@ -194,7 +194,7 @@ pub(crate) fn withdrawal_facts<P: OnFile, L: Ledger>(
     ensures term { result.term ≡ term_row (P.history past.now) key.now.school withdrawal.now.year withdrawal.now.term }
     ensures place { result.place ≡ place_row (P.history past.now) key.now.school withdrawal.now.student withdrawal.now.year withdrawal.now.term }
     ensures later { steps.old ≤ steps.new }
-    ensures cost { steps.new ≤ steps.old + 5 * P.looks past.now + 4 * walked (P.history past.now) key.now.school (Some withdrawal.now.student) }
+    ensures cost { steps.new ≤ steps.old + 5 * P.lookups past.now + 4 * walked (P.history past.now) key.now.school (Some withdrawal.now.student) }
 {
     let (student, year) = (withdrawal.student, withdrawal.year);
     let mut aid = aid_facts(past, key.school, student, year, withdrawal.term, steps);

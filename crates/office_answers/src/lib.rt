@@ -6,14 +6,14 @@ mod applications;
 mod entry;
 mod gathered;
 mod noted;
+mod responses;
 mod sheets;
 mod standings;
 mod uncounted;
-mod verdicts;
 
 pub use applications::{award_in, indexed_by_book};
 pub use entry::{adjusted, entry_of, paid, repaid, returned};
+pub use responses::{answer, returned_outcome};
 pub use sheets::sheet;
 pub use standings::{quote, standing};
 pub use uncounted::{quote_on, rule_on, standing_on, verdict_on};
-pub use verdicts::{answer, returned_outcome};

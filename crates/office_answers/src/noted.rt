@@ -1,21 +1,21 @@
 //! What the rules of a filing that is only noted read of the filings so far. Each row is asked for once.
 ghost use Rattle.std.specs.Prelude.{◌≡◌, ◌+◌, ◌*◌, ◌≤◌, None};
 ghost use Rattle.aid_filings.specs.Students.{student_of};
-ghost use Rattle.aid_filings.specs.declared.filing.What.TheVariants.{Calendar, Enrol, Repay, Adjust};
+ghost use Rattle.aid_filings.specs.declared.filing.What.TheVariants.{Calendar, Enroll, Repay, Adjust};
 ghost use Rattle.office_history.specs.FactsOf.{facts_of, no_facts};
 ghost use Rattle.office_history.specs.Rows.{terms_at};
 ghost use Rattle.office_answers.specs.Noted.{IsNoted};
 ghost use Rattle.office_answers.specs.Walked.{walked};
 
-use aid_filings::{Amount, CalendarFacts, EnrolFacts, Filing, What};
+use aid_filings::{Amount, CalendarFacts, EnrollFacts, Filing, What};
 use aid_types::{Key, Program};
-use filing_rules::Facts;
-use office_history::{OnFile, SchoolRow};
+use law_rules::Facts;
+use office_history::{HistoryView, SchoolRow};
 use sorted_rows::Steps;
 use std::sync::ledger::Ledger;
 
 /// What a filing that is only noted reads.
-pub(crate) fn noted_facts<P: OnFile, L: Ledger>(
+pub(crate) fn noted_facts<P: HistoryView, L: Ledger>(
     past: &P,
     filing: &Filing,
     steps: &mut Steps<L>,
@@ -23,7 +23,7 @@ pub(crate) fn noted_facts<P: OnFile, L: Ledger>(
     requires { IsNoted filing.now.what }
     ensures value { result ≡ facts_of (P.history past.now) filing.now.key filing.now.what }
     ensures later { steps.old ≤ steps.new }
-    ensures cost { steps.new ≤ steps.old + 5 * P.looks past.now + 4 * walked (P.history past.now) filing.now.key.school (student_of filing.now.what) }
+    ensures cost { steps.new ≤ steps.old + 5 * P.lookups past.now + 4 * walked (P.history past.now) filing.now.key.school (student_of filing.now.what) }
 {
     let key = &filing.key;
     let desk = key.school.0;
@@ -45,7 +45,7 @@ pub(crate) fn noted_facts<P: OnFile, L: Ledger>(
                 ..desk_facts(past.front(), &past.school(desk, steps))
             }
         }
-        What::Enrol(enrolment) => enrolment_facts(past, key, enrolment, steps),
+        What::Enroll(enrollment) => enrollment_facts(past, key, enrollment, steps),
         What::Originate(filed) => Facts {
             transaction: past.year(filed.student, filed.year, steps).transaction,
             cost_at: past
@@ -73,7 +73,7 @@ pub(crate) fn desk_facts(filings: u32, school: &SchoolRow) -> Facts
 }
 
 // What a term that is filed reads.
-fn calendar_facts<P: OnFile, L: Ledger>(
+fn calendar_facts<P: HistoryView, L: Ledger>(
     past: &P,
     key: &Key,
     calendar: &CalendarFacts,
@@ -81,7 +81,7 @@ fn calendar_facts<P: OnFile, L: Ledger>(
 ) -> Facts
     ensures value { result ≡ facts_of (P.history past.now) key.now (Calendar calendar.now) }
     ensures later { steps.old ≤ steps.new }
-    ensures cost { steps.new ≤ steps.old + P.looks past.now + 4 * walked (P.history past.now) key.now.school None }
+    ensures cost { steps.new ≤ steps.old + P.lookups past.now + 4 * walked (P.history past.now) key.now.school None }
 {
     let filings = past.front();
     let (school, terms) = past.calendar(key.school, calendar, steps);
@@ -93,16 +93,16 @@ fn calendar_facts<P: OnFile, L: Ledger>(
     }
 }
 
-// What an enrolment reads.
-fn enrolment_facts<P: OnFile, L: Ledger>(
+// What an enrollment reads.
+fn enrollment_facts<P: HistoryView, L: Ledger>(
     past: &P,
     key: &Key,
-    filed: &EnrolFacts,
+    filed: &EnrollFacts,
     steps: &mut Steps<L>,
 ) -> Facts
-    ensures value { result ≡ facts_of (P.history past.now) key.now (Enrol filed.now) }
+    ensures value { result ≡ facts_of (P.history past.now) key.now (Enroll filed.now) }
     ensures later { steps.old ≤ steps.new }
-    ensures cost { steps.new ≤ steps.old + 3 * P.looks past.now + 4 * terms_at (P.history past.now) key.now.school }
+    ensures cost { steps.new ≤ steps.old + 3 * P.lookups past.now + 4 * terms_at (P.history past.now) key.now.school }
 {
     let (school, term) = past.term(key.school, filed.year, filed.term, steps);
     let place = past.place(key.school, filed.student, filed.year, filed.term, steps);
@@ -116,7 +116,7 @@ fn enrolment_facts<P: OnFile, L: Ledger>(
 }
 
 // What a repayment reads.
-fn repayment_facts<P: OnFile, L: Ledger>(
+fn repayment_facts<P: HistoryView, L: Ledger>(
     past: &P,
     key: &Key,
     filed: &Amount,
@@ -124,7 +124,7 @@ fn repayment_facts<P: OnFile, L: Ledger>(
 ) -> Facts
     ensures value { result ≡ facts_of (P.history past.now) key.now (Repay filed.now) }
     ensures later { steps.old ≤ steps.new }
-    ensures cost { steps.new ≤ steps.old + 2 * P.looks past.now }
+    ensures cost { steps.new ≤ steps.old + 2 * P.lookups past.now }
 {
     let place = past.place(key.school, filed.student, filed.year, filed.term, steps);
     Facts {
@@ -135,7 +135,7 @@ fn repayment_facts<P: OnFile, L: Ledger>(
 }
 
 // What a downward adjustment reads.
-fn adjustment_facts<P: OnFile, L: Ledger>(
+fn adjustment_facts<P: HistoryView, L: Ledger>(
     past: &P,
     key: &Key,
     filed: &Amount,
@@ -143,7 +143,7 @@ fn adjustment_facts<P: OnFile, L: Ledger>(
 ) -> Facts
     ensures value { result ≡ facts_of (P.history past.now) key.now (Adjust filed.now) }
     ensures later { steps.old ≤ steps.new }
-    ensures cost { steps.new ≤ steps.old + 2 * P.looks past.now + 4 * terms_at (P.history past.now) key.now.school }
+    ensures cost { steps.new ≤ steps.old + 2 * P.lookups past.now + 4 * terms_at (P.history past.now) key.now.school }
 {
     let (school, term) = past.term(key.school, filed.year, filed.term, steps);
     let place = past.place(key.school, filed.student, filed.year, filed.term, steps);

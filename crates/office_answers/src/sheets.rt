@@ -2,18 +2,18 @@
 ghost use Rattle.std.specs.Prelude.{◌≡◌, ◌≤◌};
 ghost use Rattle.aid_types.specs.Programs.{minus};
 ghost use Rattle.aid_types.specs.Ranges.{EachIsCents};
-ghost use Rattle.enrolment.specs.Terms.{IsLawful, days_upto};
+ghost use Rattle.law_terms.specs.Terms.{IsLawful, days_upto};
 ghost use Rattle.office_history.specs.Net.{sheet as sheet_after};
 ghost use Rattle.office_history.specs.Past.{the_term};
 ghost use Rattle.office_history.specs.Accounts.{IsAccount};
 ghost use Rattle.office_history.specs.Sheets.{CanBeWorkedOut};
-ghost use Rattle.withdrawal_returns.specs.Worksheet.{worksheet_of};
+ghost use Rattle.law_r2t4.specs.Worksheet.{worksheet_of};
 
 use aid_filings::WithdrawFacts;
 use aid_types::{Key, Term};
-use enrolment::days;
-use office_history::{Account, OnFile};
-use withdrawal_returns::{Inputs, Lines, worksheet};
+use law_r2t4::{Inputs, Lines, worksheet};
+use law_terms::days;
+use office_history::{Account, HistoryView};
 
 /// The worksheet of a withdrawal from a term, on what moved in the student's term before it (34 CFR 668.22).
 #[tactic(auto, using(crate::proofs::TermDays::days_begun, crate::proofs::TermDays::days_inside))]
@@ -35,7 +35,7 @@ pub fn sheet(term: &Term, withdrawal: &WithdrawFacts, so_far: &Account) -> Lines
 }
 
 /// The worksheet of a withdrawal on what is on file of its term, and on what moved in the student's term before it.
-pub(crate) fn sheet_on_file<P: OnFile>(
+pub(crate) fn sheet_on_file<P: HistoryView>(
     past: &P,
     key: &Key,
     withdrawal: &WithdrawFacts,

@@ -1,8 +1,8 @@
 //! The text of a book.
 
+use format_books::book_of;
 use std::io;
 use std::io::Read;
-use year_books::book_of;
 
 /// Reads the text on standard input as a book, so many times over. Prints the book's year, or why the text is none.
 pub fn print_book(rt: &HostRuntime, rounds: u32) -> io::Result<()> {

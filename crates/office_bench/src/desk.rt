@@ -4,9 +4,9 @@ ghost use Rattle.aid_types.specs.Ranges.{IsBetween};
 
 use crate::filings::Place;
 use crate::tally::Tally;
-use aid_filings::{Filing, Verdict, What};
+use aid_filings::{Filing, Response, What};
 use aid_types::{Key, School, Student, Year};
-use office_core::Office;
+use office_index::Office;
 use std::alloc::{AllocError, Global};
 
 /// An office, and what came of the filings so far.
@@ -50,11 +50,11 @@ impl Desk {
         let cents = paid_by(&what);
         let filing = Filing { key, what };
         self.office.reserve(1)?;
-        let verdict = self.office.judge(&filing);
-        if let Verdict::Admit(outcome) = verdict {
+        let response = self.office.judge(&filing);
+        if let Response::Admit(outcome) = response {
             self.office.admit_with(filing, outcome);
         }
-        self.tally.count(cents, verdict);
+        self.tally.count(cents, response);
         Ok(())
     }
 

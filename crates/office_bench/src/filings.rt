@@ -3,7 +3,8 @@ ghost use Rattle.std.specs.Prelude.{◌<◌, ◌≤◌};
 ghost use Rattle.aid_types.specs.Ranges.{IsBetween};
 
 use aid_filings::{
-    Amount, CalendarFacts, EnrolFacts, OriginateFacts, PriorFacts, SchoolFacts, What, WithdrawFacts,
+    Amount, CalendarFacts, EnrollFacts, OriginateFacts, PriorFacts, SchoolFacts, What,
+    WithdrawFacts,
 };
 use aid_types::{Application, Breaks, ByProgram, Day, Program, Region, Side, Student, Year};
 
@@ -92,8 +93,8 @@ pub fn application(student: Student, year: u16, agi: u32) -> What
 }
 
 /// Credits in a term.
-pub fn enrolment(student: Student, place: Place, credits: u8) -> What {
-    What::Enrol(EnrolFacts {
+pub fn enrollment(student: Student, place: Place, credits: u8) -> What {
+    What::Enroll(EnrollFacts {
         student,
         year: Year(place.year),
         term: place.term,

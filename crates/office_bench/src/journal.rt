@@ -1,11 +1,10 @@
 //! Payloads of a journal in a file.
 ghost use Rattle.std.specs.Prelude.{◌≡◌, ◌+◌, ◌<◌, ◌^◌, OnOk};
-ghost use Rattle.filing_journal.specs.Journal.{IsDecided, journal_count};
-ghost use Rattle.filing_journal.specs.Opening.{HasEnded};
+ghost use Rattle.log_journal.specs.Journal.{IsDecided, journal_count};
+ghost use Rattle.log_journal.specs.Opening.{HasEnded};
 
-use aid_edges::Room;
-use disk_model::HostDisk;
-use filing_journal::{Header, Journal, OpenError, Opening, PutError, found, recover};
+use io_traits::{HostDisk, PayloadBuffer};
+use log_journal::{Header, Journal, OpenError, Opening, PutError, found, recover};
 use std::fs::OpenOptions;
 use std::io;
 
@@ -50,7 +49,7 @@ fn put_all(journal: &mut Journal<HostDisk>, count: u32) -> Result<(), PutError>
 /// Opens the journal of a file, and answers how many payloads stand in it.
 pub fn count_of(rt: &HostRuntime, path: &str) -> io::Result<u32> {
     let file = OpenOptions::new().read(true).write(true).open(rt, path)?;
-    let mut room = Room::new(rt.alloc())?;
+    let mut room = PayloadBuffer::new(rt.alloc())?;
     let Ok(mut opening) = recover(HostDisk::new(file), HEADER) else {
         return Err(io::ErrorKind::Other.into());
     };
@@ -64,7 +63,7 @@ pub fn count_of(rt: &HostRuntime, path: &str) -> io::Result<u32> {
 }
 
 // Reads every payload, and answers how many there are.
-fn read_all(opening: &mut Opening<HostDisk>, room: &mut Room) -> Result<u32, OpenError>
+fn read_all(opening: &mut Opening<HostDisk>, room: &mut PayloadBuffer) -> Result<u32, OpenError>
     ensures { OnOk result (HasEnded opening.new) }
 {
     for count in 0..u32::MAX {

@@ -4,7 +4,7 @@ ghost use Rattle.aid_types.specs.Ranges.{IsBetween};
 
 use crate::desk::Desk;
 use crate::filings::{
-    FIRST_DAY, FIRST_YEAR, Place, adjustment, application, calendar, enrolment, origination,
+    FIRST_DAY, FIRST_YEAR, Place, adjustment, application, calendar, enrollment, origination,
     payment, school,
 };
 use crate::generator::Sequence;
@@ -105,7 +105,7 @@ fn file_student(
             break;
         }
         adjust(desk, student, standing.fourth)?;
-        let paid = enrol_and_pay(desk, sequence, student)?;
+        let paid = enroll_and_pay(desk, sequence, student)?;
         standing = Standing {
             last: paid,
             second: standing.last,
@@ -128,14 +128,14 @@ fn adjust(desk: &mut Desk, student: Student, paid: Option<Paid>) -> Result<(), A
 }
 
 // Files credits in a term, and a payment of the quote, if there is one.
-fn enrol_and_pay(
+fn enroll_and_pay(
     desk: &mut Desk,
     sequence: &mut Sequence,
     student: Student,
 ) -> Result<Option<Paid>, AllocError> {
     let place = sequence.place();
     let credits = sequence.credits();
-    desk.file_next(place.school, enrolment(student, place, credits))?;
+    desk.file_next(place.school, enrollment(student, place, credits))?;
     let Some(cents) = desk.quote(student, place) else {
         return Ok(None);
     };

@@ -3,8 +3,8 @@
 use crate::applications::Sequence;
 use aid_books::Book;
 use aid_types::Application;
-use pell_schedule::decide;
-use sai_index::index;
+use law_pell::decide;
+use law_sai::index;
 use specimen::specimen_book;
 use std::alloc::{AllocError, Global};
 

@@ -1,7 +1,7 @@
 //! What came of the filings.
 ghost use Rattle.std.specs.Prelude.{◌≤◌};
 
-use aid_filings::{Outcome, Verdict};
+use aid_filings::{Outcome, Response};
 use std::fmt;
 
 /// How many filings were accepted and refused, and the cents of the Pell payments and of the schools' returns among the
@@ -16,16 +16,16 @@ pub struct Tally {
 
 impl Tally {
     /// Counts a verdict on a filing that pays these cents of Pell. What stands already is accepted, and adds to neither sum.
-    pub fn count(&mut self, cents: u64, verdict: Verdict) {
-        match verdict {
-            Verdict::Admit(outcome) => {
+    pub fn count(&mut self, cents: u64, response: Response) {
+        match response {
+            Response::Admit(outcome) => {
                 self.accepted = self.accepted.wrapping_add(1);
                 self.pell = self.pell.wrapping_add(cents);
                 if let Outcome::Returned { school, .. } = outcome {
                     self.returned = self.returned.wrapping_add(school);
                 }
             }
-            Verdict::Again { .. } => self.accepted = self.accepted.wrapping_add(1),
+            Response::Again { .. } => self.accepted = self.accepted.wrapping_add(1),
             _ => self.refused = self.refused.wrapping_add(1),
         }
     }

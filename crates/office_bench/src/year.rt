@@ -3,7 +3,7 @@ ghost use Rattle.std.specs.Prelude.{◌≤◌};
 
 use crate::desk::Desk;
 use crate::filings::{
-    FIRST_DAY, FIRST_YEAR, Place, application, calendar, enrolment, origination, payment, school,
+    FIRST_DAY, FIRST_YEAR, Place, application, calendar, enrollment, origination, payment, school,
     withdrawal,
 };
 use crate::generator::{Draws, Sequence};
@@ -17,7 +17,7 @@ use std::alloc::{AllocError, Global};
 #[derive(Clone, Copy)]
 enum Kind {
     Application,
-    Enrolment,
+    Enrollment,
     Origination,
     Payment,
     Withdrawal,
@@ -26,7 +26,7 @@ enum Kind {
 // The kinds in the order of a student's filings.
 const KINDS: [Kind; 5] = [
     Kind::Application,
-    Kind::Enrolment,
+    Kind::Enrollment,
     Kind::Origination,
     Kind::Payment,
     Kind::Withdrawal,
@@ -45,7 +45,7 @@ pub fn file_students(desk: &mut Desk, alloc: Global, students: u32) -> Result<()
     Ok(())
 }
 
-/// Files the same year kind by kind: all applications, then all enrolments, and so on.
+/// Files the same year kind by kind: all applications, then all enrollments, and so on.
 pub fn file_kinds(desk: &mut Desk, alloc: Global, students: u32) -> Result<(), AllocError> {
     file_schools(desk, alloc)?;
     for kind in KINDS {
@@ -94,7 +94,11 @@ fn file_kind(desk: &mut Desk, kind: Kind, student: u32, draws: Draws) -> Result<
         Kind::Application => {
             desk.file(school, number, application(student, place.year, draws.agi))
         }
-        Kind::Enrolment => desk.file(school, number + 1, enrolment(student, place, draws.credits)),
+        Kind::Enrollment => desk.file(
+            school,
+            number + 1,
+            enrollment(student, place, draws.credits),
+        ),
         Kind::Origination => desk.file(school, number + 2, origination(student, place.year)),
         Kind::Payment => match desk.quote(student, place) {
             Some(cents) => desk.file(school, number + 3, payment(student, place, cents)),

@@ -2,7 +2,7 @@
 use Rattle.std.proofs.Common.{◌≡◌, ℕ, zero, suc, refl, true, false, List, ◌∷◌, [], Option, Some, None}
 use Rattle.aid_filings.specs.declared.filing.Filing.{Filing}
 use Rattle.aid_types.specs.declared.award.Refusal.{Refusal}
-use Rattle.aid_filings.specs.declared.reply.Verdict.TheVariants.{Admit}
+use Rattle.aid_filings.specs.declared.reply.Response.TheVariants.{Admit}
 use Rattle.office_history.specs.Past.{key_at, filing_at}
 use Rattle.office_history.specs.Answer.{IsLegal, answer_of, answer_at, answer_new, judged, breaks, is_admit, outcome_of}
 use Rattle.office_history.proofs.Legal.{legal_admitted}

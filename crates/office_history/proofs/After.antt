@@ -6,7 +6,7 @@ use Rattle.aid_types.specs.declared.number.Key.{Key}
 use Rattle.aid_filings.specs.declared.filing.Amount.{Amount}
 use Rattle.aid_filings.specs.declared.filing.Filing.{Filing}
 use Rattle.aid_filings.specs.declared.filing.What.{What}
-use Rattle.aid_filings.specs.declared.filing.What.TheVariants.{Book as BookFiled, School, Calendar, Prior, Apply, Enrol, Originate, Pay, Withdraw, Repay, Adjust}
+use Rattle.aid_filings.specs.declared.filing.What.TheVariants.{Book as BookFiled, School, Calendar, Prior, Apply, Enroll, Originate, Pay, Withdraw, Repay, Adjust}
 use Rattle.office_history.specs.Past.{at_school, withdrawal_in, the_withdrawal}
 use Rattle.office_history.specs.Net.{Cell, cell_of, onto, paid_after, post, in_term}
 use Rattle.office_history.specs.FactsOf.{facts_of}
@@ -59,7 +59,7 @@ after_step past key (School b) ih h = ih
 after_step past key (Calendar b) ih h = ih
 after_step past key (Prior b) ih h = ih
 after_step past key (Apply b) ih h = ih
-after_step past key (Enrol b) ih h = ih
+after_step past key (Enroll b) ih h = ih
 after_step past key (Originate b) ih h = ih
 after_step past key (Repay b) ih h = ih
 after_step past key (Adjust b) ih h = ih

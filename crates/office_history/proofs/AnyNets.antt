@@ -4,7 +4,7 @@ use Rattle.aid_types.specs.declared.number.Key.{Key}
 use Rattle.aid_filings.specs.declared.filing.WithdrawFacts.{WithdrawFacts}
 use Rattle.aid_filings.specs.declared.filing.Filing.{Filing}
 use Rattle.aid_filings.specs.declared.filing.What.{What}
-use Rattle.aid_filings.specs.declared.filing.What.TheVariants.{Book as BookFiled, School, Calendar, Prior, Apply, Enrol, Originate, Pay, Withdraw, Repay, Adjust}
+use Rattle.aid_filings.specs.declared.filing.What.TheVariants.{Book as BookFiled, School, Calendar, Prior, Apply, Enroll, Originate, Pay, Withdraw, Repay, Adjust}
 use Rattle.aid_types.specs.Programs.{rank}
 use Rattle.office_history.specs.Past.{the_term}
 use Rattle.office_history.specs.Net.{Cell, Move, is_cell, cell_of, moved, withdrawn_cell, moves_at, paid, taken, owed, repaid, net_at, sheet, days_of, last_of, payments_in, takings_in, owings_in, repayments_in}
@@ -126,7 +126,7 @@ step past key (School b) ih h = ih
 step past key (Calendar b) ih h = ih
 step past key (Prior b) ih h = ih
 step past key (Apply b) ih h = ih
-step past key (Enrol b) ih h = ih
+step past key (Enroll b) ih h = ih
 step past key (Originate b) ih h = ih
 step past key (Pay a) ih h = λ sel. let k = ih sel in (k.0, omega arith)
 step past key (Adjust a) ih h = λ sel. go sel (sel (cell_of key a)) refl

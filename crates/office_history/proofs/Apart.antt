@@ -11,8 +11,8 @@ use Rattle.aid_filings.specs.declared.filing.SchoolFacts.{SchoolFacts}
 use Rattle.aid_filings.specs.declared.filing.CalendarFacts.{CalendarFacts}
 use Rattle.aid_filings.specs.declared.filing.Filing.{Filing}
 use Rattle.aid_filings.specs.declared.filing.What.{What}
-use Rattle.aid_filings.specs.declared.filing.What.TheVariants.{Book as BookFiled, School, Calendar, Prior, Apply, Enrol, Originate, Pay, Withdraw, Repay, Adjust}
-use Rattle.enrolment.specs.Terms.{shares_day}
+use Rattle.aid_filings.specs.declared.filing.What.TheVariants.{Book as BookFiled, School, Calendar, Prior, Apply, Enroll, Originate, Pay, Withdraw, Repay, Adjust}
+use Rattle.law_terms.specs.Terms.{shares_day}
 use Rattle.aid_types.specs.Programs.{rank}
 use Rattle.office_history.specs.Past.{first_of_two, if_here, given, earlier, school_in, the_term, FiledTerm, terms_on_file}
 use Rattle.office_history.specs.Net.{Cell, is_cell, cell_of, cell_at, paid, payments_in, pell_term}
@@ -20,7 +20,7 @@ use Rattle.office_history.specs.FactsOf.{facts_of}
 use Rattle.office_history.specs.Positions.{school_at, least_code, lesser_code, is_paid_beside}
 use Rattle.office_history.specs.Rules.{rules_of}
 use Rattle.office_history.specs.Answer.{breaks, IsLegal}
-use Rattle.rule_lines.proofs.Holds.{all_hold, lacks_holds}
+use Rattle.aid_types.proofs.Holds.{all_hold, lacks_holds}
 use Rattle.office_history.proofs.Cells.{same_cell}
 use Rattle.office_history.proofs.PayRules.{none_beside}
 use Rattle.office_history.proofs.Steps.{net_unpaid, net_paid}
@@ -43,7 +43,7 @@ known_code (f ∷ past) code h = go f.what h (known_code past code)
     go (Calendar b) h ih = ih h
     go (Prior b) h ih = ih h
     go (Apply b) h ih = ih h
-    go (Enrol b) h ih = ih h
+    go (Enroll b) h ih = ih h
     go (Originate b) h ih = ih h
     go (Pay b) h ih = ih h
     go (Withdraw b) h ih = ih h
@@ -76,7 +76,7 @@ coded_step past key (BookFiled b) ih h = ih
 coded_step past key (School b) ih h = ih
 coded_step past key (Prior b) ih h = ih
 coded_step past key (Apply b) ih h = ih
-coded_step past key (Enrol b) ih h = ih
+coded_step past key (Enroll b) ih h = ih
 coded_step past key (Originate b) ih h = ih
 coded_step past key (Withdraw b) ih h = ih
 coded_step past key (Repay b) ih h = ih
@@ -129,7 +129,7 @@ term_stands (f ∷ past) school year number u h p passes = go f.key f.what h (λ
     go key (School b) h ih = ih h
     go key (Prior b) h ih = ih h
     go key (Apply b) h ih = ih h
-    go key (Enrol b) h ih = ih h
+    go key (Enroll b) h ih = ih h
     go key (Originate b) h ih = ih h
     go key (Pay b) h ih = ih h
     go key (Withdraw b) h ih = ih h
@@ -262,7 +262,7 @@ not_there (f ∷ past) school year number h = go f.key f.what h (not_there past 
     go key (School b) h ih = ih h
     go key (Prior b) h ih = ih h
     go key (Apply b) h ih = ih h
-    go key (Enrol b) h ih = ih h
+    go key (Enroll b) h ih = ih h
     go key (Originate b) h ih = ih h
     go key (Pay b) h ih = ih h
     go key (Withdraw b) h ih = ih h
@@ -302,7 +302,7 @@ apart_step past key (BookFiled b) ih coded filed h = ih
 apart_step past key (School b) ih coded filed h = ih
 apart_step past key (Prior b) ih coded filed h = ih
 apart_step past key (Apply b) ih coded filed h = ih
-apart_step past key (Enrol b) ih coded filed h = ih
+apart_step past key (Enroll b) ih coded filed h = ih
 apart_step past key (Originate b) ih coded filed h = ih
 apart_step past key (Withdraw b) ih coded filed h = apart_kept past key (Withdraw b) ih refl (λ school year number. refl)
 apart_step past key (Repay b) ih coded filed h = apart_kept past key (Repay b) ih refl (λ school year number. refl)

@@ -8,9 +8,9 @@ use Rattle.aid_types.specs.declared.application.Application.{Application}
 use Rattle.aid_types.specs.declared.number.Key.{Key}
 use Rattle.aid_filings.specs.declared.filing.Filing.{Filing}
 use Rattle.aid_filings.specs.declared.filing.What.{What}
-use Rattle.aid_filings.specs.declared.filing.What.TheVariants.{Book as BookFiled, School, Calendar, Prior, Apply, Enrol, Originate, Pay, Withdraw, Repay, Adjust}
-use Rattle.rule_lines.proofs.Holds.{all_hold, hold_back, lacks_holds}
-use Rattle.rule_lines.specs.RuleLines.{lacks, only}
+use Rattle.aid_filings.specs.declared.filing.What.TheVariants.{Book as BookFiled, School, Calendar, Prior, Apply, Enroll, Originate, Pay, Withdraw, Repay, Adjust}
+use Rattle.aid_types.proofs.Holds.{all_hold, hold_back, lacks_holds}
+use Rattle.aid_types.specs.RuleLines.{lacks, only}
 use Rattle.office_history.specs.Answer.{IsLegal, breaks, standing_of, standing_under}
 use Rattle.office_history.specs.Applications.{IsFiledApplication, IsInForce}
 use Rattle.office_history.specs.Past.{amount_or, application, application_in, at_school, book_in, cost, cost_in, earlier, earliest, first_of_two, given, higher, if_here, the_book}
@@ -67,7 +67,7 @@ told_apply student year (BookFiled b) a h = absurd cc
 told_apply student year (School s) a h = absurd cc
 told_apply student year (Calendar c) a h = absurd cc
 told_apply student year (Prior p) a h = absurd cc
-told_apply student year (Enrol e) a h = absurd cc
+told_apply student year (Enroll e) a h = absurd cc
 told_apply student year (Originate o) a h = absurd cc
 told_apply student year (Pay p) a h = absurd cc
 told_apply student year (Withdraw w) a h = absurd cc
@@ -146,7 +146,7 @@ of_origination past key school student year (School s) t h = absurd cc
 of_origination past key school student year (Calendar c) t h = absurd cc
 of_origination past key school student year (Prior p) t h = absurd cc
 of_origination past key school student year (Apply a) t h = absurd cc
-of_origination past key school student year (Enrol e) t h = absurd cc
+of_origination past key school student year (Enroll e) t h = absurd cc
 of_origination past key school student year (Pay p) t h = absurd cc
 of_origination past key school student year (Withdraw w) t h = absurd cc
 of_origination past key school student year (Repay r) t h = absurd cc
@@ -186,7 +186,7 @@ of_application past key student year (BookFiled b) t h = absurd cc
 of_application past key student year (School s) t h = absurd cc
 of_application past key student year (Calendar c) t h = absurd cc
 of_application past key student year (Prior p) t h = absurd cc
-of_application past key student year (Enrol e) t h = absurd cc
+of_application past key student year (Enroll e) t h = absurd cc
 of_application past key student year (Originate o) t h = absurd cc
 of_application past key student year (Pay p) t h = absurd cc
 of_application past key student year (Withdraw w) t h = absurd cc

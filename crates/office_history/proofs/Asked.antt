@@ -10,10 +10,10 @@ none_told_step (Some a) before zero n ih h = absurd (omega arith)
 none_told_step (Some a) before (suc k) n ih h = absurd (omega arith)
 
 -- where no filing answers, the earliest tells nothing
-pub none_told : {A : Type 0} (ask : Filing → Option A) (past : List Filing) → first_at (λ f. is_some (ask f)) past ≡ 0 → earliest ask past ≡ None
-none_told ask [] h = refl
-none_told ask (f ∷ past) h =
-    none_told_step (ask f) (earliest ask past) (first_at (λ f. is_some (ask f)) past) (length past) (none_told ask past) h
+pub none_told : {A : Type 0} (operation : Filing → Option A) (past : List Filing) → first_at (λ f. is_some (operation f)) past ≡ 0 → earliest operation past ≡ None
+none_told operation [] h = refl
+none_told operation (f ∷ past) h =
+    none_told_step (operation f) (earliest operation past) (first_at (λ f. is_some (operation f)) past) (length past) (none_told operation past) h
 
 told_step : {A : Type 0} (o before : Option A) (k n : ℕ) → (is_some before ≡ true → 0 < k) → is_some (earlier o before) ≡ true → 0 < first_of_two (is_some o) k (n + 1)
 told_step None before k n ih h = ih h
@@ -21,10 +21,10 @@ told_step (Some a) before zero n ih h = omega arith
 told_step (Some a) before (suc k) n ih h = omega arith
 
 -- where the earliest tells something, a filing answers
-pub told_at : {A : Type 0} (ask : Filing → Option A) (past : List Filing) → is_some (earliest ask past) ≡ true → 0 < first_at (λ f. is_some (ask f)) past
-told_at ask [] h = cc
-told_at ask (f ∷ past) h =
-    told_step (ask f) (earliest ask past) (first_at (λ f. is_some (ask f)) past) (length past) (told_at ask past) h
+pub told_at : {A : Type 0} (operation : Filing → Option A) (past : List Filing) → is_some (earliest operation past) ≡ true → 0 < first_at (λ f. is_some (operation f)) past
+told_at operation [] h = cc
+told_at operation (f ∷ past) h =
+    told_step (operation f) (earliest operation past) (first_at (λ f. is_some (operation f)) past) (length past) (told_at operation past) h
 
 some_told_step : {A : Type 0} (o before : Option A) (k n : ℕ) → (0 < k → is_some before ≡ true) → 0 < first_of_two (is_some o) k (n + 1) → is_some (earlier o before) ≡ true
 some_told_step None before k n ih h = ih h
@@ -32,7 +32,7 @@ some_told_step (Some a) None k n ih h = refl
 some_told_step (Some a) (Some b) k n ih h = refl
 
 -- where a filing answers, the earliest tells something
-pub some_told : {A : Type 0} (ask : Filing → Option A) (past : List Filing) → 0 < first_at (λ f. is_some (ask f)) past → is_some (earliest ask past) ≡ true
-some_told ask [] h = absurd (omega arith)
-some_told ask (f ∷ past) h =
-    some_told_step (ask f) (earliest ask past) (first_at (λ f. is_some (ask f)) past) (length past) (some_told ask past) h
+pub some_told : {A : Type 0} (operation : Filing → Option A) (past : List Filing) → 0 < first_at (λ f. is_some (operation f)) past → is_some (earliest operation past) ≡ true
+some_told operation [] h = absurd (omega arith)
+some_told operation (f ∷ past) h =
+    some_told_step (operation f) (earliest operation past) (first_at (λ f. is_some (operation f)) past) (length past) (some_told operation past) h

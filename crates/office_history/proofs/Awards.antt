@@ -4,27 +4,27 @@ use Rattle.std.specs.Prelude.{◌==◌, nat_lt}
 use Rattle.aid_types.specs.declared.number.Key.{Key}
 use Rattle.aid_books.specs.declared.book.Book.{Book}
 use Rattle.aid_types.specs.declared.application.Application.{Application}
-use Rattle.filing_rules.specs.declared.facts.Facts.{Facts}
+use Rattle.law_rules.specs.declared.facts.Facts.{Facts}
 use Rattle.aid_filings.specs.declared.filing.Filing.{Filing}
 use Rattle.aid_types.specs.declared.award.Refusal.{Refusal}
 use Rattle.aid_filings.specs.declared.filing.What.{What}
-use Rattle.aid_filings.specs.declared.filing.What.TheVariants.{Book as BookFiled, School, Calendar, Prior, Apply, Enrol, Originate, Pay, Withdraw, Repay, Adjust}
-use Rattle.enrolment.specs.Terms.{intensity_of}
-use Rattle.lifetime_ledger.specs.Used.{use_of}
+use Rattle.aid_filings.specs.declared.filing.What.TheVariants.{Book as BookFiled, School, Calendar, Prior, Apply, Enroll, Originate, Pay, Withdraw, Repay, Adjust}
+use Rattle.law_terms.specs.Terms.{intensity_of}
+use Rattle.law_terms.specs.Used.{use_of}
 use Rattle.aid_types.specs.Programs.{rank}
 use Rattle.office_history.specs.Past.{earlier, given, the_book, book_in, application, higher}
 use Rattle.office_history.specs.Award.{award_under, scheduled, unfit_under}
 use Rattle.office_history.specs.Net.{cell_of, in_year, payments_in, pell_year}
-use Rattle.rule_lines.specs.declared.line.RuleLine.{RuleLine}
-use Rattle.rule_lines.specs.RuleLines.{only, told, lacks, over}
-use Rattle.filing_rules.specs.Rules.{rule_91, is_half_time_extra}
-use Rattle.filing_rules.specs.Lines.{lines_of, rule_93, year_limit}
+use Rattle.aid_types.specs.declared.line.RuleLine.{RuleLine}
+use Rattle.aid_types.specs.RuleLines.{only, told, lacks, over}
+use Rattle.law_rules.specs.Rules.{rule_91, is_half_time_extra}
+use Rattle.law_rules.specs.Lines.{lines_of, rule_93, year_limit}
 use Rattle.office_history.specs.FactsOf.{facts_of, apply_facts}
 use Rattle.office_history.specs.Positions.{book_at, transaction_of, if_fit}
 use Rattle.office_history.specs.Rules.{rules_of}
 use Rattle.office_history.specs.Answer.{breaks, IsLegal}
 use Rattle.office_history.proofs.Asked.{none_told}
-use Rattle.rule_lines.proofs.Holds.{AllHold, all_hold, over_holds, stands_holds, hold_front, hold_back, told_holds}
+use Rattle.aid_types.proofs.Holds.{AllHold, all_hold, over_holds, stands_holds, hold_front, hold_back, told_holds}
 use Rattle.office_history.proofs.PayRules.{affords}
 use Rattle.office_history.proofs.Steps.{net_unpaid, net_paid, within_year}
 
@@ -164,7 +164,7 @@ year_step past key (Apply a) ih h = λ student year. go student year (award_by_a
 year_step past key (School b) ih h = ih
 year_step past key (Calendar b) ih h = ih
 year_step past key (Prior b) ih h = ih
-year_step past key (Enrol b) ih h = ih
+year_step past key (Enroll b) ih h = ih
 year_step past key (Originate b) ih h = ih
 year_step past key (Withdraw b) ih h = year_kept past key (Withdraw b) ih refl (λ student year. omega arith)
 year_step past key (Repay b) ih h = year_kept past key (Repay b) ih refl (λ student year. omega arith)

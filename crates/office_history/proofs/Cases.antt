@@ -1,7 +1,7 @@
 -- The cases of an answer.
 use Rattle.std.proofs.Common.{◌≡◌, ℕ, zero, suc, ◌<◌, sym, ap, ◌∙◌, arith, List}
 use Rattle.aid_filings.specs.declared.filing.Filing.{Filing}
-use Rattle.aid_filings.specs.declared.reply.Verdict.TheVariants.{Again, Refused}
+use Rattle.aid_filings.specs.declared.reply.Response.TheVariants.{Again, Refused}
 use Rattle.office_history.specs.Past.{key_at, filing_at}
 use Rattle.office_history.specs.Answer.{outcome_at, answer_of, answer_at, answer_new, judged, breaks}
 

@@ -3,53 +3,53 @@ use Rattle.std.proofs.Common.{◌≡◌, ◌+◌, ◌<◌, refl, subst, arith, c
 use Rattle.std.specs.Prelude.{◌==◌}
 use Rattle.aid_types.specs.declared.number.Key.{Key}
 use Rattle.aid_filings.specs.declared.filing.Amount.{Amount}
-use Rattle.aid_filings.specs.declared.filing.EnrolFacts.{EnrolFacts}
+use Rattle.aid_filings.specs.declared.filing.EnrollFacts.{EnrollFacts}
 use Rattle.aid_filings.specs.declared.filing.Filing.{Filing}
 use Rattle.aid_filings.specs.declared.filing.What.{What}
-use Rattle.aid_filings.specs.declared.filing.What.TheVariants.{Book as BookFiled, School, Calendar, Prior, Apply, Enrol, Originate, Pay, Withdraw, Repay, Adjust}
+use Rattle.aid_filings.specs.declared.filing.What.TheVariants.{Book as BookFiled, School, Calendar, Prior, Apply, Enroll, Originate, Pay, Withdraw, Repay, Adjust}
 use Rattle.office_history.specs.Past.{amount_or, if_here, given, later, latest, at_school, credits_in, credits}
 use Rattle.office_history.specs.Net.{Cell, Move, is_cell, cell_of, onto, paid, net_at, payments_in}
 use Rattle.office_history.specs.Rules.{rules_of}
 use Rattle.office_history.specs.Answer.{breaks, IsLegal}
 use Rattle.office_history.specs.Least.{IsEnrolled}
-use Rattle.rule_lines.proofs.Holds.{all_hold, lacks_holds}
+use Rattle.aid_types.proofs.Holds.{all_hold, lacks_holds}
 use Rattle.office_history.proofs.Cells.{same_cell}
 use Rattle.office_history.proofs.Steps.{by_payment}
 use Rattle.office_history.proofs.Among.{among_head, among_rest, among_reversed}
 
--- a later filing leaves the enrolment
+-- a later filing leaves the enrollment
 kept : (past : List Filing) (f : Filing) (c : Cell) → IsEnrolled past c → IsEnrolled (f ∷ past) c
 kept past f c e = record {
   key = e.key;
   facts = e.facts;
-  stands = among_rest f past (record { key = e.key; what = Enrol e.facts }) e.stands;
+  stands = among_rest f past (record { key = e.key; what = Enroll e.facts }) e.stands;
   school = e.school;
   student = e.student;
   year = e.year;
   term = e.term;
 }
 
--- an enrolment that is filed
-filed : (past : List Filing) (key : Key) (e : EnrolFacts) (c : Cell) → key.school ≡ c.school → e.student ≡ c.student → e.year ≡ c.year → e.term ≡ c.term →
-    IsEnrolled (record { key = key; what = Enrol e } ∷ past) c
+-- an enrollment that is filed
+filed : (past : List Filing) (key : Key) (e : EnrollFacts) (c : Cell) → key.school ≡ c.school → e.student ≡ c.student → e.year ≡ c.year → e.term ≡ c.term →
+    IsEnrolled (record { key = key; what = Enroll e } ∷ past) c
 filed past key e c school student year term = record {
   key = key;
   facts = e;
-  stands = among_head (record { key = key; what = Enrol e }) past;
+  stands = among_head (record { key = key; what = Enroll e }) past;
   school = school;
   student = student;
   year = year;
   term = term;
 }
 
--- credits in force are those of an enrolment
+-- credits in force are those of an enrollment
 by_credits : (past : List Filing) (c : Cell) → 0 < credits past c.school c.student c.year c.term → IsEnrolled past c
 by_credits [] c h = absurd (omega arith)
 by_credits (f ∷ past) c h = go f.key f.what h (by_credits past c)
   where
-    new : (key : Key) (e : EnrolFacts) (s t y n : Bool) → (key.school == c.school) ≡ s → (e.student == c.student) ≡ t → (e.year == c.year) ≡ y → (e.term == c.term) ≡ n →
+    new : (key : Key) (e : EnrollFacts) (s t y n : Bool) → (key.school == c.school) ≡ s → (e.student == c.student) ≡ t → (e.year == c.year) ≡ y → (e.term == c.term) ≡ n →
         0 < amount_or (later (if_here s (given (t && (y && n)) e.credits)) (latest (at_school c.school (credits_in c.student c.year c.term)) past)) →
-        (0 < credits past c.school c.student c.year c.term → IsEnrolled past c) → IsEnrolled (record { key = key; what = Enrol e } ∷ past) c
+        (0 < credits past c.school c.student c.year c.term → IsEnrolled past c) → IsEnrolled (record { key = key; what = Enroll e } ∷ past) c
     new key e true true true true a b d g h ih = filed past key e c (eqb-true _ _ a) (eqb-true _ _ b) (eqb-true _ _ d) (eqb-true _ _ g)
     new key e false true true true a b d g h ih = kept past _ c (ih h)
     new key e s false y n a b d g h ih = kept past _ c (ih h)
@@ -58,7 +58,7 @@ by_credits (f ∷ past) c h = go f.key f.what h (by_credits past c)
 
     go : (key : Key) (what : What) → 0 < credits (record { key = key; what = what } ∷ past) c.school c.student c.year c.term →
         (0 < credits past c.school c.student c.year c.term → IsEnrolled past c) → IsEnrolled (record { key = key; what = what } ∷ past) c
-    go key (Enrol e) h ih =
+    go key (Enroll e) h ih =
         new key e (key.school == c.school) (e.student == c.student) (e.year == c.year) (e.term == c.term) refl refl refl refl h ih
     go key (Calendar b) h ih = kept past _ c (ih h)
     go key (BookFiled b) h ih = kept past _ c (ih h)
@@ -105,7 +105,7 @@ net_enrolled history h c pos =
     record {
       key = e.key;
       facts = e.facts;
-      stands = among_reversed history (record { key = e.key; what = Enrol e.facts }) e.stands;
+      stands = among_reversed history (record { key = e.key; what = Enroll e.facts }) e.stands;
       school = e.school;
       student = e.student;
       year = e.year;

@@ -3,8 +3,8 @@ use Rattle.std.proofs.Common.{◌≡◌, ℕ, ◌≤◌, arith, refl, Bool, ℤ,
 use Rattle.std.specs.Prelude.{is_some}
 use Rattle.std.specs.Int.{int_max}
 use Rattle.std.proofs.lemmas.Int.{ints, clamps}
-use Rattle.aid_num.specs.Nearest.{to5}
-use Rattle.aid_num.proofs.NearestLemmas.{half_up-le}
+use Rattle.aid_types.specs.Nearest.{to5}
+use Rattle.aid_types.proofs.NearestLemmas.{half_up-le}
 use Rattle.aid_types.specs.Ranges.{IsBetween}
 use Rattle.aid_types.specs.Programs.{rank}
 use Rattle.aid_books.specs.declared.book.Book.{Book}
@@ -13,13 +13,13 @@ use Rattle.aid_types.specs.declared.number.Key.{Key}
 use Rattle.aid_filings.specs.declared.filing.SchoolFacts.{SchoolFacts}
 use Rattle.aid_filings.specs.declared.filing.Filing.{Filing}
 use Rattle.aid_filings.specs.declared.filing.What.{What}
-use Rattle.aid_filings.specs.declared.filing.What.TheVariants.{Book as BookFiled, School, Calendar, Prior, Apply, Enrol, Originate, Pay, Withdraw, Repay, Adjust}
-use Rattle.filing_rules.specs.declared.facts.Facts.{Facts}
-use Rattle.filing_rules.specs.InRange.{AreFactsInRange, IsSum}
-use Rattle.sai_index.specs.Formulas.{formula}
-use Rattle.sai_index.specs.Indices.{index_of}
-use Rattle.pell_schedule.specs.Award.{decision_of}
-use Rattle.pell_schedule.proofs.AwardLaws.{decision_under-award}
+use Rattle.aid_filings.specs.declared.filing.What.TheVariants.{Book as BookFiled, School, Calendar, Prior, Apply, Enroll, Originate, Pay, Withdraw, Repay, Adjust}
+use Rattle.law_rules.specs.declared.facts.Facts.{Facts}
+use Rattle.law_rules.specs.InRange.{AreFactsInRange, IsSum}
+use Rattle.law_sai.specs.Formulas.{formula}
+use Rattle.law_sai.specs.Indices.{index_of}
+use Rattle.law_pell.specs.Award.{decision_of}
+use Rattle.law_pell.proofs.AwardLaws.{decision_under-award}
 use Rattle.office_history.specs.Past.{school_in, the_book, the_school, application}
 use Rattle.office_history.specs.Award.{award_under, scheduled, scheduled_of}
 use Rattle.office_history.specs.Net.{Cell, net, paid_after, repaid}
@@ -120,7 +120,7 @@ bare_in_range f school scheduled credits term year fseog all after after_all rep
 facts_of_kind : (past : List Filing) → IsLegal past → (key : Key) (what : What) → AreFactsInRange (facts_of past key what)
 facts_of_kind past legal key (Pay a) = payment_in_range past legal key.school a.student a.year a.term (rank a.program)
 facts_of_kind past legal key (Withdraw w) = aid_in_range past legal key.school w.student w.year w.term
-facts_of_kind past legal key (Enrol e) = record {
+facts_of_kind past legal key (Enroll e) = record {
   school = school_in_range past key.school;
   scheduled = scheduled_in_range past e.student e.year;
   credits = zero-le;

@@ -8,7 +8,7 @@ use Rattle.aid_filings.specs.declared.filing.Amount.{Amount}
 use Rattle.aid_filings.specs.declared.filing.CalendarFacts.{CalendarFacts}
 use Rattle.aid_filings.specs.declared.filing.Filing.{Filing}
 use Rattle.aid_filings.specs.declared.filing.What.{What}
-use Rattle.aid_filings.specs.declared.filing.What.TheVariants.{Book as BookFiled, School, Calendar, Prior, Apply, Enrol, Originate, Pay, Withdraw, Repay, Adjust}
+use Rattle.aid_filings.specs.declared.filing.What.TheVariants.{Book as BookFiled, School, Calendar, Prior, Apply, Enroll, Originate, Pay, Withdraw, Repay, Adjust}
 use Rattle.office_history.specs.Past.{first_of_two, at_school, if_here, given, term_in, FiledTerm, terms_on_file}
 use Rattle.office_history.specs.Net.{Cell, is_cell, cell_of, paid}
 use Rattle.office_history.specs.FactsOf.{facts_of}
@@ -57,7 +57,7 @@ at_filed (f ∷ past) school year number h = go f.key f.what h (at_filed past sc
     go key (School b) h ih = ih h
     go key (Prior b) h ih = ih h
     go key (Apply b) h ih = ih h
-    go key (Enrol b) h ih = ih h
+    go key (Enroll b) h ih = ih h
     go key (Originate b) h ih = ih h
     go key (Pay b) h ih = ih h
     go key (Withdraw b) h ih = ih h
@@ -81,7 +81,7 @@ still past f school year number h = go f.key f.what
     go key (School b) = h
     go key (Prior b) = h
     go key (Apply b) = h
-    go key (Enrol b) = h
+    go key (Enroll b) = h
     go key (Originate b) = h
     go key (Pay b) = h
     go key (Withdraw b) = h
@@ -109,7 +109,7 @@ filed_step past key (BookFiled b) ih h = ih
 filed_step past key (School b) ih h = ih
 filed_step past key (Prior b) ih h = ih
 filed_step past key (Apply b) ih h = ih
-filed_step past key (Enrol b) ih h = ih
+filed_step past key (Enroll b) ih h = ih
 filed_step past key (Originate b) ih h = ih
 filed_step past key (Withdraw b) ih h = ih
 filed_step past key (Repay b) ih h = ih

@@ -7,8 +7,8 @@ use Rattle.std.proofs.lemmas.List.Sums.{sum_by-append}
 use Rattle.aid_types.specs.declared.term.Term.{Term}
 use Rattle.aid_filings.specs.declared.filing.Filing.{Filing}
 use Rattle.aid_filings.specs.declared.filing.What.{What}
-use Rattle.aid_filings.specs.declared.filing.What.TheVariants.{Book, School, Calendar, Prior, Apply, Enrol, Originate, Pay, Withdraw, Repay, Adjust}
-use Rattle.enrolment.specs.Terms.{shares_day}
+use Rattle.aid_filings.specs.declared.filing.What.TheVariants.{Book, School, Calendar, Prior, Apply, Enroll, Originate, Pay, Withdraw, Repay, Adjust}
+use Rattle.law_terms.specs.Terms.{shares_day}
 use Rattle.office_history.specs.Past.{FiledTerm, on_file, terms_on_file, first_at, first_of_two}
 use Rattle.office_history.specs.Positions.{first_term_at}
 use Rattle.office_history.specs.FiledTerms.{is_main_term, is_overlapping}
@@ -35,7 +35,7 @@ module _ (school : ℕ) (term : Term) where
   one_overlap filer here (School s) rest = refl
   one_overlap filer here (Prior p) rest = refl
   one_overlap filer here (Apply a) rest = refl
-  one_overlap filer here (Enrol e) rest = refl
+  one_overlap filer here (Enroll e) rest = refl
   one_overlap filer here (Originate o) rest = refl
   one_overlap filer here (Pay a) rest = refl
   one_overlap filer here (Withdraw w) rest = refl
@@ -62,7 +62,7 @@ module _ (school year : ℕ) where
   one_main filer here (School s) rest = omega arith
   one_main filer here (Prior p) rest = omega arith
   one_main filer here (Apply a) rest = omega arith
-  one_main filer here (Enrol e) rest = omega arith
+  one_main filer here (Enroll e) rest = omega arith
   one_main filer here (Originate o) rest = omega arith
   one_main filer here (Pay a) rest = omega arith
   one_main filer here (Withdraw w) rest = omega arith

@@ -2,10 +2,10 @@
 use Rattle.std.proofs.Common.{◌≡◌, refl, subst, ◌≤◌, inl, inr, ℕ, ℤ, pos, ◌≤ℤ◌, arith}
 use Rattle.std.proofs.lemmas.Int.{ints, clamps}
 use Rattle.std.specs.Int.{int_max}
-use Rattle.aid_num.specs.Nearest.{half_up, to5}
+use Rattle.aid_types.specs.Nearest.{half_up, to5}
 use Rattle.aid_books.specs.declared.book.PellFigures.{PellFigures}
-use Rattle.sai_index.proofs.NearestOrder.{to5-rises}
-use Rattle.pell_schedule.specs.Award.{IsScheduledAward}
+use Rattle.law_sai.proofs.NearestOrder.{to5-rises}
+use Rattle.law_pell.specs.Award.{IsScheduledAward}
 
 max_at_most : (a b most : ℤ) → a ≤ℤ most → b ≤ℤ most → int_max a b ≤ℤ most
 max_at_most a b most h k = omega (arith, ints, clamps)

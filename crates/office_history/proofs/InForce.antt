@@ -6,7 +6,7 @@ use Rattle.std.proofs.lemmas.List.{length-reverse, reverse-append}
 use Rattle.aid_types.specs.declared.application.Application.{Application}
 use Rattle.aid_filings.specs.declared.filing.Filing.{Filing}
 use Rattle.aid_filings.specs.declared.filing.What.{What}
-use Rattle.aid_filings.specs.declared.filing.What.TheVariants.{Book as BookFiled, School, Calendar, Prior, Apply, Enrol, Originate, Pay, Withdraw, Repay, Adjust}
+use Rattle.aid_filings.specs.declared.filing.What.TheVariants.{Book as BookFiled, School, Calendar, Prior, Apply, Enroll, Originate, Pay, Withdraw, Repay, Adjust}
 use Rattle.office_history.specs.Past.{application, application_in, given, higher, is_higher}
 use Rattle.office_history.specs.Positions.{application_at}
 use Rattle.office_history.specs.Rows.{filed_application, filing_in, told_application}
@@ -42,7 +42,7 @@ told_is_filed student year (BookFiled b) a h = absurd cc
 told_is_filed student year (School s) a h = absurd cc
 told_is_filed student year (Calendar c) a h = absurd cc
 told_is_filed student year (Prior p) a h = absurd cc
-told_is_filed student year (Enrol e) a h = absurd cc
+told_is_filed student year (Enroll e) a h = absurd cc
 told_is_filed student year (Originate o) a h = absurd cc
 told_is_filed student year (Pay p) a h = absurd cc
 told_is_filed student year (Withdraw w) a h = absurd cc

@@ -8,11 +8,11 @@ use Rattle.aid_types.specs.declared.application.Application.{Application}
 use Rattle.aid_types.specs.declared.award.Formula.{Formula}
 use Rattle.aid_books.specs.declared.book.Book.{Book}
 use Rattle.aid_filings.specs.declared.filing.Filing.{Filing}
-use Rattle.pell_schedule.specs.Award.{calculated, decision_under, is_at_ceiling, is_barred, is_maximum, is_minimum, must_file}
-use Rattle.pell_schedule.specs.declared.Decision.{Decision}
-use Rattle.sai_index.specs.Formulas.{formula}
-use Rattle.sai_index.specs.Index.{bounded}
-use Rattle.sai_index.specs.Indices.{index_of, raw_index}
+use Rattle.law_pell.specs.Award.{calculated, decision_under, is_at_ceiling, is_barred, is_maximum, is_minimum, must_file}
+use Rattle.law_pell.specs.declared.Decision.{Decision}
+use Rattle.law_sai.specs.Formulas.{formula}
+use Rattle.law_sai.specs.Index.{bounded}
+use Rattle.law_sai.specs.Indices.{index_of, raw_index}
 use Rattle.office_history.specs.Answer.{standing_of, standing_under}
 use Rattle.office_history.specs.Net.{pell_year, used}
 use Rattle.office_history.specs.Past.{application, the_book}

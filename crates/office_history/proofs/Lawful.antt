@@ -9,11 +9,11 @@ use Rattle.aid_filings.specs.declared.filing.CalendarFacts.{CalendarFacts}
 use Rattle.aid_filings.specs.declared.filing.WithdrawFacts.{WithdrawFacts}
 use Rattle.aid_filings.specs.declared.filing.Filing.{Filing}
 use Rattle.aid_filings.specs.declared.filing.What.{What}
-use Rattle.aid_filings.specs.declared.filing.What.TheVariants.{Book as BookFiled, School, Calendar, Prior, Apply, Enrol, Originate, Pay, Withdraw, Repay, Adjust}
-use Rattle.enrolment.specs.Terms.{AreAfter, IsLawful}
-use Rattle.rule_lines.specs.RuleLines.{stands, too_early}
-use Rattle.filing_rules.specs.Rules.{breaks_in_order, breaks_inside, rule_21, rule_23, rule_24, rule_62, first_break_in_order}
-use Rattle.filing_rules.specs.Lines.{rule_63}
+use Rattle.aid_filings.specs.declared.filing.What.TheVariants.{Book as BookFiled, School, Calendar, Prior, Apply, Enroll, Originate, Pay, Withdraw, Repay, Adjust}
+use Rattle.law_terms.specs.Terms.{AreAfter, IsLawful}
+use Rattle.aid_types.specs.RuleLines.{stands, too_early}
+use Rattle.law_rules.specs.Rules.{breaks_in_order, breaks_inside, rule_21, rule_23, rule_24, rule_62, first_break_in_order}
+use Rattle.law_rules.specs.Lines.{rule_63}
 use Rattle.office_history.specs.Past.{at_school, if_here, given, earlier, term_in, the_school, the_term}
 use Rattle.office_history.specs.FactsOf.{facts_of}
 use Rattle.office_history.specs.Positions.{term_at, overlap_at, main_term_count, terms_of}
@@ -21,7 +21,7 @@ use Rattle.office_history.specs.Sheets.{CanBeWorkedOut}
 use Rattle.office_history.specs.Rules.{rules_of}
 use Rattle.office_history.specs.Answer.{breaks, IsLegal}
 use Rattle.office_history.proofs.Asked.{some_told}
-use Rattle.rule_lines.proofs.Holds.{AllHold, all_hold, hold_front, hold_back, over_holds, lacks_holds}
+use Rattle.aid_types.proofs.Holds.{AllHold, all_hold, hold_front, hold_back, over_holds, lacks_holds}
 
 -- breaks each after the one before
 in_order : (before : ℕ) (bs : List (ℕ × ℕ)) → AllHold (breaks_in_order before bs) → AreAfter before bs
@@ -87,7 +87,7 @@ term_is_lawful (f ∷ past) h school year number t e = go f.key f.what h.2 e (te
     go key (School b) rule e ih = ih e
     go key (Prior b) rule e ih = ih e
     go key (Apply b) rule e ih = ih e
-    go key (Enrol b) rule e ih = ih e
+    go key (Enroll b) rule e ih = ih e
     go key (Originate b) rule e ih = ih e
     go key (Pay b) rule e ih = ih e
     go key (Withdraw b) rule e ih = ih e

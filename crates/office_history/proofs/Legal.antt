@@ -7,9 +7,9 @@ use Rattle.std.proofs.lemmas.Bool.Decides.{nat_tests}
 use Rattle.aid_types.specs.declared.number.Key.{Key}
 use Rattle.aid_filings.specs.declared.filing.Filing.{Filing}
 use Rattle.aid_filings.specs.declared.filing.What.{What}
-use Rattle.aid_filings.specs.declared.filing.What.TheVariants.{Book as BookFiled, School, Calendar, Prior, Apply, Enrol, Originate, Pay, Withdraw, Repay, Adjust}
+use Rattle.aid_filings.specs.declared.filing.What.TheVariants.{Book as BookFiled, School, Calendar, Prior, Apply, Enroll, Originate, Pay, Withdraw, Repay, Adjust}
 use Rattle.aid_types.specs.declared.award.Refusal.{Refusal}
-use Rattle.rule_lines.specs.RuleLines.{first_broken}
+use Rattle.aid_types.specs.RuleLines.{first_broken}
 use Rattle.office_history.specs.Past.{same_filing, same_key, first_of_two, key_at, filing_at}
 use Rattle.office_history.specs.Rules.{rules_of}
 use Rattle.office_history.specs.Answer.{IsLegal, is_legal, breaks, answer_of, judged, is_admit}
@@ -76,7 +76,7 @@ room_left past f h = by (f.what) h
     by (Calendar x) h = first (nat_le 1000000 (length past)) (length past) _ _ refl h
     by (Prior x) h = first (nat_le 1000000 (length past)) (length past) _ _ refl h
     by (Apply x) h = first (nat_le 1000000 (length past)) (length past) _ _ refl h
-    by (Enrol x) h = first (nat_le 1000000 (length past)) (length past) _ _ refl h
+    by (Enroll x) h = first (nat_le 1000000 (length past)) (length past) _ _ refl h
     by (Originate x) h = first (nat_le 1000000 (length past)) (length past) _ _ refl h
     by (Pay x) h = first (nat_le 1000000 (length past)) (length past) _ _ refl h
     by (Withdraw x) h = first (nat_le 1000000 (length past)) (length past) _ _ refl h

@@ -9,8 +9,8 @@ use Rattle.aid_filings.specs.declared.filing.PriorFacts.{PriorFacts}
 use Rattle.aid_types.specs.declared.application.Application.{Application}
 use Rattle.aid_filings.specs.declared.filing.Filing.{Filing}
 use Rattle.aid_filings.specs.declared.filing.What.{What}
-use Rattle.aid_filings.specs.declared.filing.What.TheVariants.{Book as BookFiled, School, Calendar, Prior, Apply, Enrol, Originate, Pay, Withdraw, Repay, Adjust}
-use Rattle.lifetime_ledger.specs.Used.{use_of}
+use Rattle.aid_filings.specs.declared.filing.What.TheVariants.{Book as BookFiled, School, Calendar, Prior, Apply, Enroll, Originate, Pay, Withdraw, Repay, Adjust}
+use Rattle.law_terms.specs.Used.{use_of}
 use Rattle.aid_types.specs.Programs.{rank}
 use Rattle.office_history.specs.Past.{earliest, earlier, given, amount_or, prior_units, prior_in, pell_payment_in, the_book}
 use Rattle.office_history.specs.Award.{award_under, scheduled}
@@ -19,7 +19,7 @@ use Rattle.office_history.specs.FactsOf.{facts_of}
 use Rattle.office_history.specs.Positions.{prior_at, pell_at}
 use Rattle.office_history.specs.Rules.{rules_of}
 use Rattle.office_history.specs.Answer.{breaks, IsLegal}
-use Rattle.rule_lines.proofs.Holds.{all_hold, over_holds, stands_holds}
+use Rattle.aid_types.proofs.Holds.{all_hold, over_holds, stands_holds}
 use Rattle.office_history.proofs.Numbers.{use_mono, use_none}
 use Rattle.office_history.proofs.PayRules.{affords}
 use Rattle.office_history.proofs.Nets.{none_before}
@@ -112,7 +112,7 @@ no_pell (f ∷ past) student year h =
     go key (Calendar b) e ih = ih
     go key (Prior b) e ih = ih
     go key (Apply b) e ih = ih
-    go key (Enrol b) e ih = ih
+    go key (Enroll b) e ih = ih
     go key (Originate b) e ih = ih
     go key (Withdraw b) e ih = ih
     go key (Repay b) e ih = ih
@@ -283,7 +283,7 @@ lifetime_step past key (Pay a) year ih h = lifetime_paid past key a ih h
 lifetime_step past key (Prior p) year ih h = prior_step past key p ih h
 lifetime_step past key (School b) year ih h = ih
 lifetime_step past key (Calendar b) year ih h = ih
-lifetime_step past key (Enrol b) year ih h = ih
+lifetime_step past key (Enroll b) year ih h = ih
 lifetime_step past key (Originate b) year ih h = ih
 lifetime_step past key (Withdraw b) year ih h = lifetime_kept past (record { key = key; what = Withdraw b }) ih (λ student. omega arith) (λ student y. use_lower past key (Withdraw b) student y refl)
 lifetime_step past key (Repay b) year ih h = lifetime_kept past (record { key = key; what = Repay b }) ih (λ student. omega arith) (λ student y. use_lower past key (Repay b) student y refl)

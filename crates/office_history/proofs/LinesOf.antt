@@ -3,9 +3,9 @@ use Rattle.std.proofs.Common.{◌≡◌, ℕ, refl, ap, List}
 use Rattle.aid_types.specs.declared.number.Key.{Key}
 use Rattle.aid_filings.specs.declared.filing.Filing.{Filing}
 use Rattle.aid_filings.specs.declared.filing.What.{What}
-use Rattle.aid_filings.specs.declared.filing.What.TheVariants.{Book as BookFiled, School, Calendar, Prior, Apply, Enrol, Originate, Pay, Withdraw, Repay, Adjust}
-use Rattle.filing_rules.specs.Lines.{broken_of, lines_of, payment_lines}
-use Rattle.rule_lines.specs.RuleLines.{first_broken}
+use Rattle.aid_filings.specs.declared.filing.What.TheVariants.{Book as BookFiled, School, Calendar, Prior, Apply, Enroll, Originate, Pay, Withdraw, Repay, Adjust}
+use Rattle.law_rules.specs.Lines.{broken_of, lines_of, payment_lines}
+use Rattle.aid_types.specs.RuleLines.{first_broken}
 use Rattle.office_history.specs.FactsOf.{facts_of, payment_facts}
 use Rattle.office_history.specs.Rules.{payment_rules, rules_of}
 use Rattle.office_history.specs.Answer.{breaks}
@@ -16,7 +16,7 @@ lines_are past key (School s) = refl
 lines_are past key (Calendar c) = refl
 lines_are past key (Prior p) = refl
 lines_are past key (Apply a) = refl
-lines_are past key (Enrol e) = refl
+lines_are past key (Enroll e) = refl
 lines_are past key (Originate o) = refl
 lines_are past key (Pay a) = refl
 lines_are past key (Withdraw w) = refl

@@ -6,19 +6,19 @@ use Rattle.aid_types.specs.declared.number.Key.{Key}
 use Rattle.aid_types.specs.declared.term.Term.{Term}
 use Rattle.aid_filings.specs.declared.filing.Amount.{Amount}
 use Rattle.aid_books.specs.declared.book.Book.{Book}
-use Rattle.filing_rules.specs.declared.facts.Facts.{Facts}
+use Rattle.law_rules.specs.declared.facts.Facts.{Facts}
 use Rattle.aid_types.specs.declared.application.Application.{Application}
 use Rattle.aid_filings.specs.declared.filing.CalendarFacts.{CalendarFacts}
 use Rattle.aid_filings.specs.declared.filing.Filing.{Filing}
 use Rattle.aid_filings.specs.declared.filing.What.{What}
-use Rattle.aid_filings.specs.declared.filing.What.TheVariants.{Book as BookFiled, School, Calendar, Prior, Apply, Enrol, Originate, Pay, Withdraw, Repay, Adjust}
+use Rattle.aid_filings.specs.declared.filing.What.TheVariants.{Book as BookFiled, School, Calendar, Prior, Apply, Enroll, Originate, Pay, Withdraw, Repay, Adjust}
 use Rattle.aid_types.specs.Programs.{rank}
 use Rattle.office_history.specs.Past.{the_term, is_extra, earlier, at_school, term_in, the_book}
 use Rattle.office_history.specs.Award.{award_under, scheduled}
 use Rattle.office_history.specs.Net.{Cell, Move, cell_of, moved, paid, taken, net, net_at, in_year, in_main_terms, payments_in, takings_in, pell_year, pell_main}
-use Rattle.enrolment.specs.Terms.{intensity_of}
-use Rattle.filing_rules.specs.Rules.{is_half_time_extra}
-use Rattle.filing_rules.specs.Lines.{year_limit}
+use Rattle.law_terms.specs.Terms.{intensity_of}
+use Rattle.law_rules.specs.Rules.{is_half_time_extra}
+use Rattle.law_rules.specs.Lines.{year_limit}
 use Rattle.office_history.specs.FactsOf.{facts_of}
 use Rattle.office_history.specs.Answer.{breaks, IsLegal}
 use Rattle.office_history.proofs.Cells.{onto_is}
@@ -124,7 +124,7 @@ paid_unfiled (f ∷ past) h t off = go f.key f.what h.2 off (paid_unfiled past h
     go key (School b) rule off ih = ih off
     go key (Prior b) rule off ih = ih off
     go key (Apply b) rule off ih = ih off
-    go key (Enrol b) rule off ih = ih off
+    go key (Enroll b) rule off ih = ih off
     go key (Originate b) rule off ih = ih off
     go key (Withdraw b) rule off ih = ih off
     go key (Repay b) rule off ih = ih off
@@ -280,7 +280,7 @@ main_step past key (BookFiled b) legal ih h = main_book past key b ih h
 main_step past key (Apply a) legal ih h = main_applied past key a ih h
 main_step past key (School b) legal ih h = ih
 main_step past key (Prior b) legal ih h = ih
-main_step past key (Enrol b) legal ih h = ih
+main_step past key (Enroll b) legal ih h = ih
 main_step past key (Originate b) legal ih h = ih
 main_step past key (Withdraw b) legal ih h = main_kept past key (Withdraw b) ih refl (λ student year. refl) (λ student year. omega arith)
 main_step past key (Repay b) legal ih h = main_kept past key (Repay b) ih refl (λ student year. refl) (λ student year. omega arith)

@@ -6,14 +6,14 @@ use Rattle.aid_filings.specs.declared.filing.Amount.{Amount}
 use Rattle.aid_filings.specs.declared.filing.WithdrawFacts.{WithdrawFacts}
 use Rattle.aid_filings.specs.declared.filing.Filing.{Filing}
 use Rattle.aid_filings.specs.declared.filing.What.{What}
-use Rattle.aid_filings.specs.declared.filing.What.TheVariants.{Book as BookFiled, School, Calendar, Prior, Apply, Enrol, Originate, Pay, Withdraw, Repay, Adjust}
+use Rattle.aid_filings.specs.declared.filing.What.TheVariants.{Book as BookFiled, School, Calendar, Prior, Apply, Enroll, Originate, Pay, Withdraw, Repay, Adjust}
 use Rattle.aid_types.specs.Programs.{rank}
 use Rattle.office_history.specs.Past.{first_of_two, at_school, if_here, given, withdrawal_in, the_term}
 use Rattle.office_history.specs.Net.{Cell, is_cell, cell_of, moved, withdrawn_cell, moves_at, paid, taken, owed, repaid, net_at, sheet, days_of, last_of}
 use Rattle.office_history.specs.Rules.{rules_of}
 use Rattle.office_history.specs.Positions.{withdrawn_at}
 use Rattle.office_history.specs.Answer.{breaks, IsLegal}
-use Rattle.rule_lines.proofs.Holds.{all_hold, over_holds, stands_holds}
+use Rattle.aid_types.proofs.Holds.{all_hold, over_holds, stands_holds}
 use Rattle.office_history.proofs.Cells.{onto_is, within_cell, moved_pair, SumsBelow}
 use Rattle.office_history.proofs.Sheets.{sums_below}
 
@@ -66,7 +66,7 @@ none_owed (f ∷ past) school student year term program h =
     go key (Calendar b) off ih = ih
     go key (Prior b) off ih = ih
     go key (Apply b) off ih = ih
-    go key (Enrol b) off ih = ih
+    go key (Enroll b) off ih = ih
     go key (Originate b) off ih = ih
     go key (Pay b) off ih = ih
     go key (Repay b) off ih = ih
@@ -116,7 +116,7 @@ step past key (School b) ih h c = ih c
 step past key (Calendar b) ih h c = ih c
 step past key (Prior b) ih h c = ih c
 step past key (Apply b) ih h c = ih c
-step past key (Enrol b) ih h c = ih c
+step past key (Enroll b) ih h c = ih c
 step past key (Originate b) ih h c = ih c
 step past key (Pay a) ih h c = let k = ih c in (k.0, omega arith)
 step past key (Adjust a) ih h c =

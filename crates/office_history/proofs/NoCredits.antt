@@ -1,7 +1,7 @@
 -- A term holds no payment where the student isn't enrolled.
 use Rattle.std.proofs.Common.{◌≡◌, ℕ, ◌*◌, ap, ◌∙◌, min, arith}
-use Rattle.aid_num.specs.Nearest.{half_up}
-use Rattle.enrolment.specs.Terms.{intensity_of, payment_of}
+use Rattle.aid_types.specs.Nearest.{half_up}
+use Rattle.law_terms.specs.Terms.{intensity_of, payment_of}
 use Rattle.office_history.proofs.Numbers.{nearest_none}
 
 no_intensity : (full : ℕ) → intensity_of 0 full ≡ 0

@@ -2,9 +2,9 @@
 use Rattle.std.proofs.Common.{◌≡◌, ℕ, zero, suc, ◌+◌, ◌*◌, ◌/◌, ◌≤◌, ◌<◌, refl, arith, zero-le}
 use Rattle.std.proofs.lemmas.Nat.{le-div, div_below}
 use Rattle.std.proofs.Math.Nat.{div-mul-le_self, div-zero, zero-mul}
-use Rattle.aid_num.specs.Nearest.{half_up}
-use Rattle.lifetime_ledger.specs.Used.{use_of}
-use Rattle.enrolment.specs.Terms.{payment_of}
+use Rattle.aid_types.specs.Nearest.{half_up}
+use Rattle.law_terms.specs.Used.{use_of}
+use Rattle.law_terms.specs.Terms.{payment_of}
 
 pub div_mono : (a b k : ℕ) → a ≤ b → a / k ≤ b / k
 div_mono a b zero h = rw (div-zero a) zero-le

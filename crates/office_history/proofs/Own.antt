@@ -10,8 +10,8 @@ use Rattle.aid_filings.specs.declared.filing.Amount.{Amount}
 use Rattle.aid_filings.specs.declared.filing.Filing.{Filing}
 use Rattle.aid_filings.specs.declared.filing.WithdrawFacts.{WithdrawFacts}
 use Rattle.aid_filings.specs.declared.filing.What.{What}
-use Rattle.aid_filings.specs.declared.filing.What.TheVariants.{Book, School, Calendar, Prior, Apply, Enrol, Originate, Pay, Withdraw, Repay, Adjust}
-use Rattle.withdrawal_returns.specs.Worksheet.{worksheet_of}
+use Rattle.aid_filings.specs.declared.filing.What.TheVariants.{Book, School, Calendar, Prior, Apply, Enroll, Originate, Pay, Withdraw, Repay, Adjust}
+use Rattle.law_r2t4.specs.Worksheet.{worksheet_of}
 use Rattle.office_history.specs.Past.{the_withdrawal}
 use Rattle.office_history.specs.Net.{Cell, Move, cell_of, in_term, is_cell, moved, moves_at, net_at, owings_in, payments_after, payments_in, posts_in, repayments_in, sheet, takings_in, cell_at}
 use Rattle.office_history.specs.Accounts.{IsEntry, nothing}
@@ -81,7 +81,7 @@ module _ (past : List Filing) (key : Key) where
   moves (Calendar b) = record { paid = refl; taken = refl; entry = λ p. record { paid = refl; taken = refl; owed = refl; repaid = refl; after = refl; after_all = refl; post = refl } }
   moves (Prior b) = record { paid = refl; taken = refl; entry = λ p. record { paid = refl; taken = refl; owed = refl; repaid = refl; after = refl; after_all = refl; post = refl } }
   moves (Apply b) = record { paid = refl; taken = refl; entry = λ p. record { paid = refl; taken = refl; owed = refl; repaid = refl; after = refl; after_all = refl; post = refl } }
-  moves (Enrol b) = record { paid = refl; taken = refl; entry = λ p. record { paid = refl; taken = refl; owed = refl; repaid = refl; after = refl; after_all = refl; post = refl } }
+  moves (Enroll b) = record { paid = refl; taken = refl; entry = λ p. record { paid = refl; taken = refl; owed = refl; repaid = refl; after = refl; after_all = refl; post = refl } }
   moves (Originate b) = record { paid = refl; taken = refl; entry = λ p. record { paid = refl; taken = refl; owed = refl; repaid = refl; after = refl; after_all = refl; post = refl } }
   moves (Pay a) = record { paid = one a; taken = tt; owed = tt; repaid = tt; after = one_if a (is_some (the_withdrawal past key.school a.student a.year a.term)); post = tt }
   moves (Repay a) = record { paid = tt; taken = one a; owed = tt; repaid = one a; after = tt; post = tt }

@@ -3,14 +3,14 @@ use Rattle.std.proofs.Common.{◌≡◌, ℕ, ◌+◌, ◌*◌, ◌≤◌, ◌<�
 use Rattle.std.specs.Prelude.{◌==◌, nat_lt, slice_index}
 use Rattle.aid_types.specs.declared.number.Key.{Key}
 use Rattle.aid_filings.specs.declared.filing.Amount.{Amount}
-use Rattle.filing_rules.specs.declared.facts.Facts.{Facts}
+use Rattle.law_rules.specs.declared.facts.Facts.{Facts}
 use Rattle.aid_filings.specs.declared.filing.What.TheVariants.{Pay}
-use Rattle.lifetime_ledger.specs.Used.{use_of}
+use Rattle.law_terms.specs.Used.{use_of}
 use Rattle.aid_types.specs.Programs.{rank}
-use Rattle.rule_lines.specs.declared.line.RuleLine.{RuleLine}
-use Rattle.rule_lines.specs.RuleLines.{over, only}
-use Rattle.filing_rules.specs.Lines.{lines_of, broken_of, pell_lines, rule_52, past_payment, past_year, past_fseog, past_lifetime, past_cost, payment_here, year_limit}
-use Rattle.rule_lines.proofs.Holds.{AllHold, all_hold, over_holds, hold_front, hold_back, hold_only, lacks_holds}
+use Rattle.aid_types.specs.declared.line.RuleLine.{RuleLine}
+use Rattle.aid_types.specs.RuleLines.{over, only}
+use Rattle.law_rules.specs.Lines.{lines_of, broken_of, pell_lines, rule_52, past_payment, past_year, past_fseog, past_lifetime, past_cost, payment_here, year_limit}
+use Rattle.aid_types.proofs.Holds.{AllHold, all_hold, over_holds, hold_front, hold_back, hold_only, lacks_holds}
 use Rattle.office_history.proofs.Numbers.{use_mono}
 
 -- the money lines of a payment, as inequalities

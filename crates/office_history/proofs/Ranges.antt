@@ -5,10 +5,10 @@ use Rattle.std.proofs.lemmas.Bool.Decides.{nat_tests}
 use Rattle.aid_types.specs.Programs.{six}
 use Rattle.aid_types.specs.declared.number.Key.{Key}
 use Rattle.aid_filings.specs.declared.filing.What.{What}
-use Rattle.aid_filings.specs.declared.filing.What.TheVariants.{Book as BookFiled, School, Calendar, Prior, Apply, Enrol, Originate, Pay, Withdraw, Repay, Adjust}
-use Rattle.filing_rules.specs.Lines.{rule_63, past_payment, past_year, past_lifetime, past_fseog, past_cost}
-use Rattle.rule_lines.specs.RuleLines.{stands, where_true, only, over, too_early}
-use Rattle.filing_rules.specs.Rules.{rule_21, rule_23, rule_24, rule_62}
+use Rattle.aid_filings.specs.declared.filing.What.TheVariants.{Book as BookFiled, School, Calendar, Prior, Apply, Enroll, Originate, Pay, Withdraw, Repay, Adjust}
+use Rattle.law_rules.specs.Lines.{rule_63, past_payment, past_year, past_lifetime, past_fseog, past_cost}
+use Rattle.aid_types.specs.RuleLines.{stands, where_true, only, over, too_early}
+use Rattle.law_rules.specs.Rules.{rule_21, rule_23, rule_24, rule_62}
 use Rattle.aid_filings.specs.declared.filing.Filing.{Filing}
 use Rattle.office_history.specs.Past.{amount_or, at_school, cost, cost_in, credits, credits_in, earlier, earliest, given, if_here, later, latest, FiledTerm, terms_on_file, the_school, the_withdrawal, the_term}
 use Rattle.office_history.specs.Net.{Cell, is_cell, paid, net_at, at_school_in_year, Move, onto, cell_of, paid_after, repaid, used_else, use_in, all_years, net, taken, owed, post, sheet, days_of, last_of, withdrawn_cell}
@@ -16,7 +16,7 @@ use Rattle.office_history.specs.FactsOf.{facts_of}
 use Rattle.office_history.specs.Positions.{terms_of}
 use Rattle.office_history.specs.Rules.{rules_of}
 use Rattle.office_history.specs.Answer.{breaks, IsLegal}
-use Rattle.rule_lines.proofs.Holds.{all_hold, hold_back, hold_only, AllHold, over_holds}
+use Rattle.aid_types.proofs.Holds.{all_hold, hold_back, hold_only, AllHold, over_holds}
 use Rattle.office_history.proofs.Main.{of_sort, not_of_sort, paid_parts, taken_parts, paid_same, taken_same}
 use Rattle.office_history.proofs.AnyNets.{any_net_stands, covered_all}
 use Rattle.office_history.proofs.Cost.{cost_holds}
@@ -78,7 +78,7 @@ cost_is_small (f ∷ past) school student year =
     go key (Calendar b) = zero-le
     go key (Prior b) = zero-le
     go key (Apply b) = zero-le
-    go key (Enrol b) = zero-le
+    go key (Enroll b) = zero-le
     go key (Pay b) = zero-le
     go key (Withdraw b) = zero-le
     go key (Repay b) = zero-le
@@ -104,8 +104,8 @@ credits_in_range (f ∷ past) legal school student year term =
   where
     go : (key : Key) (what : What) → breaks past (record { key = key; what = what }) ≡ None →
         amount_or (at_school school (credits_in student year term) (record { key = key; what = what })) ≤ 40
-    go key (Enrol e) h =
-        let k = all_hold (rules_of past key (Enrol e)) h in
+    go key (Enroll e) h =
+        let k = all_hold (rules_of past key (Enroll e)) h in
         told_here 40 (key.school == school) (e.student == student && (e.year == year && e.term == term)) e.credits (few_credits e.credits k.1.1.1.0)
     go key (BookFiled b) h = zero-le
     go key (School b) h = zero-le
@@ -136,7 +136,7 @@ paid_is_small (f ∷ past) sel = go f.key f.what (paid_is_small past sel)
     go key (Calendar b) ih = omega arith
     go key (Prior b) ih = omega arith
     go key (Apply b) ih = omega arith
-    go key (Enrol b) ih = omega arith
+    go key (Enroll b) ih = omega arith
     go key (Originate b) ih = omega arith
     go key (Withdraw b) ih = omega arith
     go key (Repay b) ih = omega arith
@@ -154,7 +154,7 @@ repaid_is_small (f ∷ past) sel = go f.key f.what (repaid_is_small past sel)
     go key (Calendar b) ih = omega arith
     go key (Prior b) ih = omega arith
     go key (Apply b) ih = omega arith
-    go key (Enrol b) ih = omega arith
+    go key (Enroll b) ih = omega arith
     go key (Originate b) ih = omega arith
     go key (Pay b) ih = omega arith
     go key (Withdraw b) ih = omega arith
@@ -178,7 +178,7 @@ after_is_paid (f ∷ past) sel = go f.key f.what (after_is_paid past sel)
     go key (Calendar b) ih = ih
     go key (Prior b) ih = ih
     go key (Apply b) ih = ih
-    go key (Enrol b) ih = ih
+    go key (Enroll b) ih = ih
     go key (Originate b) ih = ih
     go key (Withdraw b) ih = ih
     go key (Repay b) ih = ih
@@ -233,7 +233,7 @@ post_is_small (f ∷ past) legal sel = go f.key f.what legal.2 (post_is_small pa
     go key (Calendar b) h ih = omega arith
     go key (Prior b) h ih = omega arith
     go key (Apply b) h ih = omega arith
-    go key (Enrol b) h ih = omega arith
+    go key (Enroll b) h ih = omega arith
     go key (Originate b) h ih = omega arith
     go key (Pay b) h ih = omega arith
     go key (Repay b) h ih = omega arith
@@ -299,7 +299,7 @@ main_terms_are_few (f ∷ past) legal school year = go f.key f.what legal.2 (mai
     go key (School b) h ih = ih
     go key (Prior b) h ih = ih
     go key (Apply b) h ih = ih
-    go key (Enrol b) h ih = ih
+    go key (Enroll b) h ih = ih
     go key (Originate b) h ih = ih
     go key (Pay b) h ih = ih
     go key (Withdraw b) h ih = ih

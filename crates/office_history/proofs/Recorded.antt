@@ -1,7 +1,7 @@
 -- What was told of a filing at its admission is what the history tells later.
 use Rattle.std.proofs.Common.{◌≡◌, ℕ, zero, suc, ◌+◌, ◌-◌, ◌≤◌, refl, sym, ap, ◌∙◌, arith, Bool, true, false, List, [], ◌∷◌, ◌++◌, length, drop, length-append, add-one}
 use Rattle.aid_filings.specs.declared.filing.Filing.{Filing}
-use Rattle.aid_filings.specs.declared.reply.Verdict.TheVariants.{Again}
+use Rattle.aid_filings.specs.declared.reply.Response.TheVariants.{Again}
 use Rattle.aid_filings.specs.contracts.filing.FilingEq.TheImpl.Laws as filing_laws
 use Rattle.office_history.specs.Past.{same_filing, first_of_two, filing_at}
 use Rattle.office_history.specs.Answer.{IsLegal, outcome_of, outcome_of_newest, outcome_at, answer_of, answer_at}

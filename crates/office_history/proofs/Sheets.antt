@@ -5,11 +5,11 @@ use Rattle.aid_types.specs.Programs.{six}
 use Rattle.aid_types.specs.declared.number.Key.{Key}
 use Rattle.aid_filings.specs.declared.filing.WithdrawFacts.{WithdrawFacts}
 use Rattle.office_history.specs.Net.{Cell, withdrawn_cell}
-use Rattle.withdrawal_returns.specs.Worksheet.{grant_owed, worksheet_of, percent_earned}
+use Rattle.law_r2t4.specs.Worksheet.{grant_owed, worksheet_of, percent_earned}
 use Rattle.office_history.proofs.Cells.{SumsBelow}
 use Rattle.std.proofs.Math.Nat.{div-zero, mul-le-mul_left}
-use Rattle.aid_num.specs.Nearest.{half_up}
-use Rattle.aid_num.proofs.NearestLemmas.{half_up-le}
+use Rattle.aid_types.specs.Nearest.{half_up}
+use Rattle.aid_types.proofs.NearestLemmas.{half_up-le}
 
 pub owed_below : (laid half : ℕ) → grant_owed laid half ≤ laid
 owed_below laid half = go (nat_le (laid - half) 5000)

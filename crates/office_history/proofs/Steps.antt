@@ -6,7 +6,7 @@ use Rattle.aid_types.specs.declared.number.Key.{Key}
 use Rattle.aid_filings.specs.declared.filing.Amount.{Amount}
 use Rattle.aid_filings.specs.declared.filing.Filing.{Filing}
 use Rattle.aid_filings.specs.declared.filing.What.{What}
-use Rattle.aid_filings.specs.declared.filing.What.TheVariants.{Book as BookFiled, School, Calendar, Prior, Apply, Enrol, Originate, Pay, Withdraw, Repay, Adjust}
+use Rattle.aid_filings.specs.declared.filing.What.TheVariants.{Book as BookFiled, School, Calendar, Prior, Apply, Enroll, Originate, Pay, Withdraw, Repay, Adjust}
 use Rattle.office_history.specs.Past.{earlier, amount_or}
 use Rattle.office_history.specs.Net.{Cell, Move, cell_of, moved, payments_in, takings_in, paid, taken, net, net_at, in_year, at_school_in_year}
 use Rattle.office_history.proofs.Cells.{onto_is}
@@ -19,7 +19,7 @@ by_payment P key pays not (School b) = not (School b) refl
 by_payment P key pays not (Calendar b) = not (Calendar b) refl
 by_payment P key pays not (Prior b) = not (Prior b) refl
 by_payment P key pays not (Apply b) = not (Apply b) refl
-by_payment P key pays not (Enrol b) = not (Enrol b) refl
+by_payment P key pays not (Enroll b) = not (Enroll b) refl
 by_payment P key pays not (Originate b) = not (Originate b) refl
 by_payment P key pays not (Withdraw b) = not (Withdraw b) refl
 by_payment P key pays not (Repay b) = not (Repay b) refl

@@ -7,12 +7,12 @@ use Rattle.aid_types.specs.declared.number.Key.{Key}
 use Rattle.aid_filings.specs.declared.filing.Amount.{Amount}
 use Rattle.aid_books.specs.declared.book.Book.{Book}
 use Rattle.aid_filings.specs.declared.filing.SchoolFacts.{SchoolFacts}
-use Rattle.aid_filings.specs.declared.filing.EnrolFacts.{EnrolFacts}
+use Rattle.aid_filings.specs.declared.filing.EnrollFacts.{EnrollFacts}
 use Rattle.aid_types.specs.declared.application.Application.{Application}
 use Rattle.aid_filings.specs.declared.filing.Filing.{Filing}
 use Rattle.aid_filings.specs.declared.filing.What.{What}
-use Rattle.aid_filings.specs.declared.filing.What.TheVariants.{Book as BookFiled, School, Calendar, Prior, Apply, Enrol, Originate, Pay, Withdraw, Repay, Adjust}
-use Rattle.enrolment.specs.Terms.{intensity_of, payment_of}
+use Rattle.aid_filings.specs.declared.filing.What.TheVariants.{Book as BookFiled, School, Calendar, Prior, Apply, Enroll, Originate, Pay, Withdraw, Repay, Adjust}
+use Rattle.law_terms.specs.Terms.{intensity_of, payment_of}
 use Rattle.aid_types.specs.Programs.{rank}
 use Rattle.office_history.specs.Past.{at_school, if_here, given, later, latest, earlier, amount_or, credits, credits_in, the_school, school_in, the_book, FiledTerm, terms_on_file}
 use Rattle.office_history.specs.Award.{award_under, scheduled}
@@ -21,7 +21,7 @@ use Rattle.office_history.specs.FactsOf.{facts_of}
 use Rattle.office_history.specs.Positions.{school_at, terms_of, full_of, payment_at, told_over, is_over, least_term, earlier_term}
 use Rattle.office_history.specs.Rules.{rules_of}
 use Rattle.office_history.specs.Answer.{breaks, IsLegal}
-use Rattle.rule_lines.proofs.Holds.{all_hold, over_holds, stands_holds}
+use Rattle.aid_types.proofs.Holds.{all_hold, over_holds, stands_holds}
 use Rattle.office_history.proofs.Numbers.{no_award, no_terms}
 use Rattle.office_history.proofs.Cells.{within_program}
 use Rattle.office_history.proofs.PayRules.{affords}
@@ -87,9 +87,9 @@ book_payment past key b h school student year number = go (award_by_book past ke
     go (inl z) = rw (z, no_award) zero-le
     go (inr e) = let k = ap (λ w. payment_at past w school student year number) e in omega arith
 
--- an enrolment changes the payment of its own term alone, to one that isn't below what is paid
-term_enrolled : (past : List Filing) (key : Key) (e : EnrolFacts) → TermHolds past → breaks past (record { key = key; what = Enrol e }) ≡ None →
-    TermHolds (record { key = key; what = Enrol e } ∷ past)
+-- an enrollment changes the payment of its own term alone, to one that isn't below what is paid
+term_enrolled : (past : List Filing) (key : Key) (e : EnrollFacts) → TermHolds past → breaks past (record { key = key; what = Enroll e }) ≡ None →
+    TermHolds (record { key = key; what = Enroll e } ∷ past)
 term_enrolled past key e ih h school student year number = go (key.school == school) (e.student == student) (e.year == year) (e.term == number) refl refl refl refl
   where
     go : (a b c d : Bool) → (key.school == school) ≡ a → (e.student == student) ≡ b → (e.year == year) ≡ c → (e.term == number) ≡ d →
@@ -97,7 +97,7 @@ term_enrolled past key e ih h school student year number = go (key.school == sch
         (intensity_of (amount_or (later (if_here a (given (b && (c && d)) e.credits)) (latest (at_school school (credits_in student year number)) past)))
         (full_of (the_school past school))) (terms_of (the_school past school))
     go true true true true p q r s =
-        let k = all_hold (rules_of past key (Enrol e)) h in
+        let k = all_hold (rules_of past key (Enroll e)) h in
         let rule : pell_term past key.school e.student e.year e.term ≤ 100 * payment_of (scheduled past e.student e.year)
         (intensity_of e.credits (full_of (the_school past key.school))) (terms_of (the_school past key.school)) =
         over_holds 33 (pell_term past key.school e.student e.year e.term) (100 * payment_of (scheduled past e.student e.year)
@@ -190,7 +190,7 @@ term_step : (past : List Filing) (key : Key) (what : What) → TermHolds past �
 term_step past key (Pay a) ih filed h = term_paid past key a ih h
 term_step past key (BookFiled b) ih filed h = term_kept past key (BookFiled b) ih refl (book_payment past key b h)
 term_step past key (School s) ih filed h = term_kept past key (School s) ih refl (school_payment past key s h)
-term_step past key (Enrol e) ih filed h = term_enrolled past key e ih h
+term_step past key (Enroll e) ih filed h = term_enrolled past key e ih h
 term_step past key (Apply a) ih filed h = term_applied past key a ih filed h
 term_step past key (Calendar b) ih filed h = ih
 term_step past key (Prior b) ih filed h = ih

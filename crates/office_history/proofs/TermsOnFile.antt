@@ -10,13 +10,13 @@ use Rattle.aid_types.specs.declared.number.Key.{Key}
 use Rattle.aid_filings.specs.declared.filing.CalendarFacts.{CalendarFacts}
 use Rattle.aid_filings.specs.declared.filing.Filing.{Filing}
 use Rattle.aid_filings.specs.declared.filing.What.{What}
-use Rattle.aid_filings.specs.declared.filing.What.TheVariants.{Book as BookFiled, School, Calendar, Prior, Apply, Enrol, Originate, Pay, Withdraw, Repay, Adjust}
+use Rattle.aid_filings.specs.declared.filing.What.TheVariants.{Book as BookFiled, School, Calendar, Prior, Apply, Enroll, Originate, Pay, Withdraw, Repay, Adjust}
 use Rattle.office_history.specs.Past.{FiledTerm, on_file, at_school, term_in, terms_on_file}
 use Rattle.office_history.specs.Rules.{rules_of}
 use Rattle.office_history.specs.Positions.{school_at, term_at, is_over, least_term}
 use Rattle.office_history.specs.Answer.{breaks, IsLegal}
 use Rattle.office_history.specs.Least.{NonePasses, IsFiledTerm, IsLeastBy, AreOrdered, is_before}
-use Rattle.rule_lines.proofs.Holds.{all_hold, lacks_holds, stands_holds}
+use Rattle.aid_types.proofs.Holds.{all_hold, lacks_holds, stands_holds}
 use Rattle.office_history.proofs.Asked.{none_told}
 use Rattle.office_history.proofs.Filed.{is_term}
 use Rattle.office_history.proofs.Apart.{known_code, not_there}
@@ -40,7 +40,7 @@ by_calendar P past f new same = go f.what refl
     go (School b) e = same
     go (Prior b) e = same
     go (Apply b) e = same
-    go (Enrol b) e = same
+    go (Enroll b) e = same
     go (Originate b) e = same
     go (Pay b) e = same
     go (Withdraw b) e = same

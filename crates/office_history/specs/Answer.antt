@@ -6,21 +6,21 @@ use Rattle.aid_types.specs.declared.application.Application.{Application}
 use Rattle.aid_filings.specs.declared.filing.Filing.{Filing}
 use Rattle.aid_filings.specs.declared.filing.What.{What}
 use Rattle.aid_filings.specs.declared.filing.What.TheVariants.{Apply, Pay, Withdraw}
-use Rattle.aid_filings.specs.declared.reply.Ask.{Ask}
-use Rattle.aid_filings.specs.declared.reply.Ask.TheVariants.{File, Quote, Standing as StandingAsked}
+use Rattle.aid_filings.specs.declared.reply.Operation.{Operation}
+use Rattle.aid_filings.specs.declared.reply.Operation.TheVariants.{File, Quote, Standing as StandingAsked}
 use Rattle.aid_types.specs.declared.award.Formula.TheVariants.{A}
 use Rattle.aid_types.specs.declared.award.Way.TheVariants.{Nothing}
 use Rattle.aid_types.specs.declared.award.Refusal.{Refusal}
 use Rattle.aid_filings.specs.declared.reply.Outcome.{Outcome}
 use Rattle.aid_filings.specs.declared.reply.Outcome.TheVariants.{Noted, Indexed, Paid, Returned}
 use Rattle.aid_filings.specs.declared.reply.StandingRow.{StandingRow}
-use Rattle.aid_filings.specs.declared.reply.Verdict.{Verdict}
-use Rattle.aid_filings.specs.declared.reply.Verdict.TheVariants.{Again, Refused, Admit, Quoted, Standing}
-use Rattle.sai_index.specs.Formulas.{formula}
-use Rattle.filing_rules.specs.Quote.{greatest_payment}
-use Rattle.rule_lines.specs.RuleLines.{first_broken}
+use Rattle.aid_filings.specs.declared.reply.Response.{Response}
+use Rattle.aid_filings.specs.declared.reply.Response.TheVariants.{Again, Refused, Admit, Quoted, Standing}
+use Rattle.law_sai.specs.Formulas.{formula}
+use Rattle.law_rules.specs.Quote.{greatest_payment}
+use Rattle.aid_types.specs.RuleLines.{first_broken}
 use Rattle.office_history.specs.Past.{key_at, filing_at, the_book, application}
-use Rattle.pell_schedule.specs.Award.{decision_of}
+use Rattle.law_pell.specs.Award.{decision_of}
 use Rattle.office_history.specs.Net.{net, in_year, pell_year, sheet, used}
 use Rattle.office_history.specs.Rules.{rules_of, payment_rules}
 
@@ -67,22 +67,22 @@ abbrev pub outcome_at : List Filing → ℕ → Outcome
 outcome_at past position = outcome_of_newest (drop (length past - position) past)
 
 -- a filing that breaks no rule is admitted, and any other is refused by the first that it breaks
-abbrev pub judged : List Filing → Filing → Option Refusal → Verdict
+abbrev pub judged : List Filing → Filing → Option Refusal → Response
 judged past f (Some refusal) = Refused refusal
 judged past f None = Admit (outcome_of past f)
 
 -- 15: the key is used for another filing. A filing with a new key is judged by its rules
-abbrev pub answer_new : List Filing → Filing → ℕ → Verdict
+abbrev pub answer_new : List Filing → Filing → ℕ → Response
 answer_new past f (suc n) = Refused (record { rule = 15; kept = suc n; bound = f.key.number })
 answer_new past f zero = judged past f (breaks past f)
 
 -- a filing that stands is answered by its position and the outcome of its admission
-abbrev pub answer_at : List Filing → Filing → ℕ → Verdict
+abbrev pub answer_at : List Filing → Filing → ℕ → Response
 answer_at past f (suc n) = Again (suc n) (outcome_at past (suc n))
 answer_at past f zero = answer_new past f (key_at f.key past)
 
 -- the answer to a filing
-abbrev pub answer_of : List Filing → Filing → Verdict
+abbrev pub answer_of : List Filing → Filing → Response
 answer_of past f = answer_at past f (filing_at f past)
 
 -- the quote in cents: the greatest whole-dollar Pell payment that a school could file under a new key, 0 where there is none
@@ -102,12 +102,12 @@ standing_of past student year =
     standing_under (the_book past year) (application past student year) (pell_year past student year) (used past student)
 
 -- the answer to an ask
-abbrev pub answer_to : List Filing → Ask → Verdict
+abbrev pub answer_to : List Filing → Operation → Response
 answer_to past (File f) = answer_of past f
 answer_to past (Quote school student year term) = Quoted (quote_of past school student year term)
 answer_to past (StandingAsked student year) = Standing (standing_of past student year)
 
 -- the verdict admits
-abbrev pub is_admit : Verdict → Bool
+abbrev pub is_admit : Response → Bool
 is_admit (Admit outcome) = true
 is_admit _ = false

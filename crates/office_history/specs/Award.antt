@@ -4,9 +4,9 @@ use Rattle.aid_books.specs.declared.book.Book.{Book}
 use Rattle.aid_types.specs.declared.application.Application.{Application}
 use Rattle.aid_filings.specs.declared.filing.Filing.{Filing}
 use Rattle.aid_types.specs.declared.award.Refusal.{Refusal}
-use Rattle.sai_index.specs.Fits.{unfit}
-use Rattle.pell_schedule.specs.Award.{ceiling_of, decision_of, no_ceiling}
-use Rattle.pell_schedule.specs.declared.Ceiling.{Ceiling}
+use Rattle.law_sai.specs.Fits.{unfit}
+use Rattle.law_pell.specs.Award.{ceiling_of, decision_of, no_ceiling}
+use Rattle.law_pell.specs.declared.Ceiling.{Ceiling}
 use Rattle.office_history.specs.Past.{the_book, application}
 
 -- the Scheduled Award that an application gives under a book, 0 where one of them is missing. It is a word of its own, so

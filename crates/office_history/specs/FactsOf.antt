@@ -4,10 +4,10 @@ use Rattle.aid_filings.specs.Calendars.{term_of}
 use Rattle.aid_types.specs.Programs.{rank}
 use Rattle.aid_types.specs.declared.number.Key.{Key}
 use Rattle.aid_types.specs.declared.application.Application.{Application}
-use Rattle.filing_rules.specs.declared.facts.Facts.{Facts}
+use Rattle.law_rules.specs.declared.facts.Facts.{Facts}
 use Rattle.aid_filings.specs.declared.filing.Filing.{Filing}
 use Rattle.aid_filings.specs.declared.filing.What.{What}
-use Rattle.aid_filings.specs.declared.filing.What.TheVariants.{Book as BookFiled, School, Calendar, Prior, Apply, Enrol, Originate, Pay, Withdraw, Repay, Adjust}
+use Rattle.aid_filings.specs.declared.filing.What.TheVariants.{Book as BookFiled, School, Calendar, Prior, Apply, Enroll, Originate, Pay, Withdraw, Repay, Adjust}
 use Rattle.office_history.specs.Past.{the_book, the_school, the_term, the_withdrawal, credits, cost, application, terms_on_file}
 use Rattle.office_history.specs.Award.{ceiling, scheduled, unfit_under}
 use Rattle.office_history.specs.Net.{cell_of, is_cell, net, cell_at, net_at, in_year, in_term, at_school_in_year, pell_term, pell_year, pell_main, used_else, owed, repaid, post, paid_after}
@@ -121,7 +121,7 @@ facts_of past key (Prior p) = record (desk_facts past key.school) {
   pell_at = pell_at past p.student;
 }
 facts_of past key (Apply a) = apply_facts past key.school a (award_filed past a)
-facts_of past key (Enrol e) = record (desk_facts past key.school) {
+facts_of past key (Enroll e) = record (desk_facts past key.school) {
   term_at = term_at past key.school e.year e.term;
   scheduled = scheduled past e.student e.year;
   withdrawn_at = withdrawn_at past key.school e.student e.year e.term;

@@ -4,7 +4,7 @@ use Rattle.aid_filings.specs.Calendars.{term_of}
 use Rattle.aid_types.specs.declared.term.Term.{Term}
 use Rattle.aid_filings.specs.declared.filing.What.{What}
 use Rattle.aid_filings.specs.declared.filing.What.TheVariants.{Calendar}
-use Rattle.enrolment.specs.Terms.{shares_day}
+use Rattle.law_terms.specs.Terms.{shares_day}
 
 -- the filer is the school, and files a term that shares a day with this one
 abbrev pub is_overlapping : ℕ → Term → ℕ → What → Bool

@@ -1,11 +1,11 @@
--- The least and the first of a list, the cells of a sum, and an enrolment that stands: said by what they are, and not by how
+-- The least and the first of a list, the cells of a sum, and an enrollment that stands: said by what they are, and not by how
 -- they are found.
 use Rattle.std.specs.Prelude.{◌+◌, ◌≡◌, ◌≢◌, ℕ, ◌<◌, ◌==◌, ◌&&◌, ◌||◌, nat_lt, Bool, true, false, List, Some, slice_get}
 use Rattle.std.specs.List.{All, AllPairs, Contains}
 use Rattle.aid_types.specs.declared.number.Key.{Key}
-use Rattle.aid_filings.specs.declared.filing.EnrolFacts.{EnrolFacts}
+use Rattle.aid_filings.specs.declared.filing.EnrollFacts.{EnrollFacts}
 use Rattle.aid_filings.specs.declared.filing.Filing.{Filing}
-use Rattle.aid_filings.specs.declared.filing.What.TheVariants.{Enrol}
+use Rattle.aid_filings.specs.declared.filing.What.TheVariants.{Enroll}
 use Rattle.office_history.specs.Past.{FiledTerm, on_file}
 use Rattle.office_history.specs.Net.{Cell, is_cell, paid}
 
@@ -54,11 +54,11 @@ pub record HoldsPaid (past : List Filing) (cells : List Cell) : Type 0 where
   pub once : AllPairs (λ c d. c ≢ d) cells
   pub each : (c : Cell) → 0 < paid past (is_cell c) → Contains cells c
 
--- the cell's school has filed an enrolment of its student in its term
+-- the cell's school has filed an enrollment of its student in its term
 pub record IsEnrolled (history : List Filing) (c : Cell) : Type 0 where
   pub key : Key
-  pub facts : EnrolFacts
-  pub stands : Contains history (record { key = key; what = Enrol facts })
+  pub facts : EnrollFacts
+  pub stands : Contains history (record { key = key; what = Enroll facts })
   pub school : key.school ≡ c.school
   pub student : facts.student ≡ c.student
   pub year : facts.year ≡ c.year

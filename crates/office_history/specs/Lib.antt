@@ -15,4 +15,4 @@ pub mod FiledTerms
 pub mod Names
 pub mod Own
 pub mod Rows
-pub mod FirstEnrolments
+pub mod FirstEnrollments

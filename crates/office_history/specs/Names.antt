@@ -5,7 +5,7 @@ use Rattle.office_history.specs.declared.names.StudentPlace.{StudentPlace}
 use Rattle.office_history.specs.declared.names.StudentSchoolYear.{StudentSchoolYear}
 use Rattle.office_history.specs.declared.names.StudentYear.{StudentYear}
 use Rattle.std.specs.Prelude.{ℕ}
-use Rattle.aid_filings.specs.declared.filing.EnrolFacts.{EnrolFacts}
+use Rattle.aid_filings.specs.declared.filing.EnrollFacts.{EnrollFacts}
 
 -- the orders of the names of rows: by the first of their parts, then by the next
 abbrev pub year_cmp : StudentYear → StudentYear → Ordering
@@ -19,6 +19,6 @@ place_cmp a b =
     ordering_then (nat_cmp a.student b.student)
     (ordering_then (nat_cmp a.school b.school) (ordering_then (nat_cmp a.year b.year) (nat_cmp a.term b.term)))
 
--- the name of the place that an enrolment by a school is in
-abbrev pub place_name : ℕ → EnrolFacts → StudentPlace
+-- the name of the place that an enrollment by a school is in
+abbrev pub place_name : ℕ → EnrollFacts → StudentPlace
 place_name school e = record { student = e.student; school = school; year = e.year; term = e.term }

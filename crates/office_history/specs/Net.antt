@@ -9,12 +9,12 @@ use Rattle.aid_filings.specs.declared.filing.WithdrawFacts.{WithdrawFacts}
 use Rattle.aid_filings.specs.declared.filing.Filing.{Filing}
 use Rattle.aid_filings.specs.declared.filing.What.{What}
 use Rattle.aid_filings.specs.declared.filing.What.TheVariants.{Pay, Withdraw, Repay, Adjust}
-use Rattle.enrolment.specs.Terms.{days_upto}
-use Rattle.lifetime_ledger.specs.Used.{use_of}
+use Rattle.law_terms.specs.Terms.{days_upto}
+use Rattle.law_terms.specs.Used.{use_of}
 use Rattle.office_history.specs.Past.{the_term, is_extra, the_withdrawal, prior_units}
 use Rattle.office_history.specs.Award.{scheduled}
-use Rattle.withdrawal_returns.specs.Worksheet.{worksheet_of}
-use Rattle.withdrawal_returns.specs.declared.Lines.{Lines}
+use Rattle.law_r2t4.specs.Worksheet.{worksheet_of}
+use Rattle.law_r2t4.specs.declared.Lines.{Lines}
 
 -- where money stands: a student's program in a term of a school
 pub record Cell : Type 0 where

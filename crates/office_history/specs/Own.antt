@@ -4,7 +4,7 @@ use Rattle.aid_types.specs.declared.number.Key.{Key}
 use Rattle.aid_filings.specs.declared.filing.Filing.{Filing}
 use Rattle.aid_filings.specs.declared.filing.What.{What}
 use Rattle.aid_filings.specs.declared.filing.What.TheVariants.{Adjust, Pay, Repay, Withdraw}
-use Rattle.withdrawal_returns.specs.declared.Lines.{Lines}
+use Rattle.law_r2t4.specs.declared.Lines.{Lines}
 use Rattle.office_history.specs.Accounts.{IsAccount, IsEntry, nothing}
 use Rattle.office_history.specs.declared.account.Account.{Account}
 use Rattle.office_history.specs.declared.place.Place.{Place}

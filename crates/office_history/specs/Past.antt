@@ -12,7 +12,7 @@ use Rattle.aid_types.specs.declared.application.Application.{Application}
 use Rattle.aid_filings.specs.declared.filing.WithdrawFacts.{WithdrawFacts}
 use Rattle.aid_filings.specs.declared.filing.Filing.{Filing}
 use Rattle.aid_filings.specs.declared.filing.What.{What}
-use Rattle.aid_filings.specs.declared.filing.What.TheVariants.{Book as BookFiled, School, Calendar, Prior, Apply, Enrol, Originate, Pay, Withdraw}
+use Rattle.aid_filings.specs.declared.filing.What.TheVariants.{Book as BookFiled, School, Calendar, Prior, Apply, Enroll, Originate, Pay, Withdraw}
 use Rattle.aid_filings.specs.contracts.filing.FilingPartialEq.TheImpl.{eq-value as filing_eq}
 use Rattle.aid_types.specs.contracts.number.KeyPartialEq.TheImpl.{eq-value as key_eq}
 
@@ -46,12 +46,12 @@ later (Some a) before = Some a
 
 -- what the earliest and what the latest filing tells that answers the question
 abbrev pub earliest : {A : Type 0} → (Filing → Option A) → List Filing → Option A
-earliest ask [] = None
-earliest ask (f ∷ past) = earlier (ask f) (earliest ask past)
+earliest operation [] = None
+earliest operation (f ∷ past) = earlier (operation f) (earliest operation past)
 
 abbrev pub latest : {A : Type 0} → (Filing → Option A) → List Filing → Option A
-latest ask [] = None
-latest ask (f ∷ past) = later (ask f) (latest ask past)
+latest operation [] = None
+latest operation (f ∷ past) = later (operation f) (latest operation past)
 
 abbrev pub given : {A : Type 0} → Bool → A → Option A
 given true a = Some a
@@ -83,7 +83,7 @@ application_in student year (Apply a) = given (a.student == student && a.year ==
 application_in student year _ = None
 
 abbrev pub credits_in : ℕ → ℕ → ℕ → What → Option ℕ
-credits_in student year term (Enrol e) = given (e.student == student && (e.year == year && e.term == term)) e.credits
+credits_in student year term (Enroll e) = given (e.student == student && (e.year == year && e.term == term)) e.credits
 credits_in student year term _ = None
 
 abbrev pub cost_in : ℕ → ℕ → What → Option ℕ
@@ -105,7 +105,7 @@ if_here true (Some a) = Some a
 if_here false (Some a) = None
 
 abbrev pub at_school : {A : Type 0} → ℕ → (What → Option A) → Filing → Option A
-at_school school ask f = if_here (f.key.school == school) (ask f.what)
+at_school school operation f = if_here (f.key.school == school) (operation f.what)
 
 -- the year's book, the school, its term
 abbrev pub the_book : List Filing → ℕ → Option Book

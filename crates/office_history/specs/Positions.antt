@@ -7,7 +7,7 @@ use Rattle.aid_types.specs.declared.application.Application.{Application}
 use Rattle.aid_filings.specs.declared.filing.WithdrawFacts.{WithdrawFacts}
 use Rattle.aid_types.specs.declared.award.Refusal.{Refusal}
 use Rattle.aid_filings.specs.declared.filing.Filing.{Filing}
-use Rattle.enrolment.specs.Terms.{intensity_of, payment_of, shares_day}
+use Rattle.law_terms.specs.Terms.{intensity_of, payment_of, shares_day}
 use Rattle.office_history.specs.Past.{first_at, book_in, school_in, term_in, prior_in, application, application_in, is_higher, cost_in, withdrawal_in, pell_payment_in, at_school, the_book, the_school, credits, FiledTerm, terms_on_file, first_of_two}
 use Rattle.office_history.specs.Award.{award_under, unfit_under}
 use Rattle.office_history.specs.Net.{pell_term}

@@ -5,10 +5,10 @@ use Rattle.aid_filings.specs.Calendars.{term_of}
 use Rattle.aid_filings.specs.declared.filing.CalendarFacts.{CalendarFacts}
 use Rattle.aid_filings.specs.declared.filing.Filing.{Filing}
 use Rattle.aid_filings.specs.declared.filing.What.{What}
-use Rattle.aid_filings.specs.declared.filing.What.TheVariants.{Apply, Enrol}
+use Rattle.aid_filings.specs.declared.filing.What.TheVariants.{Apply, Enroll}
 use Rattle.aid_types.specs.declared.application.Application.{Application}
 use Rattle.aid_types.specs.Programs.{six}
-use Rattle.enrolment.specs.Terms.{shares_day}
+use Rattle.law_terms.specs.Terms.{shares_day}
 use Rattle.office_history.specs.Award.{ceiling, scheduled}
 use Rattle.office_history.specs.Net.{cell_at, at_school_in_year, in_term, in_year, is_cell, net, owed, paid, paid_after, pell_main, post, repaid, taken, used}
 use Rattle.office_history.specs.Positions.{application_at, cost_at, could_of, first_term_at, full_of, pell_at, prior_at, school_at, term_at, terms_of, transaction_of, withdrawn_at}
@@ -97,7 +97,7 @@ student_row past student = record { prior_at = prior_at past student; pell_at = 
 abbrev pub terms_at : List Filing → ℕ → ℕ
 terms_at past school = length (filter (λ t. t.school == school) (terms_on_file past))
 
--- what is filed is an enrolment of the student
-abbrev pub is_enrolment : ℕ → What → Bool
-is_enrolment student (Enrol e) = e.student == student
-is_enrolment student _ = false
+-- what is filed is an enrollment of the student
+abbrev pub is_enrollment : ℕ → What → Bool
+is_enrollment student (Enroll e) = e.student == student
+is_enrollment student _ = false

@@ -5,12 +5,12 @@ use Rattle.aid_types.specs.Programs.{rank}
 use Rattle.aid_types.specs.declared.number.Key.{Key}
 use Rattle.aid_filings.specs.declared.filing.Filing.{Filing}
 use Rattle.aid_filings.specs.declared.filing.What.{What}
-use Rattle.aid_filings.specs.declared.filing.What.TheVariants.{Book as BookFiled, School, Calendar, Prior, Apply, Enrol, Originate, Pay, Withdraw, Repay, Adjust}
-use Rattle.enrolment.specs.Terms.{intensity_of}
-use Rattle.lifetime_ledger.specs.Used.{use_of}
-use Rattle.rule_lines.specs.declared.line.RuleLine.{RuleLine}
-use Rattle.rule_lines.specs.RuleLines.{over, stands, lacks, where_true, too_early, only, told}
-use Rattle.filing_rules.specs.Rules.{rule_90, rule_21, rule_23, rule_24, rule_53, rule_62, rule_91, limit_of}
+use Rattle.aid_filings.specs.declared.filing.What.TheVariants.{Book as BookFiled, School, Calendar, Prior, Apply, Enroll, Originate, Pay, Withdraw, Repay, Adjust}
+use Rattle.law_terms.specs.Terms.{intensity_of}
+use Rattle.law_terms.specs.Used.{use_of}
+use Rattle.aid_types.specs.declared.line.RuleLine.{RuleLine}
+use Rattle.aid_types.specs.RuleLines.{over, stands, lacks, where_true, too_early, only, told}
+use Rattle.law_rules.specs.Rules.{rule_90, rule_21, rule_23, rule_24, rule_53, rule_62, rule_91, limit_of}
 use Rattle.office_history.specs.Past.{the_book, the_school, the_term, the_withdrawal, credits, cost, application, terms_on_file}
 use Rattle.office_history.specs.Award.{ceiling, scheduled, unfit_under}
 use Rattle.office_history.specs.Net.{cell_of, is_cell, cell_at, net, net_at, in_year, in_term, at_school_in_year, pell_term, pell_year, pell_main, used_else, owed, repaid, post, paid_after}
@@ -96,7 +96,7 @@ rules_of past key (Apply a) =
     rule_90 (length past) ∷ only (nat_lt 0 key.school) (lacks 12 (school_at past key.school) key.school 0 ∷ [])
     ++ (lacks 10 (book_at past a.year) a.year 0 ∷ told (unfit_under (the_book past a.year) a)
     ++ (rule_91 a.transaction (transaction_of (application past a.student a.year)) ∷ rule_93 past a.student a.year (award_filed past a)))
-rules_of past key (Enrol e) =
+rules_of past key (Enroll e) =
     rule_90 (length past) ∷ lacks 12 (school_at past key.school) key.school 0 ∷ lacks 30 (term_at past key.school e.year e.term) e.term 0
     ∷ where_true 32 (e.credits == 0 || nat_lt 40 e.credits) e.credits 40 ∷ stands 34 (withdrawn_at past key.school e.student e.year e.term) e.term
     ∷ over 33 (pell_term past key.school e.student e.year e.term) (payment_for past (scheduled past e.student e.year) key.school e.credits) ∷ []

@@ -4,7 +4,7 @@ use Rattle.aid_types.specs.declared.number.Key.{Key}
 use Rattle.aid_types.specs.declared.term.Term.{Term}
 use Rattle.aid_filings.specs.declared.filing.Filing.{Filing}
 use Rattle.aid_filings.specs.declared.filing.WithdrawFacts.{WithdrawFacts}
-use Rattle.enrolment.specs.Terms.{IsLawful}
+use Rattle.law_terms.specs.Terms.{IsLawful}
 use Rattle.office_history.specs.Past.{the_term}
 
 -- its term is on file and lawful, and its last day lies in the term

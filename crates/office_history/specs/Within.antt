@@ -2,7 +2,7 @@
 use Rattle.std.specs.Prelude.{◌≡◌, ◌≢◌, ℕ, ◌*◌, ◌≤◌, ◌<◌, Bool, List, Some, IsTrue}
 use Rattle.aid_filings.specs.declared.filing.Filing.{Filing}
 use Rattle.aid_types.specs.declared.term.Term.{Term}
-use Rattle.enrolment.specs.Terms.{shares_day}
+use Rattle.law_terms.specs.Terms.{shares_day}
 use Rattle.office_history.specs.Past.{cost, the_term}
 use Rattle.office_history.specs.Award.{scheduled}
 use Rattle.office_history.specs.Net.{Cell, net, paid, taken, pell_term, pell_year, pell_main, in_year, at_school_in_year, used}

@@ -1,12 +1,12 @@
 //! The award of an application.
 ghost use Rattle.std.specs.Prelude.{◌≡◌, ◌≤◌};
 ghost use Rattle.office_history.specs.Award.{ceiling_by, scheduled_of};
-ghost use Rattle.pell_schedule.specs.Award.{decision_of};
+ghost use Rattle.law_pell.specs.Award.{decision_of};
 
 use aid_books::Book;
 use aid_types::Application;
-use pell_schedule::{Ceiling, Decision, ceiling_for, decide};
-use sai_index::index;
+use law_pell::{Ceiling, Decision, ceiling_for, decide};
+use law_sai::index;
 
 /// The Scheduled Award in dollars of an application under a book, at most 100,000 (HEA 401(b)).
 pub fn award(book: &Book, application: &Application) -> u32

@@ -5,7 +5,7 @@ ghost use Rattle.aid_types.specs.declared.application.Application.{Application};
 ghost use Rattle.aid_filings.specs.declared.filing.Filing.{Filing};
 ghost use Rattle.aid_filings.specs.declared.filing.WithdrawFacts.{WithdrawFacts};
 ghost use Rattle.aid_filings.specs.declared.filing.What.TheVariants.{Withdraw};
-ghost use Rattle.aid_filings.specs.declared.reply.Verdict.TheVariants.{Again, Admit};
+ghost use Rattle.aid_filings.specs.declared.reply.Response.TheVariants.{Again, Admit};
 ghost use Rattle.office_history.specs.Applications.{IsFiledApplication, IsInForce};
 ghost use Rattle.office_history.specs.Past.{application, cost, key_at, same_filing};
 ghost use Rattle.office_history.specs.Positions.{cost_at};

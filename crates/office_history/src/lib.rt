@@ -1,7 +1,7 @@
 //! Histories: the filings so far, what is in force, the amounts that stand, and what the office answers.
 //!
 //! The definitions are in `specs/`. The laws that every legal history obeys are stated here, each as the contract of a
-//! function that computes nothing. What is on file is asked through the trait `OnFile`, row by row, of whatever keeps it.
+//! function that computes nothing. What is on file is asked through the trait `HistoryView`, row by row, of whatever keeps it.
 #![tactic(auto)]
 
 mod account;
@@ -26,7 +26,7 @@ pub use least::{
     terms_ordered,
 };
 pub use names::{FilingName, StudentPlace, StudentSchoolYear, StudentYear};
-pub use on_file::OnFile;
+pub use on_file::HistoryView;
 pub use place::Place;
 pub use rows::{CalendarRow, PlaceRow, SchoolRow, SchoolYearRow, StudentRow, TermRow, YearRow};
 pub use sums::{net_is_small, net_is_sum, paid_is_enrolled};

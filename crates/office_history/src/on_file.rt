@@ -5,7 +5,7 @@ ghost use Rattle.aid_filings.specs.declared.filing.Filing.{Filing as Filed};
 ghost use Rattle.office_history.specs.Answer.{IsLegal, outcome_at};
 ghost use Rattle.office_history.specs.Positions.{book_at as book_position, is_paid_beside, least_code, term_over};
 ghost use Rattle.office_history.specs.Past.{key_at as key_position, terms_on_file, the_book};
-ghost use Rattle.office_history.specs.FirstEnrolments.{places_of};
+ghost use Rattle.office_history.specs.FirstEnrollments.{places_of};
 ghost use Rattle.office_history.specs.Rows.{calendar_row, filing_in, place_row, school_row, school_year_row, student_row, term_row, terms_at, year_row};
 
 use crate::rows::{CalendarRow, PlaceRow, SchoolRow, SchoolYearRow, StudentRow, TermRow, YearRow};
@@ -18,12 +18,12 @@ use std::sync::ledger::Ledger;
 /// What is on file: one question for each kind of row. A question counts each of its looks at a row of an index; a list that
 /// has none counts nothing. A student's places are the terms at schools in which the student is enrolled, however often the
 /// credits changed.
-pub trait OnFile {
+pub trait HistoryView {
     /// The filings, the newest first.
     ghost history: { Self → List Filed };
 
     /// How many looks at most a question takes to find one row.
-    ghost looks: { Self → ℕ };
+    ghost lookups: { Self → ℕ };
 
     /// Whether the looks are counted: those that a search for a key needs, and three for each place along which a walk goes.
     ghost counts: { Self → Bool };
@@ -49,25 +49,25 @@ pub trait OnFile {
         ensures later { steps.old ≤ steps.new }
         ensures met { IsTrue (counts self.now) → result ≢ 0 → steps.old + 1 ≤ steps.new }
         ensures missed { IsTrue (counts self.now) → result ≡ 0 → length (history self.now) + 2 ≤ 2 ^ (steps.new - steps.old + 1) }
-        ensures cost { steps.new ≤ steps.old + looks self.now };
+        ensures cost { steps.new ≤ steps.old + lookups self.now };
 
     /// The position of a year's book.
     fn book_at<L: Ledger>(&self, year: Year, steps: &mut Steps<L>) -> u32
         ensures value { result ≡ book_position (history self.now) year }
         ensures later { steps.old ≤ steps.new }
-        ensures cost { steps.new ≤ steps.old + looks self.now };
+        ensures cost { steps.new ≤ steps.old + lookups self.now };
 
     /// A year's book.
     fn book<L: Ledger>(&self, year: Year, steps: &mut Steps<L>) -> Option<&Book>
         ensures value { option_copied result ≡ the_book (history self.now) year }
         ensures later { steps.old ≤ steps.new }
-        ensures cost { steps.new ≤ steps.old + looks self.now };
+        ensures cost { steps.new ≤ steps.old + lookups self.now };
 
     /// The school with a code.
     fn school<L: Ledger>(&self, code: u32, steps: &mut Steps<L>) -> SchoolRow
         ensures value { result ≡ school_row (history self.now) code }
         ensures later { steps.old ≤ steps.new }
-        ensures cost { steps.new ≤ steps.old + looks self.now };
+        ensures cost { steps.new ≤ steps.old + lookups self.now };
 
     /// A school with its term of a year and a number.
     fn term<L: Ledger>(
@@ -80,7 +80,7 @@ pub trait OnFile {
         ensures school { result.0 ≡ school_row (history self.now) school }
         ensures term { result.1 ≡ term_row (history self.now) school year number }
         ensures later { steps.old ≤ steps.new }
-        ensures cost { steps.new ≤ steps.old + looks self.now + 4 * terms_at (history self.now) school };
+        ensures cost { steps.new ≤ steps.old + lookups self.now + 4 * terms_at (history self.now) school };
 
     /// A school with what its terms say of one that is to be filed.
     fn calendar<L: Ledger>(
@@ -92,7 +92,7 @@ pub trait OnFile {
         ensures school { result.0 ≡ school_row (history self.now) school }
         ensures terms { result.1 ≡ calendar_row (history self.now) school calendar.now }
         ensures later { steps.old ≤ steps.new }
-        ensures cost { steps.new ≤ steps.old + looks self.now + 4 * terms_at (history self.now) school };
+        ensures cost { steps.new ≤ steps.old + lookups self.now + 4 * terms_at (history self.now) school };
 
     /// A student's term at a school.
     fn place<L: Ledger>(
@@ -105,13 +105,13 @@ pub trait OnFile {
     ) -> PlaceRow
         ensures value { result ≡ place_row (history self.now) school student year number }
         ensures later { steps.old ≤ steps.new }
-        ensures cost { steps.new ≤ steps.old + looks self.now };
+        ensures cost { steps.new ≤ steps.old + lookups self.now };
 
     /// A student's year at all schools.
     fn year<L: Ledger>(&self, student: Student, year: Year, steps: &mut Steps<L>) -> YearRow
         ensures value { result ≡ year_row (history self.now) student year }
         ensures later { steps.old ≤ steps.new }
-        ensures cost { steps.new ≤ steps.old + looks self.now };
+        ensures cost { steps.new ≤ steps.old + lookups self.now };
 
     /// A student's year at a school.
     fn school_year<L: Ledger>(
@@ -123,13 +123,13 @@ pub trait OnFile {
     ) -> SchoolYearRow
         ensures value { result ≡ school_year_row (history self.now) school student year }
         ensures later { steps.old ≤ steps.new }
-        ensures cost { steps.new ≤ steps.old + looks self.now };
+        ensures cost { steps.new ≤ steps.old + lookups self.now };
 
     /// A student.
     fn student<L: Ledger>(&self, student: Student, steps: &mut Steps<L>) -> StudentRow
         ensures value { result ≡ student_row (history self.now) student }
         ensures later { steps.old ≤ steps.new }
-        ensures cost { steps.new ≤ steps.old + looks self.now };
+        ensures cost { steps.new ≤ steps.old + lookups self.now };
 
     /// A student with the least code of another school that has a term which shares a day with this one and holds net Pell
     /// of the student; 0 where there is none.
@@ -144,7 +144,7 @@ pub trait OnFile {
         ensures code { result.1 ≡ least_code (is_paid_beside (history self.now) school student this.now) (terms_on_file (history self.now)) }
         ensures later { steps.old ≤ steps.new }
         ensures walked { IsTrue (counts self.now) → IsSome this.now → steps.old + 3 * places_of (history self.now) student ≤ steps.new }
-        ensures cost { steps.new ≤ steps.old + looks self.now + 4 * places_of (history self.now) student };
+        ensures cost { steps.new ≤ steps.old + lookups self.now + 4 * places_of (history self.now) student };
 
     /// A student with the first term of a year, by school and number, that holds more net Pell than an award in dollars gives
     /// it, told as a refusal.
@@ -159,5 +159,5 @@ pub trait OnFile {
         ensures student { result.0 ≡ student_row (history self.now) student }
         ensures term { result.1 ≡ term_over (history self.now) award student year }
         ensures later { steps.old ≤ steps.new }
-        ensures cost { steps.new ≤ steps.old + looks self.now + 4 * places_of (history self.now) student };
+        ensures cost { steps.new ≤ steps.old + lookups self.now + 4 * places_of (history self.now) student };
 }

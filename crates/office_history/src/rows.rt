@@ -2,7 +2,7 @@
 //! is nothing; amounts are in cents, awards and costs in dollars, lifetime use in thousandths of a percent.
 use crate::account::Account;
 use aid_types::{ByProgram, Term};
-use pell_schedule::Ceiling;
+use law_pell::Ceiling;
 
 /// A school: its position, its main terms in a year and its full-time credits.
 #[derive(Clone, Copy, PartialEq, Eq, Debug)]

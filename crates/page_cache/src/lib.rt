@@ -10,7 +10,7 @@
 //! medium, and of the others nothing changes.
 #![tactic(auto)]
 
-use aid_edges::hold;
+use io_traits::hold;
 use std::fs::File;
 use std::io;
 use std::os::fd::AsRawFd;

@@ -1,5 +1,5 @@
 // Texts, and what they are found to be. The first bad line is told, with the first cause that applies to it.
-use aid_audit::{Finding, audit};
+use audit::{Finding, audit};
 use std::alloc::Global;
 use std::process::Abort;
 use std::test::Fail;

@@ -1,6 +1,5 @@
 // The sheets of the worked year, and those of students under the other formulas.
-use aid_edges::MemorySink;
-use disk_model::MemoryDisk;
+use io_traits::{MemoryDisk, MemorySink};
 use run_sheets::run_sheets;
 use specimen::{BOOK_TEXT, YEAR_LINES, YEAR_ROWS};
 use std::alloc::Global;

@@ -2,63 +2,63 @@
 use Rattle.std.proofs.Common.{◌≡◌, ◌≢◌, ◌⊎◌, inl, inr, ⊎_elim, ℕ, ◌+◌, ◌-◌, ◌<◌, IsTrue, List, [], ◌∷◌, ◌++◌, Option, Some, None, length, map, reverse, take, drop, get_or, append-nil, refl, sym, ap, ◌∙◌, subst, arith}
 use Rattle.std.specs.Prelude.{codes, Contains}
 use Rattle.std.proofs.lemmas.List.{get_or-map, length-map, take-append-drop}
-use Rattle.aid_edges.specs.declared.source.Source.{Ghosts as SourceGhosts}
-use Rattle.aid_edges.specs.declared.sink.Sink.{Ghosts as SinkGhosts}
+use Rattle.io_traits.specs.declared.source.Source.{Ghosts as SourceGhosts}
+use Rattle.io_traits.specs.declared.sink.Sink.{Ghosts as SinkGhosts}
 use Rattle.aid_filings.specs.declared.filing.Filing.{Filing}
-use Rattle.disk_model.specs.Telling.{EachImage, EachMoment, IsHonest}
-use Rattle.disk_model.specs.declared.disk.Disk.{Ghosts}
-use Rattle.disk_model.proofs.Moments.{started, weaken, join}
-use Rattle.filing_journal.specs.declared.opening.OpenError.{OpenError}
-use Rattle.filing_journal.specs.declared.opening.OpenError.TheVariants as opening
-use Rattle.headline.specs.AtOnce.{Admitted, DeskFiles, DeskTexts, FilesUnder, OnTheWay, RanAtOnce, filed, idle, row_at}
-use Rattle.headline.specs.Filed.{IsFault, rows_in}
-use Rattle.headline.specs.Office.{Recovers}
-use Rattle.kept_desks.specs.Desks.{left_in}
-use Rattle.kept_list.specs.Names.{entries_of, filed_list, filed_pending, no_row, rows_of}
-use Rattle.kept_desks.specs.Shares.{stand_of, RecoversBetween}
-use Rattle.kept_list.specs.Turns.{with_entry}
-use Rattle.kept_list.specs.declared.names.Filed.{Filed}
-use Rattle.kept_list.specs.declared.names.RowName.{RowName}
-use Rattle.kept_desks.specs.declared.stop.DeskEnd.TheVariants.{Stopped}
-use Rattle.kept_desks.specs.declared.stop.DeskStop.{DeskStop}
-use Rattle.kept_desks.specs.declared.stop.DeskStop.TheVariants.{DiskFault}
-use Rattle.kept_desks.proofs.Going.{entries_filed}
-use Rattle.kept_list.specs.Kept.{IsSound}
-use Rattle.kept_list.proofs.Histories.{recovers_once}
-use Rattle.kept_office.specs.OfficeLaws.{office_alone}
-use Rattle.kept_office.specs.Recovers as kept
-use Rattle.kept_office.specs.Scheme.{office_scheme}
-use Rattle.kept_office.specs.Turns.{asked as filing_asked, office_judging}
+use Rattle.io_traits.specs.DiskState.{EachImage, EachMoment, IsHonest}
+use Rattle.io_traits.specs.declared.disk.Disk.{Ghosts}
+use Rattle.io_traits.proofs.Moments.{started, weaken, join}
+use Rattle.log_journal.specs.declared.opening.OpenError.{OpenError}
+use Rattle.log_journal.specs.declared.opening.OpenError.TheVariants as opening
+use Rattle.run_claims.specs.AtOnce.{Admitted, DeskFiles, DeskTexts, FilesUnder, OnTheWay, RanAtOnce, filed, idle, row_at}
+use Rattle.run_claims.specs.Filed.{IsFault, rows_in}
+use Rattle.run_claims.specs.Office.{Recovers}
+use Rattle.log_desks.specs.Desks.{left_in}
+use Rattle.log_machine.specs.Names.{entries_of, filed_list, filed_pending, no_row, rows_of}
+use Rattle.log_desks.specs.Shares.{stand_of, RecoversBetween}
+use Rattle.log_machine.specs.Submits.{with_entry}
+use Rattle.log_machine.specs.declared.names.Filed.{Filed}
+use Rattle.log_machine.specs.declared.names.RowName.{RowName}
+use Rattle.log_desks.specs.declared.stop.DeskEnd.TheVariants.{Stopped}
+use Rattle.log_desks.specs.declared.stop.DeskStop.{DeskStop}
+use Rattle.log_desks.specs.declared.stop.DeskStop.TheVariants.{DiskFault}
+use Rattle.log_desks.proofs.Going.{entries_filed}
+use Rattle.log_machine.specs.Kept.{IsSound}
+use Rattle.log_machine.proofs.Histories.{recovers_once}
+use Rattle.office_log.specs.OfficeLaws.{office_alone}
+use Rattle.office_log.specs.Recovers as kept
+use Rattle.office_log.specs.Scheme.{office_scheme}
+use Rattle.office_log.specs.Submits.{asked as filing_asked, office_semantics}
 use Rattle.run_rows.specs.Asks.{desk_texts}
-use Rattle.stamped_list.specs.Rows.{stamped_texts}
-use Rattle.kept_session.specs.Links.{IsOpened}
-use Rattle.kept_session.specs.declared.stop.ReadStop.{ReadStop}
-use Rattle.kept_session.specs.declared.stop.ReadStop.TheVariants as reading
+use Rattle.log_stamps.specs.Rows.{stamped_texts}
+use Rattle.log_session.specs.Links.{IsOpened}
+use Rattle.log_session.specs.declared.stop.ReadStop.{ReadStop}
+use Rattle.log_session.specs.declared.stop.ReadStop.TheVariants as reading
 use Rattle.office_history.specs.Answer.{IsLegal}
-use Rattle.office_lock.specs.Passes.{IsOlder, numbered}
-use Rattle.office_lock.specs.declared.turned.Stand.{Stand}
-use Rattle.headline.proofs.Office.{from_kept, to_kept}
-use Rattle.kept_runs.specs.Ends.{EndsWith, told, untold}
-use Rattle.kept_runs.specs.Statuses.{open_line, open_status, read_line, read_status}
-use Rattle.stamped_list.specs.Entries.{entries}
-use Rattle.stamped_list.specs.declared.entry.StampedEntry.{StampedEntry}
-use Rattle.kept_crews.specs.DeskTexts.{admitted_text, desks_status, desks_text}
-use Rattle.kept_crews.specs.DesksDone.{HasNamed}
-use Rattle.kept_crews.specs.Names.{names_of}
-use Rattle.kept_crews.specs.RanCrew.{AreRead, IsDeskOf, unopened, starved, worked, unasked, unread, read, input_at, rows_at}
+use Rattle.log_lock.specs.Passes.{IsOlder, numbered}
+use Rattle.log_lock.specs.declared.turned.Snapshot.{Snapshot}
+use Rattle.run_claims.proofs.Office.{from_kept, to_kept}
+use Rattle.log_runs.specs.Ends.{EndsWith, told, untold}
+use Rattle.log_runs.specs.Statuses.{open_line, open_status, read_line, read_status}
+use Rattle.log_stamps.specs.Entries.{entries}
+use Rattle.log_stamps.specs.declared.entry.StampedEntry.{StampedEntry}
+use Rattle.log_desk_runs.specs.DeskTexts.{admitted_text, desks_status, desks_text}
+use Rattle.log_desk_runs.specs.DesksDone.{HasNamed}
+use Rattle.log_desk_runs.specs.Names.{names_of}
+use Rattle.log_desk_runs.specs.RanDesksOn.{AreRead, IsDeskOf, unopened, starved, worked, unasked, unread, read, input_at, rows_at}
 use Rattle.run_office.specs.Copies.{kept_stamped, same_stamped}
 use Rattle.run_office.specs.CopyLaws.{stamped_alike, stamped_itself, stamped_owned, stamped_tells}
 use Rattle.run_office.specs.RanDesks.{FilesAll, HasFiled, RanDesks, View, left_of, reads_of, rows_under}
 use Rattle.run_office.specs.declared.desks.DeskInput.{DeskInput}
 use Rattle.run_office.proofs.Admitting.{IsOwn, admitted_lines, asked_of, numbered_at, row_files, row_shown}
-use Rattle.kept_crews.proofs.ByPlace.{row_behind, rows_named}
-use Rattle.kept_crews.proofs.Filers.{in_one}
-use Rattle.kept_crews.proofs.Following.{entries_append, entries_older, length-entries}
-use Rattle.kept_crews.proofs.NameLists.{told_by}
-use Rattle.kept_crews.proofs.Naming.{told_named}
-use Rattle.kept_crews.proofs.Named.{of_desk, seen_in_closed, undecided_at}
-use Rattle.kept_crews.proofs.Reading.{some_of}
-use Rattle.kept_crews.proofs.CrewStatus.{few_statuses, status_shown, stopped_status, text_shown}
+use Rattle.log_desk_runs.proofs.ByPlace.{row_behind, rows_named}
+use Rattle.log_desk_runs.proofs.Filers.{in_one}
+use Rattle.log_desk_runs.proofs.Following.{entries_append, entries_older, length-entries}
+use Rattle.log_desk_runs.proofs.NameLists.{told_by}
+use Rattle.log_desk_runs.proofs.Naming.{told_named}
+use Rattle.log_desk_runs.proofs.Named.{of_desk, seen_in_closed, undecided_at}
+use Rattle.log_desk_runs.proofs.Reading.{some_of}
+use Rattle.log_desk_runs.proofs.CrewStatus.{few_statuses, status_shown, stopped_status, text_shown}
 use Rattle.run_office.proofs.Replies.{IsOf, all_desks, no_files, said_in}
 
 -- of a run's last text a front was written, and all of it where the status isn't that of a failed write
@@ -155,10 +155,10 @@ module _ {D S K : Type 0} (disk : Ghosts D) (source : SourceGhosts S) (sink : Si
       (opened : IsOpened disk office_scheme list old at)
       (ran : HasFiled (stand_of list None [] None (disk.faults old) (disk.tells at).honest) (stand_of history pending log waiting (disk.faults new) (disk.tells new).honest) before after)
       (sound : IsHonest (disk.tells new) → IsSound office_scheme (disk.tells new) history pending) where
-    abbrev start : Stand (Filed (StampedEntry Filing))
+    abbrev start : Snapshot (Filed (StampedEntry Filing))
     start = stand_of list None [] None (disk.faults old) (disk.tells at).honest
 
-    abbrev end : Stand (Filed (StampedEntry Filing))
+    abbrev end : Snapshot (Filed (StampedEntry Filing))
     end = stand_of history pending log waiting (disk.faults new) (disk.tells new).honest
 
     abbrev added : List (StampedEntry Filing)
@@ -210,8 +210,8 @@ module _ {D S K : Type 0} (disk : Ghosts D) (source : SourceGhosts S) (sink : Si
         subst (λ l. DeskTexts by list l status 1 files (desks_text after)) closed (subst (DeskTexts by list history status 1 files) (sym (text_shown after ran.desks ran.shown))
         (all_desks by start list history status (entries_filed list []) legal 1 files before ran.desks (has_read.count ∙ sym (length-map inputs files_of)) ran.count
         ran.each (λ k d lt. subst (λ (n : ℕ). IsOf n (get_or files k no_files) (get_or before k d)) (omega arith) (of k d lt))
-        (λ k d lt. subst (IsOlder (entries_of (ran.each k d lt).known.seen)) (entries_filed history log) (entries_older (ran.each k d lt).known.seen end.list (seen_in_closed office_judging filing_asked kept_stamped (stamped_texts desk_texts) left_of start end before after ran k d lt)))
-        (λ k d lt. rows_named office_judging filing_asked kept_stamped (stamped_texts desk_texts) left_of start end before after ran k d lt (1 + k) ((of k d lt).numbered ∙ omega arith))
+        (λ k d lt. subst (IsOlder (entries_of (ran.each k d lt).known.seen)) (entries_filed history log) (entries_older (ran.each k d lt).known.seen end.list (seen_in_closed office_semantics filing_asked kept_stamped (stamped_texts desk_texts) left_of start end before after ran k d lt)))
+        (λ k d lt. rows_named office_semantics filing_asked kept_stamped (stamped_texts desk_texts) left_of start end before after ran k d lt (1 + k) ((of k d lt).numbered ∙ omega arith))
         stopped))
 
     -- the row that a desk's entry is named by files it
@@ -234,7 +234,7 @@ module _ {D S K : Type 0} (disk : Ghosts D) (source : SourceGhosts S) (sink : Si
         let many : length start.list ≡ length list = sym (length-entries start.list) ∙ ap length (entries_filed list []) in
         let here : length start.list + (length ran.ran.added - 1 - k) + 1 ≡ n + 1 = omega (arith, many, at) in
         let has = subst (λ (p : ℕ). Contains (numbered (length start.list) ran.ran.added) (p, get_or ran.ran.added k d)) here (numbered_at (length start.list) ran.ran.added k d lt) in
-        named_shown n (n + 1, told_by same_stamped after (n + 1) (get_or ran.ran.added k d)) refl (told_named office_judging filing_asked kept_stamped same_stamped (stamped_texts desk_texts) left_of asked_of stamped_tells stamped_itself stamped_owned stamped_alike start end before after ran numbers (n + 1, get_or ran.ran.added k d) has)))
+        named_shown n (n + 1, told_by same_stamped after (n + 1) (get_or ran.ran.added k d)) refl (told_named office_semantics filing_asked kept_stamped same_stamped (stamped_texts desk_texts) left_of asked_of stamped_tells stamped_itself stamped_owned stamped_alike start end before after ran numbers (n + 1, get_or ran.ran.added k d) has)))
 
     -- an undecided filing is a row's at which its desk stopped
     undecided_files : ShowStops → (f : StampedEntry Filing) → pending ≡ Some f → (status ≢ 0) × (by : RowName) × FilesUnder (row_at files by) f
@@ -243,12 +243,12 @@ module _ {D S K : Type 0} (disk : Ghosts D) (source : SourceGhosts S) (sink : Si
         of_row : (by : RowName) → end.pending ≡ Some (record { entry = f; by = by }) → (status ≢ 0) × (by : RowName) × FilesUnder (row_at files by) f
         of_row by named =
             let entry : ℕ × Filed (StampedEntry Filing) = (length end.list + 1, record { entry = f; by = by }) in
-            let (k, x, lt, at, there) = in_one (λ (v : View). left_in v.pass) ran.desks entry (ran.ran.pending (record { entry = f; by = by }) named) in
+            let (k, x, lt, at, there) = in_one (λ (v : View). left_in v.handle) ran.desks entry (ran.ran.pending (record { entry = f; by = by }) named) in
             let inside : k < length before = omega (arith, lt, ran.count) in
             let own = ran.each k x inside in
-            let left = subst (λ l. Contains l entry) (ap left_in (ap (λ (v : View). v.pass) at ∙ own.has)) there in
+            let left = subst (λ l. Contains l entry) (ap left_in (ap (λ (v : View). v.handle) at ∙ own.has)) there in
             let ended = (undecided_at filing_asked _ (get_or ran.desks k x).ended own.files.taken own.files.rest own.known entry own.files.ends left).0 in
-            (stopped k x (DiskFault (Some entry.0)) inside ended, by, named_files entry (of_desk office_judging filing_asked kept_stamped (stamped_texts desk_texts) left_of start end before after ran k x entry lt at (inr there)))
+            (stopped k x (DiskFault (Some entry.0)) inside ended, by, named_files entry (of_desk office_semantics filing_asked kept_stamped (stamped_texts desk_texts) left_of start end before after ran k x entry lt at (inr there)))
 
         go : (w : Option RowName) → waiting ≡ w → (status ≢ 0) × (by : RowName) × FilesUnder (row_at files by) f
         go None none = of_row no_row (ap (λ p. filed_pending p waiting) is ∙ ap (λ w. filed_pending (Some f) w) none)

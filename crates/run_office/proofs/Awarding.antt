@@ -5,27 +5,27 @@ use Rattle.std.specs.List.{slice_get}
 use Rattle.aid_types.proofs.Same.{same_with_fact}
 use Rattle.aid_types.specs.Ranges.{IsBetween}
 use Rattle.aid_filings.specs.declared.filing.Filing.{Filing}
-use Rattle.aid_filings.specs.declared.reply.Ask.{Ask}
-use Rattle.award_rounds.specs.Planned.{IsPlanned}
-use Rattle.award_rounds.specs.declared.request.RoundRequest.{RoundRequest}
-use Rattle.disk_model.specs.declared.disk.Disk.{Ghosts}
-use Rattle.fund_policy.specs.Rounds.{IsRound}
-use Rattle.fund_policy.specs.declared.candidate.Candidate.{Candidate}
-use Rattle.kept_list.specs.Scheme.{Judging, Scheme}
-use Rattle.kept_session.specs.Planned.{Closes, Planned, filed, unopened, unplanned}
-use Rattle.kept_session.specs.Edges.{Output}
-use Rattle.kept_list.specs.Texts.{Texts}
-use Rattle.kept_session.specs.declared.stop.FileStop.{FileStop}
-use Rattle.kept_session.specs.declared.stop.SessionStop.{SessionStop}
-use Rattle.kept_office.specs.Scheme.{office_scheme}
-use Rattle.kept_office.specs.Turns.{office_judging}
-use Rattle.kept_session.specs.Asks.{rows_of_asks}
-use Rattle.stamps.specs.declared.stamp.Stamp.{Stamp}
-use Rattle.stamped_list.specs.Entries.{entries}
-use Rattle.stamped_list.specs.Rows.{ask_under, stamped_rows, stamped_texts}
-use Rattle.stamped_list.specs.declared.entry.StampedAsk.{StampedAsk}
-use Rattle.stamped_list.specs.declared.entry.StampedEntry.{StampedEntry}
-use Rattle.stamped_list.specs.declared.entry.StampedError.{StampedError}
+use Rattle.aid_filings.specs.declared.reply.Operation.{Operation}
+use Rattle.office_rounds.specs.Planned.{IsPlanned}
+use Rattle.office_rounds.specs.declared.request.RoundRequest.{RoundRequest}
+use Rattle.io_traits.specs.declared.disk.Disk.{Ghosts}
+use Rattle.law_funds.specs.Rounds.{IsRound}
+use Rattle.law_funds.specs.declared.candidate.Candidate.{Candidate}
+use Rattle.log_machine.specs.Scheme.{Semantics, Scheme}
+use Rattle.log_session.specs.Planned.{Closes, Planned, filed, unopened, unplanned}
+use Rattle.log_session.specs.Edges.{Output}
+use Rattle.log_machine.specs.Texts.{Texts}
+use Rattle.log_session.specs.declared.stop.FileStop.{FileStop}
+use Rattle.log_session.specs.declared.stop.SessionStop.{SessionStop}
+use Rattle.office_log.specs.Scheme.{office_scheme}
+use Rattle.office_log.specs.Submits.{office_semantics}
+use Rattle.log_session.specs.Asks.{rows_of_asks}
+use Rattle.aid_stamps.specs.declared.stamp.Stamp.{Stamp}
+use Rattle.log_stamps.specs.Entries.{entries}
+use Rattle.log_stamps.specs.Rows.{ask_under, stamped_rows, stamped_texts}
+use Rattle.log_stamps.specs.declared.entry.StampedOperation.{StampedOperation}
+use Rattle.log_stamps.specs.declared.entry.StampedEntry.{StampedEntry}
+use Rattle.log_stamps.specs.declared.entry.StampedError.{StampedError}
 use Rattle.run_office.specs.Rounds.{asks_of, gives_at, left_line, round_plans, round_texts}
 
 -- rounds with the same fields are the same
@@ -52,8 +52,8 @@ module _ (gives other : ℕ → ℤ → ℕ → ℕ → Type 0) (also : (need : 
     payments = is.payments;
   }
 
-  plans_also : (stamp : Stamp) (r : RoundRequest) (past : List (StampedEntry Filing)) (asks : List (StampedAsk Ask)) (closing : List ℕ) → round_plans gives stamp r past asks closing → round_plans other stamp r past asks closing
-  plans_also stamp r past asks closing (filings, left, is, asked, closed) = (filings, left, planned_also (entries past) r filings left is, asked, closed)
+  plans_also : (stamp : Stamp) (r : RoundRequest) (past : List (StampedEntry Filing)) (operations : List (StampedOperation Operation)) (closing : List ℕ) → round_plans gives stamp r past operations closing → round_plans other stamp r past operations closing
+  plans_also stamp r past operations closing (filings, left, is, asked, closed) = (filings, left, planned_also (entries past) r filings left is, asked, closed)
 
 -- what was planned on the filings of a list is a plan on the list: of the same round, each ask under the stamp
 pub plans_under : (gives : ℕ → ℤ → ℕ → ℕ → Type 0) (stamp : Stamp) (r same : RoundRequest) (list : List Filing) (past : List (StampedEntry Filing)) (filings : List Filing) (closing : List ℕ) → r ≡ same → list ≡ entries past
@@ -67,32 +67,32 @@ plans_under gives stamp r same list past filings closing is at (left, planned, c
 )
 
 -- rows that are asks, under a stamp, are those of the asks under it
-pub rows_under : {Ask Verdict Error : Type 0} (texts : Texts Ask Verdict Error) (stamp : Stamp) (asks : List Ask)
-    → stamped_rows stamp (map texts.said (rows_of_asks {Error = Error} asks)) ≡ map (stamped_texts texts).said (rows_of_asks {Error = StampedError Error} (map (ask_under stamp) asks))
+pub rows_under : {Operation Response Error : Type 0} (texts : Texts Operation Response Error) (stamp : Stamp) (operations : List Operation)
+    → stamped_rows stamp (map texts.said (rows_of_asks {Error = Error} operations)) ≡ map (stamped_texts texts).said (rows_of_asks {Error = StampedError Error} (map (ask_under stamp) operations))
 rows_under texts stamp [] = refl
-rows_under texts stamp (ask ∷ asks) = ap (λ (l : List _). (texts.said (Ok ask), stamp) ∷ l) (rows_under texts stamp asks)
+rows_under texts stamp (operation ∷ operations) = ap (λ (l : List _). (texts.said (Ok operation), stamp) ∷ l) (rows_under texts stamp operations)
 
 -- the disk was given back, and the rows and the closing text are known by other words
-pub closes_as : {D Entry Ask Verdict Error : Type 0} (disk : Ghosts D) (scheme : Scheme Entry) (judging : Judging Entry Ask Verdict) (texts : Texts Ask Verdict Error) (past : List Entry) (at new given : D) (output : Output)
+pub closes_as : {D Entry Operation Response Error : Type 0} (disk : Ghosts D) (scheme : Scheme Entry) (semantics : Semantics Entry Operation Response) (texts : Texts Operation Response Error) (past : List Entry) (at new given : D) (output : Output)
     (left others : List texts.Meaning) (closing same : List ℕ) (ended : Result Unit FileStop) → given ≡ new → left ≡ others → closing ≡ same
-    → Closes disk scheme judging texts past at new output left closing ended → Closes disk scheme judging texts past at given output others same ended
-closes_as disk scheme judging texts past at new given output left others closing same ended back are is closes =
-    subst (λ (d : _). Closes disk scheme judging texts past at d output others same ended) (sym back)
-    (subst (λ (t : List ℕ). Closes disk scheme judging texts past at new output others t ended) is
-    (subst (λ (l : List texts.Meaning). Closes disk scheme judging texts past at new output l closing ended) are closes))
+    → Closes disk scheme semantics texts past at new output left closing ended → Closes disk scheme semantics texts past at given output others same ended
+closes_as disk scheme semantics texts past at new given output left others closing same ended back are is closes =
+    subst (λ (d : _). Closes disk scheme semantics texts past at d output others same ended) (sym back)
+    (subst (λ (t : List ℕ). Closes disk scheme semantics texts past at new output others t ended) is
+    (subst (λ (l : List texts.Meaning). Closes disk scheme semantics texts past at new output l closing ended) are closes))
 
 -- rows that were planned by one relation were by any that follows from it
-pub planned_by : {D Entry Ask Verdict Error : Type 0} (disk : Ghosts D) (scheme : Scheme Entry) (judging : Judging Entry Ask Verdict) (texts : Texts Ask Verdict Error) (plans other : List Entry → List Ask → List ℕ → Type 0)
-    → ((past : List Entry) (asks : List Ask) (closing : List ℕ) → plans past asks closing → other past asks closing)
-    → (old new : D) (output : Output) (ended : Result Unit SessionStop) → Planned disk scheme judging texts plans old new output ended → Planned disk scheme judging texts other old new output ended
-planned_by disk scheme judging texts plans other also old new output ended (unopened error not same) = unopened error not same
-planned_by disk scheme judging texts plans other also old new output ended (unplanned past is same) = unplanned past is same
-planned_by disk scheme judging texts plans other also old new output ended (filed past at asks closing inner is planned closes) = filed past at asks closing inner is (also past asks closing planned) closes
+pub planned_by : {D Entry Operation Response Error : Type 0} (disk : Ghosts D) (scheme : Scheme Entry) (semantics : Semantics Entry Operation Response) (texts : Texts Operation Response Error) (plans other : List Entry → List Operation → List ℕ → Type 0)
+    → ((past : List Entry) (operations : List Operation) (closing : List ℕ) → plans past operations closing → other past operations closing)
+    → (old new : D) (output : Output) (ended : Result Unit SessionStop) → Planned disk scheme semantics texts plans old new output ended → Planned disk scheme semantics texts other old new output ended
+planned_by disk scheme semantics texts plans other also old new output ended (unopened error not same) = unopened error not same
+planned_by disk scheme semantics texts plans other also old new output ended (unplanned past is same) = unplanned past is same
+planned_by disk scheme semantics texts plans other also old new output ended (filed past at operations closing inner is planned closes) = filed past at operations closing inner is (also past operations closing planned) closes
 
 -- a round by the policy that stands at a place is one by what the policies give
 pub planned_at : {D Policy : Type 0} (disk : Ghosts D) (policies : List Policy) (policy : Policy) (place : ℕ) (gives : Policy → ℕ → ℤ → ℕ → ℕ → Type 0) (stamp : Stamp) (r : RoundRequest) (old new : D) (output : Output) (ended : Result Unit SessionStop)
-    → slice_get policies place ≡ Some policy → Planned disk office_scheme office_judging (stamped_texts round_texts) (round_plans (gives policy) stamp r) old new output ended
-    → Planned disk office_scheme office_judging (stamped_texts round_texts) (round_plans (gives_at policies gives place) stamp r) old new output ended
+    → slice_get policies place ≡ Some policy → Planned disk office_scheme office_semantics (stamped_texts round_texts) (round_plans (gives policy) stamp r) old new output ended
+    → Planned disk office_scheme office_semantics (stamped_texts round_texts) (round_plans (gives_at policies gives place) stamp r) old new output ended
 planned_at disk policies policy place gives stamp r old new output ended stands planned =
-    planned_by disk office_scheme office_judging (stamped_texts round_texts) (round_plans (gives policy) stamp r) (round_plans (gives_at policies gives place) stamp r)
+    planned_by disk office_scheme office_semantics (stamped_texts round_texts) (round_plans (gives policy) stamp r) (round_plans (gives_at policies gives place) stamp r)
     (plans_also (gives policy) (gives_at policies gives place) (λ need sai intensity award gave. (policy, stands, gave)) stamp r) old new output ended planned

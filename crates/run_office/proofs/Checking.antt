@@ -1,10 +1,10 @@
 -- Rows that are looked at make no call on the disk.
 use Rattle.std.proofs.Common.{◌≡◌, false, Result, refl}
-use Rattle.kept_session.specs.Edges.{Input, Output}
-use Rattle.kept_session.specs.declared.checking.CheckStop.{CheckStop}
-use Rattle.kept_session.specs.declared.checking.CheckTally.{CheckTally}
-use Rattle.kept_runs.specs.Statuses.{is_disk_fault}
-use Rattle.kept_runs.specs.declared.stop.RunStop.{RunStop}
+use Rattle.log_session.specs.Edges.{Input, Output}
+use Rattle.log_session.specs.declared.checking.CheckStop.{CheckStop}
+use Rattle.log_session.specs.declared.checking.CheckTally.{CheckTally}
+use Rattle.log_runs.specs.Statuses.{is_disk_fault}
+use Rattle.log_runs.specs.declared.stop.RunStop.{RunStop}
 use Rattle.run_office.specs.Ran.{ChecksRows, Tallies, tallied, unwritten, starved, stopped, from}
 use Rattle.run_office.specs.Ran as run
 

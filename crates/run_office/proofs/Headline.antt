@@ -1,47 +1,47 @@
 -- What a run of the command `file` comes to, in few words.
 use Rattle.std.proofs.Common.{◌≡◌, ◌≢◌, ◌⊎◌, inl, inr, ⊎_elim, ℕ, suc, ◌+◌, ◌<◌, List, [], ◌∷◌, ◌++◌, length, map, take, drop, codes, decimal, Some, None, Result, Ok, Err, IsTrue, IsOk, refl, sym, ◌∙◌, ap, subst, arith, append_assoc, append-nil, take-append-drop, length-drop}
 use Rattle.std.specs.Prelude.{flat_map}
-use Rattle.aid_edges.specs.declared.sink.Sink.{Ghosts as SinkGhosts}
+use Rattle.io_traits.specs.declared.sink.Sink.{Ghosts as SinkGhosts}
 use Rattle.aid_filings.specs.declared.filing.Filing.{Filing}
-use Rattle.aid_filings.specs.declared.reply.Ask.{Ask}
-use Rattle.desk_forms.specs.Rows.{meanings_from, row_meaning}
-use Rattle.field_rows.specs.declared.error.RowError.{RowError}
-use Rattle.disk_model.specs.Telling.{EachImage, EachMoment, IsHonest}
-use Rattle.disk_model.specs.declared.disk.Disk.{Ghosts}
-use Rattle.disk_model.proofs.Moments.{started, weaken}
-use Rattle.filing_journal.specs.declared.opening.OpenError.{OpenError}
-use Rattle.filing_journal.specs.declared.opening.OpenError.TheVariants as opening
-use Rattle.headline.specs.Filed.{Answers, HasFiled, IsFault, Row, Stops, between, more, none, rows_in, within}
-use Rattle.headline.specs.Office.{Recovers}
-use Rattle.headline.proofs.Office.{answered_under, from_kept, to_kept}
-use Rattle.kept_list.proofs.Histories.{recovers_once}
-use Rattle.kept_office.specs.OfficeLaws.{office_alone}
-use Rattle.kept_office.specs.Recovers as kept
-use Rattle.kept_office.specs.Scheme.{office_scheme}
-use Rattle.kept_office.specs.Turns.{office_judging}
-use Rattle.kept_session.specs.Edges.{Input}
-use Rattle.kept_session.specs.Links.{IsLink, Runs}
-use Rattle.kept_session.specs.Links as links
-use Rattle.kept_session.specs.Sessions.{Files, Opens, Session, all, ended_filing, faulted, opened, read, starved, unopened, unread, unwritten}
-use Rattle.kept_list.specs.Texts.{after_row, after_rows, lines_of, row_line}
-use Rattle.kept_session.specs.declared.stop.FileStop.{FileStop}
-use Rattle.kept_session.specs.declared.stop.FileStop.TheVariants as filing
-use Rattle.kept_session.specs.declared.stop.ReadStop.TheVariants as reading
-use Rattle.kept_session.specs.declared.stop.SessionStop.{SessionStop}
-use Rattle.kept_session.specs.declared.stop.SessionStop.TheVariants as ending
-use Rattle.kept_session.proofs.Fronts.{images_of_runs, runs_split}
-use Rattle.kept_session.proofs.Runs.{runs-honest}
+use Rattle.aid_filings.specs.declared.reply.Operation.{Operation}
+use Rattle.format_filings.specs.Rows.{meanings_from, row_meaning}
+use Rattle.format_rows.specs.declared.error.RowError.{RowError}
+use Rattle.io_traits.specs.DiskState.{EachImage, EachMoment, IsHonest}
+use Rattle.io_traits.specs.declared.disk.Disk.{Ghosts}
+use Rattle.io_traits.proofs.Moments.{started, weaken}
+use Rattle.log_journal.specs.declared.opening.OpenError.{OpenError}
+use Rattle.log_journal.specs.declared.opening.OpenError.TheVariants as opening
+use Rattle.run_claims.specs.Filed.{Answers, HasFiled, IsFault, Row, Stops, between, more, none, rows_in, within}
+use Rattle.run_claims.specs.Office.{Recovers}
+use Rattle.run_claims.proofs.Office.{answered_under, from_kept, to_kept}
+use Rattle.log_machine.proofs.Histories.{recovers_once}
+use Rattle.office_log.specs.OfficeLaws.{office_alone}
+use Rattle.office_log.specs.Recovers as kept
+use Rattle.office_log.specs.Scheme.{office_scheme}
+use Rattle.office_log.specs.Submits.{office_semantics}
+use Rattle.log_session.specs.Edges.{Input}
+use Rattle.log_session.specs.Links.{IsLink, Runs}
+use Rattle.log_session.specs.Links as links
+use Rattle.log_session.specs.Sessions.{Files, Opens, Session, all, ended_filing, faulted, opened, read, starved, unopened, unread, unwritten}
+use Rattle.log_machine.specs.Texts.{after_row, after_rows, lines_of, row_line}
+use Rattle.log_session.specs.declared.stop.FileStop.{FileStop}
+use Rattle.log_session.specs.declared.stop.FileStop.TheVariants as filing
+use Rattle.log_session.specs.declared.stop.ReadStop.TheVariants as reading
+use Rattle.log_session.specs.declared.stop.SessionStop.{SessionStop}
+use Rattle.log_session.specs.declared.stop.SessionStop.TheVariants as ending
+use Rattle.log_session.proofs.Fronts.{images_of_runs, runs_split}
+use Rattle.log_session.proofs.Runs.{runs-honest}
 use Rattle.run_rows.specs.Asks.{asked, desk_rows, desk_texts, said_by}
 use Rattle.office_history.specs.Answer.{IsLegal}
-use Rattle.stamps.specs.declared.stamp.Stamp.{Stamp}
-use Rattle.stamped_list.specs.Entries.{entries}
-use Rattle.stamped_list.specs.Rows.{said_under, stamped_rows, stamped_texts}
-use Rattle.stamped_list.specs.declared.entry.StampedAsk.{StampedAsk}
-use Rattle.stamped_list.specs.declared.entry.StampedEntry.{StampedEntry}
-use Rattle.stamped_list.specs.declared.entry.StampedError.{StampedError}
-use Rattle.kept_runs.specs.Ends.{EndsWith, told, untold}
-use Rattle.kept_runs.specs.Statuses.{session_line, session_status}
-use Rattle.kept_runs.specs.Counts.{written}
+use Rattle.aid_stamps.specs.declared.stamp.Stamp.{Stamp}
+use Rattle.log_stamps.specs.Entries.{entries}
+use Rattle.log_stamps.specs.Rows.{said_under, stamped_rows, stamped_texts}
+use Rattle.log_stamps.specs.declared.entry.StampedOperation.{StampedOperation}
+use Rattle.log_stamps.specs.declared.entry.StampedEntry.{StampedEntry}
+use Rattle.log_stamps.specs.declared.entry.StampedError.{StampedError}
+use Rattle.log_runs.specs.Ends.{EndsWith, told, untold}
+use Rattle.log_runs.specs.Statuses.{session_line, session_status}
+use Rattle.log_runs.specs.Counts.{written}
 use Rattle.run_office.specs.Ran.{FileRan}
 
 -- ---- the end of a run
@@ -118,7 +118,7 @@ some_cut n line less is = omega (arith, ap length is, length-drop n line, less)
 -- ---- the rows of an input
 -- a row that was read, under its stamp
 abbrev ReadRow : Type 0
-ReadRow = Result (StampedAsk Ask) (StampedError RowError)
+ReadRow = Result (StampedOperation Operation) (StampedError RowError)
 
 -- what the rows say under a stamp, the first of them with this number
 abbrev Told : Type 0
@@ -137,8 +137,8 @@ one_more [] row rest = refl
 one_more (first ∷ rows) row rest = ap (λ (l : List Told). said_under said_by first ∷ l) (one_more rows row rest)
 
 -- the one link of one row
-one_link : {D : Type 0} (disk : Ghosts D) (row : ReadRow) (past : List (StampedEntry Filing)) (old new : D) → Runs disk office_scheme office_judging (row ∷ []) past old new
-    → IsLink disk office_scheme office_judging row past old new
+one_link : {D : Type 0} (disk : Ghosts D) (row : ReadRow) (past : List (StampedEntry Filing)) (old new : D) → Runs disk office_scheme office_semantics (row ∷ []) past old new
+    → IsLink disk office_scheme office_semantics row past old new
 one_link disk row past old new (links.answered _ _ _ _ _ _ link (links.begun _ _)) = link
 
 module _ {D : Type 0} (stamp : Stamp) (disk : Ghosts D) (only : (d : D) (c : List ℕ) → IsHonest (disk.tells d) → (disk.tells d).image_since (disk.tells d).moment c → (disk.tells d).image c)
@@ -160,9 +160,9 @@ module _ {D : Type 0} (stamp : Stamp) (disk : Ghosts D) (only : (d : D) (c : Lis
   is_legal : (at : D) (past : List (StampedEntry Filing)) → IsHonest (disk.tells at) → Each at past → IsLegal (entries past)
   is_legal at past honest each = (each (disk.tells at).reads (here at honest)).legal
 
-  turn : (old new : D) (past after : List (StampedEntry Filing)) → EachMoment (disk.tells old) (disk.tells new) (kept.RecoversEither past after)
+  submit : (old new : D) (past after : List (StampedEntry Filing)) → EachMoment (disk.tells old) (disk.tells new) (kept.RecoversEither past after)
       → EachMoment (disk.tells old) (disk.tells new) (λ file. Recovers file past ⊎ Recovers file after)
-  turn old new past after moments =
+  submit old new past after moments =
       weaken (disk.tells old) (disk.tells new) (kept.RecoversEither past after) (λ file. Recovers file past ⊎ Recovers file after)
       (λ c r. ⊎_elim (λ one. inl (from_kept c past one)) (λ other. inr (from_kept c after other)) r) moments
 
@@ -173,11 +173,11 @@ module _ {D : Type 0} (stamp : Stamp) (disk : Ghosts D) (only : (d : D) (c : Lis
     whole : texts ≡ front ++ behind
     size : length front ≡ length rows
     later : said_from stamp (number + length front) behind ≡ rest
-    answers : Answers disk stamp number front past (after_rows office_judging past rows) (lines_of office_judging (stamped_texts desk_texts) past number rows) old new
+    answers : Answers disk stamp number front past (after_rows office_semantics past rows) (lines_of office_semantics (stamped_texts desk_texts) past number rows) old new
 
   -- one row in front of them
   one_front : (number : ℕ) (text : Row) (texts : List Row) (rest : List Told) (row : ReadRow) (rows : List ReadRow) (past : List (StampedEntry Filing)) (old mid new : D) → IsHonest (disk.tells old) → Each old past
-      → said_under said_by row ≡ (asked (row_meaning number text), stamp) → IsLink disk office_scheme office_judging row past old mid → Front (number + 1) texts rest rows (after_row office_judging past row) mid new
+      → said_under said_by row ≡ (asked (row_meaning number text), stamp) → IsLink disk office_scheme office_semantics row past old mid → Front (number + 1) texts rest rows (after_row office_semantics past row) mid new
       → Front number (text ∷ texts) rest (row ∷ rows) past old new
   one_front number text texts rest row rows past old mid new honest each this link f = record {
     front = text ∷ f.front;
@@ -185,15 +185,15 @@ module _ {D : Type 0} (stamp : Stamp) (disk : Ghosts D) (only : (d : D) (c : Lis
     whole = ap (λ (l : List Row). text ∷ l) f.whole;
     size = ap suc f.size;
     later = subst (λ (n : ℕ). said_from stamp n f.behind ≡ rest) (omega arith) f.later;
-    answers = more number text f.front past (after_row office_judging past row) (after_rows office_judging (after_row office_judging past row) rows)
-        (row_line office_judging (stamped_texts desk_texts) past number row) (lines_of office_judging (stamped_texts desk_texts) (after_row office_judging past row) (number + 1) rows) old mid new
-        (answered_under stamp past number text row (is_legal old past honest each) this) (turn old mid past (after_row office_judging past row) (link.moments honest))
-        (λ c image. from_kept c (after_row office_judging past row) (link.images honest c image)) f.answers;
+    answers = more number text f.front past (after_row office_semantics past row) (after_rows office_semantics (after_row office_semantics past row) rows)
+        (row_line office_semantics (stamped_texts desk_texts) past number row) (lines_of office_semantics (stamped_texts desk_texts) (after_row office_semantics past row) (number + 1) rows) old mid new
+        (answered_under stamp past number text row (is_legal old past honest each) this) (submit old mid past (after_row office_semantics past row) (link.moments honest))
+        (λ c image. from_kept c (after_row office_semantics past row) (link.images honest c image)) f.answers;
   }
 
   -- rows that were answered one after the other
   fronts : (number : ℕ) (texts : List Row) (rest : List Told) (rows : List ReadRow) (past : List (StampedEntry Filing)) (old new : D) → IsHonest (disk.tells old) → Each old past
-      → said_from stamp number texts ≡ map (said_under said_by) rows ++ rest → Runs disk office_scheme office_judging rows past old new → Front number texts rest rows past old new
+      → said_from stamp number texts ≡ map (said_under said_by) rows ++ rest → Runs disk office_scheme office_semantics rows past old new → Front number texts rest rows past old new
   fronts number texts rest rows past old new honest each is (links.begun _ _) = record {
     front = [];
     behind = texts;
@@ -205,7 +205,7 @@ module _ {D : Type 0} (stamp : Stamp) (disk : Ghosts D) (only : (d : D) (c : Lis
   fronts number [] rest rows past old new honest each is (links.answered row _ _ _ _ _ _ _) = absurd (let bad : ⊥ = cc in bad)
   fronts number (text ∷ texts) rest rows past old new honest each is (links.answered row others _ _ mid _ link runs) =
       one_front number text texts rest row others past old mid new honest each (let this : said_under said_by row ≡ (asked (row_meaning number text), stamp) = cc in this) link
-      (fronts (number + 1) texts rest others (after_row office_judging past row) mid new (subst IsTrue (sym link.honest) honest) (link.images honest)
+      (fronts (number + 1) texts rest others (after_row office_semantics past row) mid new (subst IsTrue (sym link.honest) honest) (link.images honest)
       (subst (λ (n : ℕ). said_from stamp n texts ≡ map (said_under said_by) others ++ rest) (omega arith) (let behind : said_from stamp (suc number) texts ≡ map (said_under said_by) others ++ rest = cc in behind)) runs)
 
   -- between two rows
@@ -216,14 +216,14 @@ module _ {D : Type 0} (stamp : Stamp) (disk : Ghosts D) (only : (d : D) (c : Lis
   -- the turn of a row at which a session stopped
   stopped_within : (number place : ℕ) (texts : List Row) (row : ReadRow) (rest : List Told) (past : List (StampedEntry Filing)) (old new : D) (text : List ℕ) → number ≡ place
       → said_from stamp number texts ≡ said_under said_by row ∷ rest → IsLegal (entries past)
-      → EachMoment (disk.tells old) (disk.tells new) (kept.RecoversEither past (after_row office_judging past row))
-      → (cut : List ℕ) × (IsFault text cut ⊎ ((text ++ cut ≡ row_line office_judging (stamped_texts desk_texts) past place row) × (cut ≢ [])))
+      → EachMoment (disk.tells old) (disk.tells new) (kept.RecoversEither past (after_row office_semantics past row))
+      → (cut : List ℕ) × (IsFault text cut ⊎ ((text ++ cut ≡ row_line office_semantics (stamped_texts desk_texts) past place row) × (cut ≢ [])))
       → Stops stamp past place (disk.tells old) (disk.tells new) texts text
   stopped_within number place [] row rest past old new text same is legal moments part = absurd (let bad : ⊥ = cc in bad)
   stopped_within number place (fields ∷ texts) row rest past old new text same is legal moments part =
       let this : said_under said_by row ≡ (asked (row_meaning number fields), stamp) = cc in
-      within fields texts (row_line office_judging (stamped_texts desk_texts) past place row) text part.0 (after_row office_judging past row)
-      (answered_under stamp past place fields row legal (subst (λ (n : ℕ). said_under said_by row ≡ (asked (row_meaning n fields), stamp)) same this)) (turn old new past (after_row office_judging past row) moments) part.1
+      within fields texts (row_line office_semantics (stamped_texts desk_texts) past place row) text part.0 (after_row office_semantics past row)
+      (answered_under stamp past place fields row legal (subst (λ (n : ℕ). said_under said_by row ≡ (asked (row_meaning n fields), stamp)) same this)) (submit old new past (after_row office_semantics past row) moments) part.1
 
   module _ {K : Type 0} (sink : SinkGhosts K) (old new : D) (input : Input) (out out' : K) (status : ℕ) (honest : IsHonest (disk.tells old)) (sincere : IsTrue input.honest) (sound : IsTrue (sink.honest out)) where
     -- what a run comes to
@@ -232,18 +232,18 @@ module _ {D : Type 0} (stamp : Stamp) (disk : Ghosts D) (only : (d : D) (c : Lis
 
     -- from the rows that were answered, and what is behind their lines
     comes : (past : List (StampedEntry Filing)) (begun : D) (mid : D) (rows : List ReadRow) (rest : List Told) (stop : List ℕ) (f : Front 1 (rows_in input.before) rest rows past begun mid) → Stays old begun past
-        → sink.text out' ≡ (sink.text out ++ lines_of office_judging (stamped_texts desk_texts) past 1 rows) ++ stop
-        → Stops stamp (after_rows office_judging past rows) (length f.front + 1) (disk.tells mid) (disk.tells new) f.behind stop
+        → sink.text out' ≡ (sink.text out ++ lines_of office_semantics (stamped_texts desk_texts) past 1 rows) ++ stop
+        → Stops stamp (after_rows office_semantics past rows) (length f.front + 1) (disk.tells mid) (disk.tells new) f.behind stop
         → (status ≡ 0 → (f.behind ≡ []) × (stop ≡ [])) → (status ≢ 6) × (status ≢ 7) → Comes past
     comes past begun mid rows rest stop f opens is stops done allowed = (
-      lines_of office_judging (stamped_texts desk_texts) past 1 rows ++ stop,
-      is ∙ append_assoc (sink.text out) (lines_of office_judging (stamped_texts desk_texts) past 1 rows) stop,
+      lines_of office_semantics (stamped_texts desk_texts) past 1 rows ++ stop,
+      is ∙ append_assoc (sink.text out) (lines_of office_semantics (stamped_texts desk_texts) past 1 rows) stop,
       record {
         answered = f.front;
         left = f.behind;
         whole = f.whole;
-        last = after_rows office_judging past rows;
-        lines = lines_of office_judging (stamped_texts desk_texts) past 1 rows;
+        last = after_rows office_semantics past rows;
+        lines = lines_of office_semantics (stamped_texts desk_texts) past 1 rows;
         stop = stop;
         written = refl;
         opened = begun;
@@ -269,27 +269,27 @@ module _ {D : Type 0} (stamp : Stamp) (disk : Ghosts D) (only : (d : D) (c : Lis
 
     -- in the turn of a row
     comes_within : (past : List (StampedEntry Filing)) (begun mid : D) (front : List ReadRow) (row : ReadRow) (rest : List Told) (stop : List ℕ)
-        → Front 1 (rows_in input.before) (said_under said_by row ∷ rest) front past begun mid → Stays old begun past → IsLegal (entries (after_rows office_judging past front))
-        → EachMoment (disk.tells mid) (disk.tells new) (kept.RecoversEither (after_rows office_judging past front) (after_row office_judging (after_rows office_judging past front) row))
-        → sink.text out' ≡ (sink.text out ++ lines_of office_judging (stamped_texts desk_texts) past 1 front) ++ stop
-        → (cut : List ℕ) × (IsFault stop cut ⊎ ((stop ++ cut ≡ row_line office_judging (stamped_texts desk_texts) (after_rows office_judging past front) (length front + 1) row) × (cut ≢ [])))
+        → Front 1 (rows_in input.before) (said_under said_by row ∷ rest) front past begun mid → Stays old begun past → IsLegal (entries (after_rows office_semantics past front))
+        → EachMoment (disk.tells mid) (disk.tells new) (kept.RecoversEither (after_rows office_semantics past front) (after_row office_semantics (after_rows office_semantics past front) row))
+        → sink.text out' ≡ (sink.text out ++ lines_of office_semantics (stamped_texts desk_texts) past 1 front) ++ stop
+        → (cut : List ℕ) × (IsFault stop cut ⊎ ((stop ++ cut ≡ row_line office_semantics (stamped_texts desk_texts) (after_rows office_semantics past front) (length front + 1) row) × (cut ≢ [])))
         → Allowed status → Comes past
     comes_within past begun mid front row rest stop f opens legal moments is part fine =
         comes past begun mid front (said_under said_by row ∷ rest) stop f opens is
-        (stopped_within (1 + length f.front) (length f.front + 1) f.behind row rest (after_rows office_judging past front) mid new stop (omega arith) f.later legal moments
-        (subst (λ (n : ℕ). (cut : List ℕ) × (IsFault stop cut ⊎ ((stop ++ cut ≡ row_line office_judging (stamped_texts desk_texts) (after_rows office_judging past front) (n + 1) row) × (cut ≢ [])))) (sym f.size) part))
+        (stopped_within (1 + length f.front) (length f.front + 1) f.behind row rest (after_rows office_semantics past front) mid new stop (omega arith) f.later legal moments
+        (subst (λ (n : ℕ). (cut : List ℕ) × (IsFault stop cut ⊎ ((stop ++ cut ≡ row_line office_semantics (stamped_texts desk_texts) (after_rows office_semantics past front) (n + 1) row) × (cut ≢ [])))) (sym f.size) part))
         (λ zero. absurd (fine.0 zero)) fine.1
 
     -- a list that was opened, and the rows in front that were filed
     module _ (past : List (StampedEntry Filing)) (begun : D) (at : K) (opens : Stays old begun past) (sure : IsHonest (disk.tells begun)) (each : Each begun past) (truth : sink.honest at ≡ sink.honest out) where
-      sure_behind : (rows : List ReadRow) (mid : D) → Runs disk office_scheme office_judging rows past begun mid → IsHonest (disk.tells mid)
-      sure_behind rows mid runs = subst IsTrue (sym (runs-honest office_judging disk office_scheme past begun mid rows runs)) sure
+      sure_behind : (rows : List ReadRow) (mid : D) → Runs disk office_scheme office_semantics rows past begun mid → IsHonest (disk.tells mid)
+      sure_behind rows mid runs = subst IsTrue (sym (runs-honest office_semantics disk office_scheme past begun mid rows runs)) sure
 
-      each_behind : (rows : List ReadRow) (mid : D) → Runs disk office_scheme office_judging rows past begun mid → Each mid (after_rows office_judging past rows)
-      each_behind rows mid runs = images_of_runs disk office_scheme office_judging only rows past begun mid sure each runs
+      each_behind : (rows : List ReadRow) (mid : D) → Runs disk office_scheme office_semantics rows past begun mid → Each mid (after_rows office_semantics past rows)
+      each_behind rows mid runs = images_of_runs disk office_scheme office_semantics only rows past begun mid sure each runs
 
-      legal_behind : (rows : List ReadRow) (mid : D) → Runs disk office_scheme office_judging rows past begun mid → IsLegal (entries (after_rows office_judging past rows))
-      legal_behind rows mid runs = is_legal mid (after_rows office_judging past rows) (sure_behind rows mid runs) (each_behind rows mid runs)
+      legal_behind : (rows : List ReadRow) (mid : D) → Runs disk office_scheme office_semantics rows past begun mid → IsLegal (entries (after_rows office_semantics past rows))
+      legal_behind rows mid runs = is_legal mid (after_rows office_semantics past rows) (sure_behind rows mid runs) (each_behind rows mid runs)
 
       -- what the end writes behind the lines
       behind_lines : (stop : FileStop) → EndsWith sink (session_line (ending.Filing stop)) (session_status (ending.Filing stop)) at out' status
@@ -301,41 +301,41 @@ module _ {D : Type 0} (stamp : Stamp) (disk : Ghosts D) (only : (d : D) (c : Lis
       comes_of_files : (ended : Result Unit FileStop) (rows : List ReadRow) (rest : List Told) → said_from stamp 1 (rows_in input.before) ≡ map (said_under said_by) rows ++ rest → (IsOk ended → rest ≡ [])
           → (ended ≡ Ok tt → (out' ≡ at) × (status ≡ 0))
           → ((stop : FileStop) → ended ≡ Err stop → EndsWith sink (session_line (ending.Filing stop)) (session_status (ending.Filing stop)) at out' status)
-          → Files disk office_scheme office_judging (stamped_texts desk_texts) past begun new (written sink out at) rows ended → Comes past
+          → Files disk office_scheme office_semantics (stamped_texts desk_texts) past begun new (written sink out at) rows ended → Comes past
       comes_of_files ended rows rest is whole done early (all _ runs wrote) =
           let f = fronts 1 (rows_in input.before) rest rows past begun new sure each is runs in
           let nothing : f.behind ≡ [] = none_left stamp (1 + length f.front) f.behind (f.later ∙ whole refl) in
           let (last, well) = done refl in
-          comes past begun new rows rest [] f opens (ap sink.text last ∙ wrote sound ∙ sym (append-nil (sink.text out ++ lines_of office_judging (stamped_texts desk_texts) past 1 rows)))
-          (stopped_between f.behind [] no_fault (rests new (after_rows office_judging past rows) (sure_behind rows new runs) (each_behind rows new runs)))
+          comes past begun new rows rest [] f opens (ap sink.text last ∙ wrote sound ∙ sym (append-nil (sink.text out ++ lines_of office_semantics (stamped_texts desk_texts) past 1 rows)))
+          (stopped_between f.behind [] no_fault (rests new (after_rows office_semantics past rows) (sure_behind rows new runs) (each_behind rows new runs)))
           (λ zero. (nothing, refl)) (λ six. omega (arith, six, well), λ seven. omega (arith, seven, well))
       comes_of_files ended rows rest is whole done early (unwritten front row runs short) =
-          let (mid, before, behind, later) = runs_split disk office_scheme office_judging only front (row ∷ []) past begun new sure each runs in
+          let (mid, before, behind, later) = runs_split disk office_scheme office_semantics only front (row ∷ []) past begun new sure each runs in
           let f = fronts 1 (rows_in input.before) (said_under said_by row ∷ rest) front past begun mid sure each (is ∙ one_more front row rest) before in
           let (n, less, said) = short sound in
           let (text, cut, wrote, none_whole, fine) = behind_lines filing.Write (early filing.Write refl) in
-          let line = row_line office_judging (stamped_texts desk_texts) (after_rows office_judging past front) (length front + 1) row in
+          let line = row_line office_semantics (stamped_texts desk_texts) (after_rows office_semantics past front) (length front + 1) row in
           comes_within past begun mid front row rest (take n line) f opens (legal_behind front mid before)
-          ((one_link disk row (after_rows office_judging past front) mid new behind).moments (sure_behind front mid before))
+          ((one_link disk row (after_rows office_semantics past front) mid new behind).moments (sure_behind front mid before))
           (wrote ∙ ap (λ (l : List ℕ). sink.text at ++ l) (no_front text cut none_whole) ∙ append-nil (sink.text at) ∙ said)
           (drop n line, inr (take-append-drop n line, some_cut n line less)) fine
       comes_of_files ended rows rest is whole done early (faulted front row last undecided runs fault wrote) =
           let f = fronts 1 (rows_in input.before) (said_under said_by row ∷ rest) front past begun last sure each (is ∙ one_more front row rest) runs in
           let (text, cut, more_wrote, line_whole, fine) = behind_lines (filing.DiskFault undecided) (early (filing.DiskFault undecided) refl) in
           comes_within past begun last front row rest text f opens (legal_behind front last runs)
-          (subst (λ (h : List (StampedEntry Filing)). EachMoment (disk.tells last) (disk.tells new) (kept.RecoversEither (after_rows office_judging past front) h)) (sym fault.adds) (fault.moments (sure_behind front last runs)))
+          (subst (λ (h : List (StampedEntry Filing)). EachMoment (disk.tells last) (disk.tells new) (kept.RecoversEither (after_rows office_semantics past front) h)) (sym fault.adds) (fault.moments (sure_behind front last runs)))
           (more_wrote ∙ ap (λ (l : List ℕ). l ++ text) (wrote sound)) (let (cut, fault) = fault_front (ending.Filing (filing.DiskFault undecided)) text cut line_whole in (cut, inl fault)) fine
       comes_of_files ended rows rest is whole done early (starved _ runs wrote) =
           let f = fronts 1 (rows_in input.before) rest rows past begun new sure each is runs in
           let (text, cut, more_wrote, line_whole, fine) = behind_lines filing.NoMemory (early filing.NoMemory refl) in
           comes past begun new rows rest text f opens (more_wrote ∙ ap (λ (l : List ℕ). l ++ text) (wrote sound))
-          (stopped_between f.behind text (fault_front (ending.Filing filing.NoMemory) text cut line_whole) (rests new (after_rows office_judging past rows) (sure_behind rows new runs) (each_behind rows new runs)))
+          (stopped_between f.behind text (fault_front (ending.Filing filing.NoMemory) text cut line_whole) (rests new (after_rows office_semantics past rows) (sure_behind rows new runs) (each_behind rows new runs)))
           (λ zero. absurd (fine.0 zero)) fine.1
 
     module _ (at : K) (truth : sink.honest at ≡ sink.honest out) where
       comes_of_opens : (past : List (StampedEntry Filing)) (left : List Told) (ended : Result Unit SessionStop) → Each old past → left ≡ stamped_rows stamp (desk_rows input.before) → (ended ≡ Ok tt → (out' ≡ at) × (status ≡ 0))
           → ((stop : SessionStop) → ended ≡ Err stop → EndsWith sink (session_line stop) (session_status stop) at out' status)
-          → Opens disk office_scheme office_judging (stamped_texts desk_texts) old new (written sink out at) left ended → Comes past
+          → Opens disk office_scheme office_semantics (stamped_texts desk_texts) old new (written sink out at) left ended → Comes past
       comes_of_opens past left ended each are done early (unopened error n same) =
           idle past at (ending.Opening error) each (stays old new past (n.moments honest past each))
           (n.complete honest past (each (disk.tells old).reads (here old honest))) same truth (early (ending.Opening error) refl)
@@ -347,7 +347,7 @@ module _ {D : Type 0} (stamp : Stamp) (disk : Ghosts D) (only : (d : D) (c : Lis
 
       comes_of_session : (past : List (StampedEntry Filing)) (ended : Result Unit SessionStop) → Each old past → (ended ≡ Ok tt → (out' ≡ at) × (status ≡ 0))
           → ((stop : SessionStop) → ended ≡ Err stop → EndsWith sink (session_line stop) (session_status stop) at out' status)
-          → Session disk office_scheme office_judging (stamped_texts desk_texts) (λ text. stamped_rows stamp (desk_rows text)) 16777216 old new input (written sink out at) ended → Comes past
+          → Session disk office_scheme office_semantics (stamped_texts desk_texts) (λ text. stamped_rows stamp (desk_rows text)) 16777216 old new input (written sink out at) ended → Comes past
       comes_of_session past ended each done early (unread stop why same nothing) =
           idle past at (ending.Reading stop) each (subst (λ (d : D). Stays old d past) (sym same) (rests old past honest each)) tt nothing truth (early (ending.Reading stop) refl)
       comes_of_session past ended each done early (read left _ is are opens) = comes_of_opens past left ended each (are sincere) done early opens

@@ -2,40 +2,40 @@
 use Rattle.std.proofs.Common.{◌≡◌, inl, ⊎_elim, ℕ, Bool, true, false, List, [], ◌∷◌, ◌++◌, map, Result, Ok, Err, None, ap, subst, refl, sym, ◌∙◌, arith, append-nil, map-id}
 use Rattle.std.specs.Prelude.{if◌then◌else◌, option_map}
 use Rattle.aid_filings.specs.declared.filing.Filing.{Filing}
-use Rattle.aid_filings.specs.declared.reply.Ask.{Ask}
-use Rattle.field_rows.specs.declared.error.RowError.{RowError}
-use Rattle.disk_model.specs.Telling.{EachImage, EachMoment, IsHonest}
-use Rattle.disk_model.specs.declared.disk.Disk.{Ghosts}
-use Rattle.disk_model.proofs.Moments.{started, weaken}
-use Rattle.kept_list.specs.Turns.{with_entry}
-use Rattle.kept_list.proofs.Histories.{recovers_once}
-use Rattle.kept_office.specs.OfficeLaws.{office_alone}
-use Rattle.kept_office.specs.Recovers.{Recovers}
-use Rattle.kept_office.specs.Scheme.{office_scheme}
-use Rattle.kept_office.specs.Turns.{filing_added, filing_judging, office_judging}
-use Rattle.generated_year.specs.Texts.{rows_of_text, year_texts}
-use Rattle.generated_year.specs.Counted.{year_counted, year_ending}
-use Rattle.generated_year.specs.Payments.{year_judging}
-use Rattle.kept_session.specs.Asks.{after_asks, rows_of_asks}
-use Rattle.kept_session.specs.Planned.{Planned}
-use Rattle.kept_session.proofs.Behind.{after_rows_of_asks}
-use Rattle.kept_session.proofs.Moments.{images_of_counted_session, images_of_planned, moments_of_counted_session, moments_of_planned}
-use Rattle.kept_session.specs.Edges.{Input, Output}
-use Rattle.kept_session.specs.Links.{IsOpened}
-use Rattle.kept_session.specs.Reports.{Reports}
-use Rattle.kept_session.specs.Reports as telling
-use Rattle.kept_session.specs.Sessions.{Opens, Session, read}
-use Rattle.kept_list.specs.Texts.{after_row, after_rows}
-use Rattle.kept_session.specs.declared.stop.SessionStop.{SessionStop}
-use Rattle.kept_session.proofs.Fronts.{images_of_session, moments_of_session}
+use Rattle.aid_filings.specs.declared.reply.Operation.{Operation}
+use Rattle.format_rows.specs.declared.error.RowError.{RowError}
+use Rattle.io_traits.specs.DiskState.{EachImage, EachMoment, IsHonest}
+use Rattle.io_traits.specs.declared.disk.Disk.{Ghosts}
+use Rattle.io_traits.proofs.Moments.{started, weaken}
+use Rattle.log_machine.specs.Submits.{with_entry}
+use Rattle.log_machine.proofs.Histories.{recovers_once}
+use Rattle.office_log.specs.OfficeLaws.{office_alone}
+use Rattle.office_log.specs.Recovers.{Recovers}
+use Rattle.office_log.specs.Scheme.{office_scheme}
+use Rattle.office_log.specs.Submits.{filing_added, filing_semantics, office_semantics}
+use Rattle.run_generate.specs.Texts.{rows_of_text, year_texts}
+use Rattle.run_generate.specs.Counted.{year_counted, year_ending}
+use Rattle.run_generate.specs.Payments.{year_semantics}
+use Rattle.log_session.specs.Asks.{after_asks, rows_of_asks}
+use Rattle.log_session.specs.Planned.{Planned}
+use Rattle.log_session.proofs.Behind.{after_rows_of_asks}
+use Rattle.log_session.proofs.Moments.{images_of_counted_session, images_of_planned, moments_of_counted_session, moments_of_planned}
+use Rattle.log_session.specs.Edges.{Input, Output}
+use Rattle.log_session.specs.Links.{IsOpened}
+use Rattle.log_session.specs.Reports.{Reports}
+use Rattle.log_session.specs.Reports as telling
+use Rattle.log_session.specs.Sessions.{Opens, Session, read}
+use Rattle.log_machine.specs.Texts.{after_row, after_rows}
+use Rattle.log_session.specs.declared.stop.SessionStop.{SessionStop}
+use Rattle.log_session.proofs.Fronts.{images_of_session, moments_of_session}
 use Rattle.office_history.specs.Answer.{answer_to, is_admit}
-use Rattle.stamps.specs.declared.stamp.Stamp.{Stamp}
-use Rattle.stamped_list.specs.Entries.{entries, with_stamp}
-use Rattle.stamped_list.specs.Rows.{ask_under, stamped_rows, stamped_texts}
-use Rattle.stamped_list.specs.Stamped.{stamped_judging}
-use Rattle.stamped_list.specs.declared.entry.StampedAsk.{StampedAsk}
-use Rattle.stamped_list.specs.declared.entry.StampedEntry.{StampedEntry}
-use Rattle.stamped_list.specs.declared.entry.StampedError.{StampedError}
+use Rattle.aid_stamps.specs.declared.stamp.Stamp.{Stamp}
+use Rattle.log_stamps.specs.Entries.{entries, with_stamp}
+use Rattle.log_stamps.specs.Rows.{ask_under, stamped_rows, stamped_texts}
+use Rattle.log_stamps.specs.Stamped.{stamped_semantics}
+use Rattle.log_stamps.specs.declared.entry.StampedOperation.{StampedOperation}
+use Rattle.log_stamps.specs.declared.entry.StampedEntry.{StampedEntry}
+use Rattle.log_stamps.specs.declared.entry.StampedError.{StampedError}
 use Rattle.run_words.specs.declared.command.StampedCommand.{StampedCommand}
 use Rattle.run_words.specs.declared.command.Command.{Command}
 use Rattle.run_words.specs.declared.command.Command.TheVariants.{Found, File, Book, Quote, Report, Fund, Generate, CheckRows, CheckBook}
@@ -47,60 +47,60 @@ use Rattle.run_office.specs.Texts.{no_verdicts, report_text}
 use Rattle.run_office.specs.Rounds.{PolicyAnswers, fund_plans, round_texts}
 use Rattle.run_office.specs.Moments.{MayRecover, RoundStands, Stands, StoodBefore}
 use Rattle.run_office.specs.Ran.{Does, founding, filing, booking, quoting, reporting, funding, generating, checking_rows, checking_book}
-use Rattle.kept_runs.specs.Statuses.{ended_file}
-use Rattle.kept_runs.specs.declared.stop.RunStop.{RunStop}
-use Rattle.kept_runs.proofs.ListImages.{moments_of_found, stands_of_found, stays}
+use Rattle.log_runs.specs.Statuses.{ended_file}
+use Rattle.log_runs.specs.declared.stop.RunStop.{RunStop}
+use Rattle.log_runs.proofs.ListImages.{moments_of_found, stands_of_found, stays}
 
 -- a file recovers one history at most
 once : (file : List ℕ) (one other : List (StampedEntry Filing)) → Recovers file one → Recovers file other → one ≡ other
 once file one other = recovers_once office_scheme office_alone file one other
 
 -- ---- a quote adds nothing
-nothing : (asks : Bool) (stamp : Stamp) (past : List (StampedEntry Filing)) → with_entry (option_map (with_stamp stamp) (if asks then None else None)) past ≡ past
+nothing : (operations : Bool) (stamp : Stamp) (past : List (StampedEntry Filing)) → with_entry (option_map (with_stamp stamp) (if operations then None else None)) past ≡ past
 nothing true stamp past = refl
 nothing false stamp past = refl
 
-quote_adds : (quote : QuoteRequest) (ask : StampedAsk Ask) (past : List (StampedEntry Filing)) → ask.ask ≡ quote_ask quote → after_row {Error = StampedError RowError} office_judging past (Ok ask) ≡ past
-quote_adds quote ask past is =
-    ap (λ (a : Ask). with_entry (option_map (with_stamp ask.stamp) (filing_added (entries past) a)) past) is ∙ nothing (is_admit (answer_to (entries past) (quote_ask quote))) ask.stamp past
+quote_adds : (quote : QuoteRequest) (operation : StampedOperation Operation) (past : List (StampedEntry Filing)) → operation.operation ≡ quote_ask quote → after_row {Error = StampedError RowError} office_semantics past (Ok operation) ≡ past
+quote_adds quote operation past is =
+    ap (λ (a : Operation). with_entry (option_map (with_stamp operation.stamp) (filing_added (entries past) a)) past) is ∙ nothing (is_admit (answer_to (entries past) (quote_ask quote))) operation.stamp past
 
-quotes_add : (quote : QuoteRequest) (stamp : Stamp) (past : List (StampedEntry Filing)) (rows : List (Result (StampedAsk Ask) (StampedError RowError))) (rest : List (stamped_texts quote_texts).Meaning)
-    → stamped_rows stamp (quote_rows quote) ≡ map (stamped_texts quote_texts).said rows ++ rest → after_rows office_judging past rows ≡ past
+quotes_add : (quote : QuoteRequest) (stamp : Stamp) (past : List (StampedEntry Filing)) (rows : List (Result (StampedOperation Operation) (StampedError RowError))) (rest : List (stamped_texts quote_texts).Meaning)
+    → stamped_rows stamp (quote_rows quote) ≡ map (stamped_texts quote_texts).said rows ++ rest → after_rows office_semantics past rows ≡ past
 quotes_add quote stamp past [] rest is = refl
 quotes_add quote stamp past (Err error ∷ []) rest is = refl
-quotes_add quote stamp past (Ok ask ∷ []) rest is =
+quotes_add quote stamp past (Ok operation ∷ []) rest is =
     let one : (stamped_texts quote_texts).Meaning = (Ok (quote_ask quote), stamp) in
-    let other : (stamped_texts quote_texts).Meaning = (Ok ask.ask, ask.stamp) in
+    let other : (stamped_texts quote_texts).Meaning = (Ok operation.operation, operation.stamp) in
     let same : one ≡ other = cc in
     let said : one.0 ≡ other.0 = ap (λ (m : (stamped_texts quote_texts).Meaning). m.0) same in
-    quote_adds quote ask past (let asks : quote_ask quote ≡ ask.ask = cc in sym asks)
+    quote_adds quote operation past (let operations : quote_ask quote ≡ operation.operation = cc in sym operations)
 quotes_add quote stamp past (Err error ∷ other ∷ rows) rest is = absurd (let bad : ⊥ = cc in bad)
-quotes_add quote stamp past (Ok ask ∷ other ∷ rows) rest is = absurd (let bad : ⊥ = cc in bad)
+quotes_add quote stamp past (Ok operation ∷ other ∷ rows) rest is = absurd (let bad : ⊥ = cc in bad)
 
 -- what a row says, its stamp apart
-abbrev first_of : Result (StampedAsk Ask) (StampedError RowError) → Result Ask RowError
+abbrev first_of : Result (StampedOperation Operation) (StampedError RowError) → Result Operation RowError
 first_of row = ((stamped_texts round_texts).said row).0
 
 -- rows that say themselves are told by what they say
-same_row : (row other : Result (StampedAsk Ask) (StampedError RowError)) → (stamped_texts round_texts).said row ≡ (stamped_texts round_texts).said other → row ≡ other
-same_row (Ok ask) (Ok another) same =
-    let said : first_of (Ok ask) ≡ first_of (Ok another) = ap (λ (m : (stamped_texts round_texts).Meaning). m.0) same in
-    let asks : ask.ask ≡ another.ask = cc in
-    let stamps : ask.stamp ≡ another.stamp = ap (λ (m : (stamped_texts round_texts).Meaning). m.1) same in
-    λ i. Ok (record { ask = asks i; stamp = stamps i })
+same_row : (row other : Result (StampedOperation Operation) (StampedError RowError)) → (stamped_texts round_texts).said row ≡ (stamped_texts round_texts).said other → row ≡ other
+same_row (Ok operation) (Ok another) same =
+    let said : first_of (Ok operation) ≡ first_of (Ok another) = ap (λ (m : (stamped_texts round_texts).Meaning). m.0) same in
+    let operations : operation.operation ≡ another.operation = cc in
+    let stamps : operation.stamp ≡ another.stamp = ap (λ (m : (stamped_texts round_texts).Meaning). m.1) same in
+    λ i. Ok (record { operation = operations i; stamp = stamps i })
 same_row (Err error) (Err another) same =
     let said : first_of (Err error) ≡ first_of (Err another) = ap (λ (m : (stamped_texts round_texts).Meaning). m.0) same in
     let errors : error.error ≡ another.error = cc in
     let stamps : error.stamp ≡ another.stamp = ap (λ (m : (stamped_texts round_texts).Meaning). m.1) same in
     λ i. Err (record { error = errors i; stamp = stamps i })
-same_row (Ok ask) (Err error) same =
-    let said : first_of (Ok ask) ≡ first_of (Err error) = ap (λ (m : (stamped_texts round_texts).Meaning). m.0) same in
+same_row (Ok operation) (Err error) same =
+    let said : first_of (Ok operation) ≡ first_of (Err error) = ap (λ (m : (stamped_texts round_texts).Meaning). m.0) same in
     absurd (let bad : ⊥ = cc in bad)
-same_row (Err error) (Ok ask) same =
-    let said : first_of (Err error) ≡ first_of (Ok ask) = ap (λ (m : (stamped_texts round_texts).Meaning). m.0) same in
+same_row (Err error) (Ok operation) same =
+    let said : first_of (Err error) ≡ first_of (Ok operation) = ap (λ (m : (stamped_texts round_texts).Meaning). m.0) same in
     absurd (let bad : ⊥ = cc in bad)
 
-same_rows : (rows others : List (Result (StampedAsk Ask) (StampedError RowError))) → map (stamped_texts round_texts).said rows ≡ map (stamped_texts round_texts).said others → rows ≡ others
+same_rows : (rows others : List (Result (StampedOperation Operation) (StampedError RowError))) → map (stamped_texts round_texts).said rows ≡ map (stamped_texts round_texts).said others → rows ≡ others
 same_rows [] [] same = refl
 same_rows [] (other ∷ others) same = absurd (let bad : ⊥ = cc in bad)
 same_rows (row ∷ rows) [] same = absurd (let bad : ⊥ = cc in bad)
@@ -139,8 +139,8 @@ module _ {D : Type 0} (gives : PolicyAnswers) (disk : Ghosts D) (only : (d : D) 
   Each at past = EachImage (disk.tells at) (λ file. Recovers file past)
 
   -- a quote is a session over an input that has no bytes, and says what is asked
-  as_session : (quote : QuoteRequest) (stamp : Stamp) (old new : D) (output : Output) (ended : Result Unit SessionStop) → Opens disk office_scheme office_judging (stamped_texts quote_texts) old new output (stamped_rows stamp (quote_rows quote)) ended
-      → Session disk office_scheme office_judging (stamped_texts quote_texts) (λ text. stamped_rows stamp (quote_rows quote)) 0 old new (record { honest = true; before = []; after = [] }) output ended
+  as_session : (quote : QuoteRequest) (stamp : Stamp) (old new : D) (output : Output) (ended : Result Unit SessionStop) → Opens disk office_scheme office_semantics (stamped_texts quote_texts) old new output (stamped_rows stamp (quote_rows quote)) ended
+      → Session disk office_scheme office_semantics (stamped_texts quote_texts) (λ text. stamped_rows stamp (quote_rows quote)) 0 old new (record { honest = true; before = []; after = [] }) output ended
   as_session quote stamp old new output ended opens =
       read (stamped_rows stamp (quote_rows quote)) ended (record { short = λ honest. omega arith; end = λ honest. refl }) (λ honest. refl) opens
 
@@ -163,19 +163,19 @@ module _ {D : Type 0} (gives : PolicyAnswers) (disk : Ghosts D) (only : (d : D) 
       → IsHonest (disk.tells old) → Each old past → EachMoment (disk.tells old) (disk.tells new) (MayRecover gives stamp command input past)
   moments stamp old new input output command ended past (founding inner session) honest each = moments_of_found disk office_scheme only here old new _ output inner past honest each session
   moments stamp old new input output command ended past (filing inner session) honest each =
-      moments_of_session disk office_scheme office_judging only (stamped_texts desk_texts) output once (desk_under stamp) 16777216 input here inner past old new honest each session
+      moments_of_session disk office_scheme office_semantics only (stamped_texts desk_texts) output once (desk_under stamp) 16777216 input here inner past old new honest each session
   moments stamp old new input output command ended past (booking book inner session) honest each =
-      moments_of_session disk office_scheme office_judging only (stamped_texts book_texts) output once (book_under stamp book.number) 16777216 input here inner past old new honest each session
+      moments_of_session disk office_scheme office_semantics only (stamped_texts book_texts) output once (book_under stamp book.number) 16777216 input here inner past old new honest each session
   moments stamp old new input output command ended past (quoting quote inner opens) honest each =
       weaken (disk.tells old) (disk.tells new) _ (λ file. Recovers file past)
       (λ file of. subst (λ (h : List (StampedEntry Filing)). Recovers file h) (quotes_add quote stamp past of.2.0 of.2.1 (sym (of.1 refl) ∙ of.2.2)) of.2.3)
-      (moments_of_session disk office_scheme office_judging only (stamped_texts quote_texts) output once (λ text. stamped_rows stamp (quote_rows quote)) 0 (record { honest = true; before = []; after = [] }) here inner past old new honest each
+      (moments_of_session disk office_scheme office_semantics only (stamped_texts quote_texts) output once (λ text. stamped_rows stamp (quote_rows quote)) 0 (record { honest = true; before = []; after = [] }) here inner past old new honest each
       (as_session quote stamp old new output inner opens))
   moments stamp old new input output command ended past (reporting report inner reports) honest each = moments_of_report old new (report_text report) output inner past honest each reports
   moments stamp old new input output command ended past (funding fund inner planned) honest each =
-      moments_of_planned disk office_scheme office_judging only (stamped_texts round_texts) once here (fund_plans gives stamp fund) output inner past old new honest each planned
+      moments_of_planned disk office_scheme office_semantics only (stamped_texts round_texts) once here (fund_plans gives stamp fund) output inner past old new honest each planned
   moments stamp old new input output command ended past (generating generate inner session) honest each =
-      moments_of_counted_session disk office_scheme (stamped_judging (year_judging filing_judging)) only (stamped_texts year_texts) once here year_counted year_ending no_verdicts
+      moments_of_counted_session disk office_scheme (stamped_semantics (year_semantics filing_semantics)) only (stamped_texts year_texts) once here year_counted year_ending no_verdicts
       (year_under stamp generate) 16777216 input output inner past old new honest each session
   moments stamp old new input output command ended past (checking_rows _ same checks) honest each = stays disk office_scheme only here (λ file. Recovers file past) old new honest each same
   moments stamp old new input output command ended past (checking_book _ same checks) honest each = stays disk office_scheme only here (λ file. Recovers file past) old new honest each same
@@ -205,40 +205,40 @@ module _ {D : Type 0} (gives : PolicyAnswers) (disk : Ghosts D) (only : (d : D) 
   stands_of_report old new text output ended past honest reads (telling.starved list is same) well = absurd (let bad : ⊥ = cc in bad)
 
   -- the rows of a round are the asks of its payments
-  payments_of : (asks : List (StampedAsk Ask)) (rows : List (Result (StampedAsk Ask) (StampedError RowError)))
-      → map (stamped_texts round_texts).said rows ≡ map (stamped_texts round_texts).said (rows_of_asks {Error = StampedError RowError} asks) → (past : List (StampedEntry Filing))
-      → after_rows office_judging past rows ≡ after_asks office_judging past asks
-  payments_of asks rows same past =
-      let are : rows ≡ rows_of_asks asks = same_rows rows (rows_of_asks asks) same in
-      ap (after_rows office_judging past) are ∙ after_rows_of_asks office_judging (StampedError RowError) past asks
+  payments_of : (operations : List (StampedOperation Operation)) (rows : List (Result (StampedOperation Operation) (StampedError RowError)))
+      → map (stamped_texts round_texts).said rows ≡ map (stamped_texts round_texts).said (rows_of_asks {Error = StampedError RowError} operations) → (past : List (StampedEntry Filing))
+      → after_rows office_semantics past rows ≡ after_asks office_semantics past operations
+  payments_of operations rows same past =
+      let are : rows ≡ rows_of_asks operations = same_rows rows (rows_of_asks operations) same in
+      ap (after_rows office_semantics past) are ∙ after_rows_of_asks office_semantics (StampedError RowError) past operations
 
   stands_of_round : (stamp : Stamp) (fund : FundRequest) (old new : D) (output : Output) (ended : Result Unit SessionStop) (past : List (StampedEntry Filing)) → ended ≡ Ok tt → IsHonest (disk.tells old) → Recovers (disk.tells old).reads past
-      → Planned disk office_scheme office_judging (stamped_texts round_texts) (fund_plans gives stamp fund) old new output ended → RoundStands gives stamp fund past (disk.tells new)
+      → Planned disk office_scheme office_semantics (stamped_texts round_texts) (fund_plans gives stamp fund) old new output ended → RoundStands gives stamp fund past (disk.tells new)
   stands_of_round stamp fund old new output ended past well honest reads planned =
-      let (asks, closing, rows, (filings, left, is, are, closed), said, images) =
-      images_of_planned disk office_scheme office_judging only (stamped_texts round_texts) once here (fund_plans gives stamp fund) output ended past old new well honest reads planned in (
+      let (operations, closing, rows, (filings, left, is, are, closed), said, images) =
+      images_of_planned disk office_scheme office_semantics only (stamped_texts round_texts) once here (fund_plans gives stamp fund) output ended past old new well honest reads planned in (
         filings,
         left,
         is,
-        λ c image. subst (λ (h : List (StampedEntry Filing)). Recovers c h) (payments_of asks rows said past ∙ ap (after_asks office_judging past) are) (images c image),
+        λ c image. subst (λ (h : List (StampedEntry Filing)). Recovers c h) (payments_of operations rows said past ∙ ap (after_asks office_semantics past) are) (images c image),
       )
 
   stands : (stamp : Stamp) (old new : D) (input : Input) (output : Output) (command : Command) (ended : Result Unit RunStop) (past : List (StampedEntry Filing)) → Does gives disk old new input output stamp command ended
       → ended ≡ Ok tt → IsHonest (disk.tells old) → StoodBefore command (disk.tells old).reads past → Stands gives stamp command input past (disk.tells new)
   stands stamp old new input output command ended past (founding inner session) well honest stood = stands_of_found disk office_scheme only here old new _ output inner honest session well
   stands stamp old new input output command ended past (filing inner session) well honest stood =
-      images_of_session disk office_scheme office_judging only (stamped_texts desk_texts) output once (desk_under stamp) 16777216 input inner past old new (session_done inner well) honest stood session
+      images_of_session disk office_scheme office_semantics only (stamped_texts desk_texts) output once (desk_under stamp) 16777216 input inner past old new (session_done inner well) honest stood session
   stands stamp old new input output command ended past (booking book inner session) well honest stood =
-      images_of_session disk office_scheme office_judging only (stamped_texts book_texts) output once (book_under stamp book.number) 16777216 input inner past old new (session_done inner well) honest stood session
+      images_of_session disk office_scheme office_semantics only (stamped_texts book_texts) output once (book_under stamp book.number) 16777216 input inner past old new (session_done inner well) honest stood session
   stands stamp old new input output command ended past (quoting quote inner opens) well honest stood =
-      let (rows, said, images) = images_of_session disk office_scheme office_judging only (stamped_texts quote_texts) output once (λ text. stamped_rows stamp (quote_rows quote)) 0 (record { honest = true; before = []; after = [] }) inner past old new
+      let (rows, said, images) = images_of_session disk office_scheme office_semantics only (stamped_texts quote_texts) output once (λ text. stamped_rows stamp (quote_rows quote)) 0 (record { honest = true; before = []; after = [] }) inner past old new
       (session_done inner well) honest stood (as_session quote stamp old new output inner opens) in
       λ c image. subst (λ (h : List (StampedEntry Filing)). Recovers c h) (quotes_add quote stamp past rows [] (sym (said refl) ∙ sym (append-nil (map (stamped_texts quote_texts).said rows)))) (images c image)
   stands stamp old new input output command ended past (reporting report inner reports) well honest stood =
       stands_of_report old new (report_text report) output inner past honest stood reports (session_done inner well)
   stands stamp old new input output command ended past (funding fund inner planned) well honest stood = stands_of_round stamp fund old new output inner past (session_done inner well) honest stood planned
   stands stamp old new input output command ended past (generating generate inner session) well honest stood =
-      images_of_counted_session disk office_scheme (stamped_judging (year_judging filing_judging)) only (stamped_texts year_texts) once here year_counted year_ending no_verdicts
+      images_of_counted_session disk office_scheme (stamped_semantics (year_semantics filing_semantics)) only (stamped_texts year_texts) once here year_counted year_ending no_verdicts
       (year_under stamp generate) 16777216 input output inner past old new (session_done inner well) honest stood session
   stands stamp old new input output command ended past (checking_rows _ same checks) well honest stood = tt
   stands stamp old new input output command ended past (checking_book _ same checks) well honest stood = tt

@@ -1,12 +1,12 @@
 -- The row of words of a run, and the stamp in front of it.
 use Rattle.std.proofs.Common.{◌≡◌, ◌≢◌, inl, inr, ℕ, ◌≤◌, false, List, [], ◌∷◌, codes, length, refl, arith, subst, sym}
-use Rattle.headline.specs.Written.{Says}
-use Rattle.headline.proofs.Texts.{day_text_of}
+use Rattle.run_claims.specs.Written.{Says}
+use Rattle.run_claims.proofs.Texts.{day_text_of}
 use Rattle.run_words.specs.Stamped.{IsStamped, IsStampedRow, begins_with_at, plain, said}
 use Rattle.run_words.specs.declared.command.Command.{Command}
 use Rattle.run_words.specs.declared.command.Command.TheVariants.{File, Found}
-use Rattle.stamps.specs.Stamps.{plain_stamp}
-use Rattle.stamps.specs.declared.stamp.Stamp.{Stamp}
+use Rattle.aid_stamps.specs.Stamps.{plain_stamp}
+use Rattle.aid_stamps.specs.declared.stamp.Stamp.{Stamp}
 
 -- the same words are the row of the same command
 pub same_row : (names words other : List (List ℕ)) (stamp : Stamp) (command : Command) → other ≡ words → IsStampedRow names words stamp command → IsStampedRow names other stamp command

@@ -1,23 +1,23 @@
 -- What the status of a run shows.
 use Rattle.std.proofs.Common.{◌≡◌, ℕ, List, Result, Ok, Err, ap, arith, length, refl, subst}
-use Rattle.aid_edges.specs.declared.sink.Sink.{Ghosts as SinkGhosts}
-use Rattle.disk_model.specs.declared.disk.Disk.{Ghosts}
-use Rattle.kept_session.specs.Edges.{Input}
+use Rattle.io_traits.specs.declared.sink.Sink.{Ghosts as SinkGhosts}
+use Rattle.io_traits.specs.declared.disk.Disk.{Ghosts}
+use Rattle.log_session.specs.Edges.{Input}
 use Rattle.run_office.specs.Rounds.{PolicyAnswers}
 use Rattle.run_office.specs.Ran.{Does, FileRan, Ran, booking, checking_book, checking_rows, did, filing, founding, funding, generating, no_memory, no_row, quoting, reporting, unread_words}
-use Rattle.stamps.specs.declared.stamp.Stamp.{Stamp}
+use Rattle.aid_stamps.specs.declared.stamp.Stamp.{Stamp}
 use Rattle.run_words.specs.declared.command.Command.{Command}
 use Rattle.run_words.specs.declared.command.Command.TheVariants as commands
-use Rattle.kept_runs.specs.Counts.{Counts, Shows, written}
-use Rattle.kept_runs.specs.Ends.{Ends, EndsWith, stopped, well}
-use Rattle.kept_runs.specs.Statuses.{ended_file, fault_line, session_line, session_status, status_of}
-use Rattle.kept_session.specs.Sessions as sessions
-use Rattle.kept_session.specs.declared.stop.ReadStop.TheVariants as reading
-use Rattle.kept_session.specs.declared.stop.SessionStop.{SessionStop}
-use Rattle.kept_session.specs.declared.stop.SessionStop.TheVariants.{Reading}
-use Rattle.kept_runs.specs.declared.stop.RunStop.{RunStop}
-use Rattle.kept_runs.specs.declared.stop.RunStop.TheVariants.{File, Usage}
-use Rattle.kept_runs.proofs.Shown.{ends_show}
+use Rattle.log_runs.specs.Counts.{Counts, Shows, written}
+use Rattle.log_runs.specs.Ends.{Ends, EndsWith, stopped, well}
+use Rattle.log_runs.specs.Statuses.{ended_file, fault_line, session_line, session_status, status_of}
+use Rattle.log_session.specs.Sessions as sessions
+use Rattle.log_session.specs.declared.stop.ReadStop.TheVariants as reading
+use Rattle.log_session.specs.declared.stop.SessionStop.{SessionStop}
+use Rattle.log_session.specs.declared.stop.SessionStop.TheVariants.{Reading}
+use Rattle.log_runs.specs.declared.stop.RunStop.{RunStop}
+use Rattle.log_runs.specs.declared.stop.RunStop.TheVariants.{File, Usage}
+use Rattle.log_runs.proofs.Shown.{ends_show}
 
 -- of a whole run
 pub run_shows : {D K : Type 0} (names : List (List ℕ)) (gives : PolicyAnswers) (disk : Ghosts D) (sink : SinkGhosts K) (counts : Counts) (words : List (List ℕ)) (old new : D) (input : Input) (out out' : K) (status : ℕ)

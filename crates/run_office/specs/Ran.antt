@@ -1,29 +1,29 @@
 -- What a run of the program does, by its command.
 use Rattle.std.specs.Prelude.{◌≡◌, ◌==◌, ℕ, Bool, true, false, List, [], codes, Result, Ok, Err}
-use Rattle.aid_edges.specs.declared.sink.Sink.{Ghosts as SinkGhosts}
-use Rattle.disk_model.specs.Telling.{IsHonest, Telling}
-use Rattle.disk_model.specs.declared.disk.Disk.{Ghosts}
-use Rattle.filing_journal.specs.Stands.{IsUnborn}
-use Rattle.kept_office.specs.Openable.{IsOffice}
-use Rattle.kept_office.specs.Scheme.{office_scheme}
-use Rattle.kept_office.specs.Turns.{filing_judging, office_judging}
-use Rattle.generated_year.specs.Texts.{rows_of_text, year_texts}
-use Rattle.generated_year.specs.Counted.{year_counted, year_ending}
-use Rattle.generated_year.specs.Payments.{year_judging}
-use Rattle.kept_session.specs.Counted.{CountedSession}
-use Rattle.kept_session.specs.Planned.{Planned}
-use Rattle.kept_session.specs.Checks.{Checks}
-use Rattle.kept_session.specs.Edges.{Input, Output, HasWritten, HasWrittenShort}
-use Rattle.kept_session.specs.Reports.{Reports}
-use Rattle.kept_session.specs.Sessions.{FoundSession, Opens, Session}
-use Rattle.kept_session.specs.declared.checking.CheckStop.{CheckStop}
-use Rattle.kept_session.specs.declared.checking.CheckStop.TheVariants as checking
-use Rattle.kept_session.specs.declared.checking.CheckTally.{CheckTally}
-use Rattle.kept_session.specs.declared.stop.FoundStop.{FoundStop}
-use Rattle.kept_session.specs.declared.stop.ReadStop.TheVariants as reading
-use Rattle.kept_session.specs.declared.stop.SessionStop.{SessionStop}
-use Rattle.kept_session.specs.declared.stop.SessionStop.TheVariants.{Reading}
-use Rattle.desk_forms.specs.Lines.{fine_line, tally_line}
+use Rattle.io_traits.specs.declared.sink.Sink.{Ghosts as SinkGhosts}
+use Rattle.io_traits.specs.DiskState.{IsHonest, DiskState}
+use Rattle.io_traits.specs.declared.disk.Disk.{Ghosts}
+use Rattle.log_journal.specs.Stands.{IsUnborn}
+use Rattle.office_log.specs.Openable.{IsOffice}
+use Rattle.office_log.specs.Scheme.{office_scheme}
+use Rattle.office_log.specs.Submits.{filing_semantics, office_semantics}
+use Rattle.run_generate.specs.Texts.{rows_of_text, year_texts}
+use Rattle.run_generate.specs.Counted.{year_counted, year_ending}
+use Rattle.run_generate.specs.Payments.{year_semantics}
+use Rattle.log_session.specs.Counted.{CountedSession}
+use Rattle.log_session.specs.Planned.{Planned}
+use Rattle.log_session.specs.Checks.{Checks}
+use Rattle.log_session.specs.Edges.{Input, Output, HasWritten, HasWrittenShort}
+use Rattle.log_session.specs.Reports.{Reports}
+use Rattle.log_session.specs.Sessions.{FoundSession, Opens, Session}
+use Rattle.log_session.specs.declared.checking.CheckStop.{CheckStop}
+use Rattle.log_session.specs.declared.checking.CheckStop.TheVariants as checking
+use Rattle.log_session.specs.declared.checking.CheckTally.{CheckTally}
+use Rattle.log_session.specs.declared.stop.FoundStop.{FoundStop}
+use Rattle.log_session.specs.declared.stop.ReadStop.TheVariants as reading
+use Rattle.log_session.specs.declared.stop.SessionStop.{SessionStop}
+use Rattle.log_session.specs.declared.stop.SessionStop.TheVariants.{Reading}
+use Rattle.format_filings.specs.Lines.{fine_line, tally_line}
 use Rattle.run_words.specs.Stamped.{IsStampedRow}
 use Rattle.run_words.specs.declared.command.BookNumber.{BookNumber}
 use Rattle.run_words.specs.declared.command.Command.{Command}
@@ -35,14 +35,14 @@ use Rattle.run_words.specs.declared.command.ReportRequest.{ReportRequest}
 use Rattle.run_rows.specs.Asks.{book_rows, book_texts, desk_rows, desk_texts, quote_rows, quote_texts}
 use Rattle.run_office.specs.Texts.{no_verdicts, report_text}
 use Rattle.run_office.specs.Rounds.{PolicyAnswers, fund_plans, round_texts}
-use Rattle.stamps.specs.declared.stamp.Stamp.{Stamp}
-use Rattle.stamped_list.specs.Rows.{stamped_rows, stamped_texts}
-use Rattle.stamped_list.specs.Stamped.{stamped_judging}
-use Rattle.kept_runs.specs.Counts.{Counts, HasCause, written}
-use Rattle.kept_runs.specs.Ends.{Ends, EndsWith, IsShort}
-use Rattle.kept_runs.specs.Statuses.{ended_check, ended_file, ended_found, session_line, session_status}
-use Rattle.kept_runs.specs.declared.stop.RunStop.{RunStop}
-use Rattle.kept_runs.specs.declared.stop.RunStop.TheVariants as stops
+use Rattle.aid_stamps.specs.declared.stamp.Stamp.{Stamp}
+use Rattle.log_stamps.specs.Rows.{stamped_rows, stamped_texts}
+use Rattle.log_stamps.specs.Stamped.{stamped_semantics}
+use Rattle.log_runs.specs.Counts.{Counts, HasCause, written}
+use Rattle.log_runs.specs.Ends.{Ends, EndsWith, IsShort}
+use Rattle.log_runs.specs.Statuses.{ended_check, ended_file, ended_found, session_line, session_status}
+use Rattle.log_runs.specs.declared.stop.RunStop.{RunStop}
+use Rattle.log_runs.specs.declared.stop.RunStop.TheVariants as stops
 
 -- the text of a run up to a state of it, and from there on
 abbrev pub up_to : List ℕ → Output → Output
@@ -75,27 +75,27 @@ pub data Does {D : Type 0} (gives : PolicyAnswers) (disk : Ghosts D) (old new : 
       → Does gives disk old new input output stamp Found (ended_found ended)
   -- `file`: the rows of the input are filed, and a line is written for each
   filing : (ended : Result Unit SessionStop)
-      → Session disk office_scheme office_judging (stamped_texts desk_texts) (λ text. stamped_rows stamp (desk_rows text)) 16777216 old new input output ended
+      → Session disk office_scheme office_semantics (stamped_texts desk_texts) (λ text. stamped_rows stamp (desk_rows text)) 16777216 old new input output ended
       → Does gives disk old new input output stamp File (ended_file ended)
   -- `book`: the text of the input is filed as one book
   booking : (book : BookNumber) (ended : Result Unit SessionStop)
-      → Session disk office_scheme office_judging (stamped_texts book_texts) (λ text. stamped_rows stamp (book_rows book.number text)) 16777216 old new input output ended
+      → Session disk office_scheme office_semantics (stamped_texts book_texts) (λ text. stamped_rows stamp (book_rows book.number text)) 16777216 old new input output ended
       → Does gives disk old new input output stamp (Book book) (ended_file ended)
   -- `quote`: the office is asked, and the quote is written
   quoting : (quote : QuoteRequest) (ended : Result Unit SessionStop)
-      → Opens disk office_scheme office_judging (stamped_texts quote_texts) old new output (stamped_rows stamp (quote_rows quote)) ended
+      → Opens disk office_scheme office_semantics (stamped_texts quote_texts) old new output (stamped_rows stamp (quote_rows quote)) ended
       → Does gives disk old new input output stamp (Quote quote) (ended_file ended)
   -- `report`: the office is opened, and the report on it is written
   reporting : (report : ReportRequest) (ended : Result Unit SessionStop) → Reports disk office_scheme (report_text report) old new output ended
       → Does gives disk old new input output stamp (Report report) (ended_file ended)
   -- `fund`: the payments of a round on the office are filed, a line is written for each, and behind them what is left of the fund
   funding : (fund : FundRequest) (ended : Result Unit SessionStop)
-      → Planned disk office_scheme office_judging (stamped_texts round_texts) (fund_plans gives stamp fund) old new output ended
+      → Planned disk office_scheme office_semantics (stamped_texts round_texts) (fund_plans gives stamp fund) old new output ended
       → Does gives disk old new input output stamp (Fund fund) (ended_file ended)
   -- `generate`: the rows of a generated year are filed, whose book is the text of the input, and what they come to is written; where
   -- the text is no book, its line alone is
   generating : (generate : GenerateRequest) (ended : Result Unit SessionStop)
-      → CountedSession disk office_scheme (stamped_judging (year_judging filing_judging)) (stamped_texts year_texts) year_counted year_ending no_verdicts
+      → CountedSession disk office_scheme (stamped_semantics (year_semantics filing_semantics)) (stamped_texts year_texts) year_counted year_ending no_verdicts
       (λ text. stamped_rows stamp (rows_of_text generate.students generate.seed text)) 16777216 old new input output ended
       → Does gives disk old new input output stamp (Generate generate) (ended_file ended)
   -- `check rows` and `check book`: lines are written, and no call is made on the disk
@@ -126,7 +126,7 @@ pub data Ran {D K : Type 0} (names : List (List ℕ)) (gives : PolicyAnswers) (d
 pub record FileRan {D K : Type 0} (disk : Ghosts D) (sink : SinkGhosts K) (stamp : Stamp) (old new : D) (input : Input) (out out' : K) (status : ℕ) : Type 0 where
   pub at : K
   pub ended : Result Unit SessionStop
-  pub session : Session disk office_scheme office_judging (stamped_texts desk_texts) (λ text. stamped_rows stamp (desk_rows text)) 16777216 old new input (written sink out at) ended
+  pub session : Session disk office_scheme office_semantics (stamped_texts desk_texts) (λ text. stamped_rows stamp (desk_rows text)) 16777216 old new input (written sink out at) ended
   pub honest : sink.honest at ≡ sink.honest out
   pub done : ended ≡ Ok tt → (out' ≡ at) × (status ≡ 0)
   pub early : (stop : SessionStop) → ended ≡ Err stop → EndsWith sink (session_line stop) (session_status stop) at out' status
@@ -140,7 +140,7 @@ reads_input (Fund fund) = false
 reads_input _ = true
 
 -- a command can be done: its input can be read, and the file is one for it
-abbrev pub CanBeDone : Command → Bool → ℕ → Telling → Type 0
+abbrev pub CanBeDone : Command → Bool → ℕ → DiskState → Type 0
 CanBeDone Found honest size disk = IsHonest disk × IsUnborn disk.reads
 CanBeDone File honest size disk = IsShort honest size × IsOffice disk
 CanBeDone (Book book) honest size disk = IsShort honest size × IsOffice disk

@@ -1,13 +1,13 @@
 -- What a report writes, and the tally before a generated year. Own.
 use Rattle.std.specs.Prelude.{ℕ, List, reverse}
 use Rattle.aid_filings.specs.declared.filing.Filing.{Filing}
-use Rattle.export_lines.specs.Exports.{export_text}
-use Rattle.aid_reports.specs.Reports.{award_report, lifetime_report, return_report, stamp_report, standing_report}
-use Rattle.generated_year.specs.declared.tally.YearTally.{YearTally}
+use Rattle.office_export.specs.Exports.{export_text}
+use Rattle.office_reports.specs.Reports.{award_report, lifetime_report, return_report, stamp_report, standing_report}
+use Rattle.run_generate.specs.declared.tally.YearTally.{YearTally}
 use Rattle.run_words.specs.declared.command.ReportRequest.{ReportRequest}
 use Rattle.run_words.specs.declared.command.ReportRequest.TheVariants as reports
-use Rattle.stamped_list.specs.Entries.{entries, stamps_of}
-use Rattle.stamped_list.specs.declared.entry.StampedEntry.{StampedEntry}
+use Rattle.log_stamps.specs.Entries.{entries, stamps_of}
+use Rattle.log_stamps.specs.declared.entry.StampedEntry.{StampedEntry}
 
 -- the text of a report, on a history with the newest filing first
 abbrev pub report_text : ReportRequest → List (StampedEntry Filing) → List ℕ

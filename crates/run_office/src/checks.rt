@@ -1,15 +1,15 @@
 // An input is looked at, and nothing of it is filed.
 ghost use Rattle.std.specs.Prelude.{◌≡◌, ◌≤◌, Ok};
 ghost use Rattle.run_office.specs.Ran.{ChecksBook, ChecksRows, Tallies};
-ghost use Rattle.kept_runs.specs.Ends.{Moved};
-ghost use Rattle.kept_runs.specs.Statuses.{is_read_fault, is_write_fault};
+ghost use Rattle.log_runs.specs.Ends.{Moved};
+ghost use Rattle.log_runs.specs.Statuses.{is_read_fault, is_write_fault};
 
-use aid_edges::{Sink, Source, write_whole};
-use desk_forms::put_tally;
-use kept_office::FiledOffice;
-use kept_runs::{RunStop, ended_checking};
-use kept_session::{CheckStop, CheckTally, check};
-use run_rows::{BookForms, DeskForms};
+use format_filings::put_tally;
+use io_traits::{Sink, Source, write_whole};
+use log_runs::{RunStop, ended_checking};
+use log_session::{CheckStop, CheckTally, check};
+use office_log::OfficeMachine;
+use run_rows::{BookRowFormat, DeskRowFormat};
 use run_words::BookNumber;
 use std::alloc::Global;
 
@@ -45,7 +45,7 @@ pub fn check_rows<S: Source, K: Sink>(
     ensures source_honest { S.honest input.new ≡ S.honest input.old }
     ensures sink_honest { K.honest out.new ≡ K.honest out.old }
 {
-    match check::<S, K, FiledOffice, DeskForms>(alloc, &DeskForms, input, out) {
+    match check::<S, K, OfficeMachine, DeskRowFormat>(alloc, &DeskRowFormat, input, out) {
         Ok(tally) => tell(alloc, tally, out),
         Err(stop) => Err(RunStop::Check(stop)),
     }
@@ -66,8 +66,8 @@ pub fn check_book<S: Source, K: Sink>(
     ensures source_honest { S.honest input.new ≡ S.honest input.old }
     ensures sink_honest { K.honest out.new ≡ K.honest out.old }
 {
-    let forms = BookForms {
+    let forms = BookRowFormat {
         book: BookNumber { number: 1 },
     };
-    ended_checking(check::<S, K, FiledOffice, BookForms>(alloc, &forms, input, out))
+    ended_checking(check::<S, K, OfficeMachine, BookRowFormat>(alloc, &forms, input, out))
 }

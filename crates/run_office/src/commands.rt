@@ -1,39 +1,38 @@
 // A run of the program: its words, its input, its journal, what it writes, and its status.
 ghost use Rattle.std.specs.Prelude.{◌≡◌, ◌⊎◌, ◌≤◌, ◌++◌, ℕ, false, IsTrue, List, length, map, string_bytes, [], ◌∷◌, codes};
 ghost use Rattle.aid_filings.specs.declared.filing.Filing.{Filing};
-ghost use Rattle.aid_edges.specs.Faults.{Rose};
-ghost use Rattle.disk_model.specs.Telling.{EachImage, EachMoment, IsHonest};
-ghost use Rattle.headline.specs.Filed.{HasFiled, rows_in};
-ghost use Rattle.headline.specs.Office.{Recovers};
-ghost use Rattle.headline.specs.Written.{Says};
-ghost use Rattle.kept_office.specs.Recovers.{Recovers as KeptRecovers};
+ghost use Rattle.io_traits.specs.Faults.{Rose};
+ghost use Rattle.io_traits.specs.DiskState.{EachImage, EachMoment, IsHonest};
+ghost use Rattle.run_claims.specs.Filed.{HasFiled, rows_in};
+ghost use Rattle.run_claims.specs.Office.{Recovers};
+ghost use Rattle.run_claims.specs.Written.{Says};
+ghost use Rattle.office_log.specs.Recovers.{Recovers as KeptRecovers};
 ghost use Rattle.office_history.specs.Within.{IsWithinEveryLimit};
 ghost use Rattle.run_words.specs.Stamped.{IsStampedRow};
 ghost use Rattle.run_words.specs.declared.command.Command.{Command as CommandData};
-ghost use Rattle.stamps.specs.declared.stamp.Stamp.{Stamp as StampData};
-ghost use Rattle.stamped_list.specs.Entries.{entries};
-ghost use Rattle.stamped_list.specs.declared.entry.StampedEntry.{StampedEntry};
+ghost use Rattle.aid_stamps.specs.declared.stamp.Stamp.{Stamp as StampData};
+ghost use Rattle.log_stamps.specs.Entries.{entries};
+ghost use Rattle.log_stamps.specs.declared.entry.StampedEntry.{StampedEntry};
 ghost use Rattle.run_office.specs.Moments.{MayRecover, Stands, StoodBefore};
 ghost use Rattle.run_office.specs.Ran.{CanBeDone, Does, FileRan, Ran, reads_input};
-ghost use Rattle.kept_runs.specs.Counts.{Shows};
-ghost use Rattle.kept_runs.specs.Ends.{Moved};
+ghost use Rattle.log_runs.specs.Counts.{Shows};
+ghost use Rattle.log_runs.specs.Ends.{Moved};
 ghost use Rattle.run_office.specs.Rounds.{IsPolicyAmong, gives_at};
-ghost use Rattle.kept_runs.specs.Statuses.{is_disk_fault, is_read_fault, is_write_fault};
+ghost use Rattle.log_runs.specs.Statuses.{is_disk_fault, is_read_fault, is_write_fault};
 
 use crate::checks::{check_book, check_rows};
 use crate::fund::file_round;
 use crate::inputs::{file_book, file_rows, file_year};
 use crate::report::OfficeReport;
-use aid_edges::{Sink, Source};
-use disk_model::Disk;
-use fund_policy::{Policies, Rule};
-use kept_office::StampedOffice;
-use kept_runs::{RunStop, end, ended_filing, ended_founding};
-use kept_session::{ReadStop, SessionStop, answer, found, write_report};
+use aid_stamps::Stamp;
+use io_traits::{Disk, Sink, Source};
+use law_funds::{Policies, Rule};
+use log_runs::{RunStop, end, ended_filing, ended_founding};
+use log_session::{ReadStop, SessionStop, answer, found, write_report};
+use log_stamps::StampedRows;
+use office_log::StampedOfficeMachine;
 use run_rows::QuoteRow;
 use run_words::{Command, command_of};
-use stamped_list::StampedRows;
-use stamps::Stamp;
 use std::alloc::Global;
 
 // Does what a command says under a stamp, up to how it ends.
@@ -63,14 +62,14 @@ fn do_command<D: Disk, S: Source, K: Sink>(
 {
     match command {
         Command::Found => {
-            let (ended, disk) = found::<D, K, StampedOffice>(alloc, disk, b"founded\n", out);
+            let (ended, disk) = found::<D, K, StampedOfficeMachine>(alloc, disk, b"founded\n", out);
             (ended_founding(ended), disk)
         }
         Command::File => file_rows(alloc, stamp, disk, input, out),
         Command::Book(book) => file_book(alloc, stamp, book, disk, input, out),
         Command::Quote(quote) => {
             let rows = QuoteRow::new(quote);
-            let (ended, disk) = answer::<D, K, StampedOffice, StampedRows<QuoteRow>>(
+            let (ended, disk) = answer::<D, K, StampedOfficeMachine, StampedRows<QuoteRow>>(
                 alloc,
                 disk,
                 StampedRows { rows, stamp },
@@ -80,7 +79,7 @@ fn do_command<D: Disk, S: Source, K: Sink>(
         }
         Command::Report(request) => {
             let report = OfficeReport { request };
-            let (ended, disk) = write_report::<D, K, StampedOffice, OfficeReport>(
+            let (ended, disk) = write_report::<D, K, StampedOfficeMachine, OfficeReport>(
                 alloc, disk, &report, out,
             );
             (ended_filing(ended), disk)

@@ -1,14 +1,14 @@
-// Copies of what the rows of desks file.
+// EntryCopies of what the rows of desks file.
 ghost use Rattle.std.specs.Prelude.{◌≡◌};
 ghost use Rattle.run_office.specs.Copies.{kept_ask, kept_filing, kept_what};
 
-use aid_filings::{Ask, Filing, What};
-use kept_crews::Marks;
-use kept_desks::Copies;
-use kept_office::{Stamped, StampedFiling, StampedOffice};
+use aid_filings::{Filing, Operation, What};
+use log_desk_runs::EntryMatch;
+use log_desks::EntryCopies;
+use office_log::{Stamped, StampedFiling, StampedOfficeMachine};
 
-/// Copies of what rows file.
-pub struct FilingCopies;
+/// EntryCopies of what rows file.
+pub struct FilingEntryCopies;
 
 // A copy of what is filed. A book's would take memory, and no row is one.
 fn copy_what(what: &What) -> Option<What>
@@ -20,7 +20,7 @@ fn copy_what(what: &What) -> Option<What>
         What::Calendar(facts) => Some(What::Calendar(*facts)),
         What::Prior(facts) => Some(What::Prior(*facts)),
         What::Apply(application) => Some(What::Apply(*application)),
-        What::Enrol(facts) => Some(What::Enrol(*facts)),
+        What::Enroll(facts) => Some(What::Enroll(*facts)),
         What::Originate(facts) => Some(What::Originate(*facts)),
         What::Pay(amount) => Some(What::Pay(*amount)),
         What::Withdraw(facts) => Some(What::Withdraw(*facts)),
@@ -41,30 +41,30 @@ fn copy_filing(filing: &Filing) -> Option<Filing>
 }
 
 // A copy of what is asked to be filed.
-fn copy_ask(ask: &Ask) -> Option<Filing>
-    ensures { result ≡ kept_ask ask.now }
+fn copy_ask(operation: &Operation) -> Option<Filing>
+    ensures { result ≡ kept_ask operation.now }
 {
-    match ask {
-        Ask::File(filing) => copy_filing(filing),
+    match operation {
+        Operation::File(filing) => copy_filing(filing),
         _ => None,
     }
 }
 
-impl Copies<StampedOffice> for FilingCopies {
+impl EntryCopies<StampedOfficeMachine> for FilingEntryCopies {
     ghost use Rattle.run_office.specs.Copies.{kept_stamped};
 
     ghost copied = { kept_stamped };
 
-    fn copy(ask: &Stamped) -> Option<StampedFiling> {
-        let entry = copy_ask(&ask.ask)?;
+    fn copy(operation: &Stamped) -> Option<StampedFiling> {
+        let entry = copy_ask(&operation.operation)?;
         Some(StampedFiling {
             entry,
-            stamp: ask.stamp,
+            stamp: operation.stamp,
         })
     }
 }
 
-impl Marks<StampedOffice> for FilingCopies {
+impl EntryMatch<StampedOfficeMachine> for FilingEntryCopies {
     ghost use Rattle.run_office.specs.Copies.{same_stamped};
     ghost use Rattle.run_office.specs.CopyLaws.{stamped_alike, stamped_itself, stamped_owned, stamped_tells};
 

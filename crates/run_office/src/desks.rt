@@ -1,25 +1,24 @@
 // A run of many desks: each has an input of its own, and files its rows while the others file theirs.
 ghost use Rattle.std.specs.Prelude.{◌≡◌, ◌⊎◌, ◌++◌, ℕ, IsTrue, List, map};
 ghost use Rattle.std.specs.List.{All};
-ghost use Rattle.aid_edges.specs.Faults.{Rose};
+ghost use Rattle.io_traits.specs.Faults.{Rose};
 ghost use Rattle.aid_filings.specs.declared.filing.Filing.{Filing};
-ghost use Rattle.disk_model.specs.Telling.{EachImage, IsHonest};
-ghost use Rattle.headline.specs.AtOnce.{RanAtOnce};
-ghost use Rattle.headline.specs.Filed.{rows_in};
-ghost use Rattle.headline.specs.Office.{Recovers};
-ghost use Rattle.office_lock.specs.Turning.{RoseBy};
+ghost use Rattle.io_traits.specs.DiskState.{EachImage, IsHonest};
+ghost use Rattle.run_claims.specs.AtOnce.{RanAtOnce};
+ghost use Rattle.run_claims.specs.Filed.{rows_in};
+ghost use Rattle.run_claims.specs.Office.{Recovers};
+ghost use Rattle.log_lock.specs.Turning.{RoseBy};
 ghost use Rattle.run_office.specs.RanDesks.{CanFile, NoneRose, RanDesks};
-ghost use Rattle.stamped_list.specs.declared.entry.StampedEntry.{StampedEntry};
+ghost use Rattle.log_stamps.specs.declared.entry.StampedEntry.{StampedEntry};
 
-use crate::copies::FilingCopies;
-use aid_edges::{Gate, Sink, Source};
-use disk_model::Disk;
-use kept_crews::{CrewInput, run_crew};
-use kept_office::StampedOffice;
-use kept_session::{ReadStop, read_rows};
-use run_rows::{DeskForms, DeskRows};
-use stamped_list::{StampedForms, StampedRows};
-use stamps::Stamp;
+use crate::copies::FilingEntryCopies;
+use aid_stamps::Stamp;
+use io_traits::{Disk, Sink, Source, SyncPoint};
+use log_desk_runs::{DeskSource, run_desks_on};
+use log_session::{ReadStop, read_rows};
+use log_stamps::{StampedRowFormat, StampedRows};
+use office_log::StampedOfficeMachine;
+use run_rows::{DeskRowFormat, DeskRows};
 use std::alloc::Global;
 use std::sync::Wait;
 use std::thread::Threads;
@@ -31,21 +30,25 @@ pub struct DeskInput<S> {
     pub stamp: Stamp,
 }
 
-impl<S: Source> CrewInput<StampedOffice> for DeskInput<S> {
+impl<S: Source> DeskSource<StampedOfficeMachine> for DeskInput<S> {
     ghost use Rattle.run_office.specs.RanDesks.{reads_of};
 
-    type Forms = StampedForms<DeskForms>;
+    type RowFormat = StampedRowFormat<DeskRowFormat>;
 
     type Rows = StampedRows<DeskRows>;
 
     ghost reads = { reads_of S.Source };
 
     fn read(&mut self, alloc: Global) -> Result<StampedRows<DeskRows>, ReadStop> {
-        let forms = StampedForms {
-            forms: DeskForms,
+        let forms = StampedRowFormat {
+            forms: DeskRowFormat,
             stamp: self.stamp,
         };
-        read_rows::<S, StampedOffice, StampedForms<DeskForms>>(alloc, &forms, &mut self.input)
+        read_rows::<S, StampedOfficeMachine, StampedRowFormat<DeskRowFormat>>(
+            alloc,
+            &forms,
+            &mut self.input,
+        )
     }
 }
 
@@ -59,7 +62,7 @@ impl<S: Source> CrewInput<StampedOffice> for DeskInput<S> {
 /// The status is 2 where there is no desk or more than 16, and 3, 4, 5, 6, 7, 8 and 9 as that of `run`. After the desks
 /// have filed it is 4 where a write failed, else 5 where a desk had a fault of the disk, else 9 where one had no memory,
 /// else 0.
-pub fn run_desks<D: Disk + Send, S: Source, G: Gate + Sync, K: Sink, H: Threads + Wait + Sync>(
+pub fn run_desks<D: Disk + Send, S: Source, G: SyncPoint + Sync, K: Sink, H: Threads + Wait + Sync>(
     rt: &H,
     alloc: Global,
     desks: &mut [DeskInput<S>],
@@ -81,7 +84,7 @@ pub fn run_desks<D: Disk + Send, S: Source, G: Gate + Sync, K: Sink, H: Threads 
         → ¬ (RoseBy 1 (D.faults disk) (D.faults result.1)) → (result.0 ≡ 0) ⊎ (result.0 ≡ 9) }
     ensures disk_honest { (D.tells result.1).honest ≡ (D.tells disk).honest }
 {
-    run_crew::<D, StampedOffice, DeskInput<S>, FilingCopies, G, K, H>(
+    run_desks_on::<D, StampedOfficeMachine, DeskInput<S>, FilingEntryCopies, G, K, H>(
         rt, alloc, desks, disk, gate, out,
     )
 }

@@ -1,32 +1,31 @@
 // A round of awards that is asked for.
 ghost use Rattle.std.specs.Prelude.{◌≡◌, ◌≢◌, ◌≤◌, ◌<◌, ◌^◌, ℕ, false, Err, IsTrue, IfErr, IfOk, OnOk, length, map};
 ghost use Rattle.std.specs.Vec.Iter.{into_iter_items};
-ghost use Rattle.aid_edges.specs.Faults.{Rose};
-ghost use Rattle.award_rounds.specs.Planned.{IsPlanned};
-ghost use Rattle.kept_office.specs.Scheme.{office_scheme};
-ghost use Rattle.kept_office.specs.Turns.{office_judging};
-ghost use Rattle.kept_session.specs.Planned.{Planned};
-ghost use Rattle.kept_session.specs.Sessions.{is_disk_fault};
-ghost use Rattle.stamped_list.specs.Rows.{stamped_texts};
+ghost use Rattle.io_traits.specs.Faults.{Rose};
+ghost use Rattle.office_rounds.specs.Planned.{IsPlanned};
+ghost use Rattle.office_log.specs.Scheme.{office_scheme};
+ghost use Rattle.office_log.specs.Submits.{office_semantics};
+ghost use Rattle.log_session.specs.Planned.{Planned};
+ghost use Rattle.log_session.specs.Sessions.{is_disk_fault};
+ghost use Rattle.log_stamps.specs.Rows.{stamped_texts};
 ghost use Rattle.run_office.specs.Rounds.{left_line as left_line_of, round_of as round_of_fund, round_plans, round_texts};
 
-use aid_edges::Sink;
-use aid_filings::{Ask, Filing, Verdict};
+use aid_filings::{Filing, Operation, Response};
+use aid_stamps::Stamp;
 use arrayvec::ArrayString;
-use award_rounds::{RoundRequest, plan_round};
-use desk_forms::{put_answer, put_error};
-use disk_model::Disk;
-use field_rows::RowError;
-use filing_rules::MOST_FILINGS;
-use fund_policy::{Policy, Rule};
-use kept_list::Rows;
-use kept_office::{FiledOffice, StampedOffice};
-use kept_runs::number_line;
-use kept_session::{FileStop, SessionStop, file_planned, open};
-use office_core::Office;
+use format_filings::{put_answer, put_error};
+use format_rows::RowError;
+use io_traits::{Disk, Sink};
+use law_funds::{Policy, Rule};
+use law_rules::MOST_FILINGS;
+use log_machine::Rows;
+use log_runs::number_line;
+use log_session::{FileStop, SessionStop, file_planned, open};
+use log_stamps::StampedRows;
+use office_index::Office;
+use office_log::{OfficeMachine, StampedOfficeMachine};
+use office_rounds::{RoundRequest, plan_round};
 use run_words::FundRequest;
-use stamped_list::StampedRows;
-use stamps::Stamp;
 use std::alloc::{AllocError, Global};
 use std::vec::IntoIter;
 
@@ -37,12 +36,12 @@ pub struct RoundRows {
     ghost few: { length (into_iter_items filings) < 2 ^ 32 },
 }
 
-impl Rows<FiledOffice> for RoundRows {
+impl Rows<OfficeMachine> for RoundRows {
     ghost use Rattle.std.specs.Prelude.{[]};
-    ghost use Rattle.kept_session.specs.Asks.{rows_of_asks};
+    ghost use Rattle.log_session.specs.Asks.{rows_of_asks};
     ghost use Rattle.run_office.specs.Rounds.{asks_of, round_texts};
 
-    type Forms = ();
+    type RowFormat = ();
 
     type Error = RowError;
 
@@ -60,9 +59,9 @@ impl Rows<FiledOffice> for RoundRows {
         MOST_FILINGS
     }
 
-    fn next(&mut self) -> Result<Option<Result<Ask, RowError>>, AllocError> {
+    fn next(&mut self) -> Result<Option<Result<Operation, RowError>>, AllocError> {
         match self.filings.next() {
-            Some(filing) => Ok(Some(Ok(Ask::File(filing)))),
+            Some(filing) => Ok(Some(Ok(Operation::File(filing)))),
             None => Ok(None),
         }
     }
@@ -70,10 +69,10 @@ impl Rows<FiledOffice> for RoundRows {
     fn put_answer(
         number: u32,
         front: u32,
-        verdict: &Verdict,
+        response: &Response,
         out: &mut Vec<u8>,
     ) -> Result<(), AllocError> {
-        put_answer(number, front, verdict, out)
+        put_answer(number, front, response, out)
     }
 
     fn put_error(error: &RowError, out: &mut Vec<u8>) -> Result<(), AllocError> {
@@ -128,7 +127,7 @@ pub fn file_round<D: Disk, K: Sink>(
     stamp: Stamp,
     out: &mut K,
 ) -> (Result<(), SessionStop>, D)
-    ensures planned { Planned D.Disk office_scheme office_judging (stamped_texts round_texts)
+    ensures planned { Planned D.Disk office_scheme office_semantics (stamped_texts round_texts)
         (round_plans (⟦<Rule as Fn(u32, i32, u8) -> u32>⟧.post policy.now.rule) stamp (round_of_fund fund)) disk result.1
         (record { honest = K.honest out.old; before = K.text out.old; after = K.text out.new }) result.0 }
     ensures write_fault { result.0 ≡ Err (SessionStop.Filing FileStop.Write) → Rose (K.faults out.old) (K.faults out.new) }
@@ -142,11 +141,11 @@ pub fn file_round<D: Disk, K: Sink>(
     ensures disk_honest { (D.tells result.1).honest ≡ (D.tells disk).honest }
     ensures sink_honest { K.honest out.new ≡ K.honest out.old }
 {
-    let mut kept = match open::<D, StampedOffice>(alloc, disk) {
+    let mut kept = match open::<D, StampedOfficeMachine>(alloc, disk) {
         Ok(kept) => kept,
         Err((error, disk)) => return (Err(SessionStop::Opening(error)), disk),
     };
-    let office = kept.docket().inner().office();
+    let office = kept.machine().inner().office();
     let (rows, closing) = match plan(alloc, office, &round_of(fund), policy) {
         Ok(planned) => planned,
         Err(_) => return (
@@ -154,7 +153,7 @@ pub fn file_round<D: Disk, K: Sink>(
             kept.into_disk(),
         ),
     };
-    match file_planned::<D, K, StampedOffice, StampedRows<RoundRows>>(
+    match file_planned::<D, K, StampedOfficeMachine, StampedRows<RoundRows>>(
         alloc,
         &mut kept,
         StampedRows { rows, stamp },

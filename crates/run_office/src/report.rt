@@ -1,7 +1,7 @@
 // A report that is asked for.
-use aid_reports::{awards, export, lifetimes, returns, stamp_lines, standings};
-use kept_office::StampedOffice;
-use kept_session::Report;
+use log_session::Report;
+use office_log::StampedOfficeMachine;
+use office_reports::{awards, export, lifetimes, returns, stamp_lines, standings};
 use run_words::ReportRequest;
 use std::alloc::{AllocError, Global};
 
@@ -11,19 +11,19 @@ pub struct OfficeReport {
     pub request: ReportRequest,
 }
 
-impl Report<StampedOffice> for OfficeReport {
+impl Report<StampedOfficeMachine> for OfficeReport {
     ghost use Rattle.run_office.specs.Texts.{report_text};
 
     ghost text = { λ report. report_text report.request };
 
-    fn write(&self, alloc: Global, docket: &StampedOffice) -> Result<Vec<u8>, AllocError> {
-        let office = docket.inner().office();
+    fn write(&self, alloc: Global, machine: &StampedOfficeMachine) -> Result<Vec<u8>, AllocError> {
+        let office = machine.inner().office();
         match self.request {
             ReportRequest::Standing(of) => standings(alloc, office, of.year),
             ReportRequest::Awards(of) => awards(alloc, office, of.year),
             ReportRequest::Returns(of) => returns(alloc, office, of.year),
             ReportRequest::Lifetime => lifetimes(alloc, office),
-            ReportRequest::Stamps => stamp_lines(alloc, docket.stamps()),
+            ReportRequest::Stamps => stamp_lines(alloc, machine.stamps()),
             ReportRequest::Export(of) => export(alloc, office, of.year),
         }
     }

@@ -1,13 +1,13 @@
 // A text that is one book.
 ghost use Rattle.aid_types.specs.Ranges.{IsBetween};
 
-use aid_filings::{Ask, Filing, Verdict};
-use desk_forms::{book_filing, put_answer, put_book_error, put_fine};
-use filing_rules::MOST_FILINGS;
-use kept_list::{Docket, Forms, Rows};
+use aid_filings::{Filing, Operation, Response};
+use format_books::BookError;
+use format_filings::{book_filing, put_answer, put_book_error, put_fine};
+use law_rules::MOST_FILINGS;
+use log_machine::{RowFormat, Rows, StateMachine};
 use run_words::BookNumber;
 use std::alloc::{AllocError, Global};
-use year_books::BookError;
 
 /// The book of a text, or why the text is none, until it was filed.
 #[derive(Drop)]
@@ -15,10 +15,10 @@ pub struct BookRow {
     book: Option<Result<Filing, BookError>>,
 }
 
-impl<R: Docket<Ask = Ask, Verdict = Verdict>> Rows<R> for BookRow {
+impl<R: StateMachine<Operation = Operation, Response = Response>> Rows<R> for BookRow {
     ghost use Rattle.run_rows.specs.Asks.{book_left, book_rows, book_texts};
 
-    type Forms = BookForms;
+    type RowFormat = BookRowFormat;
 
     type Error = BookError;
 
@@ -36,9 +36,9 @@ impl<R: Docket<Ask = Ask, Verdict = Verdict>> Rows<R> for BookRow {
         MOST_FILINGS
     }
 
-    fn next(&mut self) -> Result<Option<Result<Ask, BookError>>, AllocError> {
+    fn next(&mut self) -> Result<Option<Result<Operation, BookError>>, AllocError> {
         Ok(match self.book.take() {
-            Some(Ok(filing)) => Some(Ok(Ask::File(filing))),
+            Some(Ok(filing)) => Some(Ok(Operation::File(filing))),
             Some(Err(error)) => Some(Err(error)),
             None => None,
         })
@@ -47,10 +47,10 @@ impl<R: Docket<Ask = Ask, Verdict = Verdict>> Rows<R> for BookRow {
     fn put_answer(
         number: u32,
         front: u32,
-        verdict: &Verdict,
+        response: &Response,
         out: &mut Vec<u8>,
     ) -> Result<(), AllocError> {
-        put_answer(number, front, verdict, out)
+        put_answer(number, front, response, out)
     }
 
     fn put_error(error: &BookError, out: &mut Vec<u8>) -> Result<(), AllocError> {
@@ -60,12 +60,12 @@ impl<R: Docket<Ask = Ask, Verdict = Verdict>> Rows<R> for BookRow {
 
 /// The form of a book that the office's own desk files under a number.
 #[derive(Drop)]
-pub struct BookForms {
+pub struct BookRowFormat {
     pub book: BookNumber,
 }
 
-impl<R: Docket<Ask = Ask, Verdict = Verdict>> Forms<R> for BookForms {
-    ghost use Rattle.desk_forms.specs.Lines.{fine_line};
+impl<R: StateMachine<Operation = Operation, Response = Response>> RowFormat<R> for BookRowFormat {
+    ghost use Rattle.format_filings.specs.Lines.{fine_line};
 
     type Rows = BookRow;
 

@@ -1,9 +1,9 @@
 // The rows that the desks file.
-use aid_filings::{Ask, Filing, Verdict};
-use desk_forms::{FilingForm, put_answer, put_error, put_fine};
-use field_rows::{RowError, TextRows};
-use filing_rules::MOST_FILINGS;
-use kept_list::{Docket, Forms, Rows};
+use aid_filings::{Filing, Operation, Response};
+use format_filings::{FilingForm, put_answer, put_error, put_fine};
+use format_rows::{RowError, TextRows};
+use law_rules::MOST_FILINGS;
+use log_machine::{RowFormat, Rows, StateMachine};
 use std::alloc::{AllocError, Global};
 
 /// The rows of a text that weren't filed yet.
@@ -12,11 +12,11 @@ pub struct DeskRows {
     rows: TextRows<FilingForm>,
 }
 
-impl<R: Docket<Ask = Ask, Verdict = Verdict>> Rows<R> for DeskRows {
+impl<R: StateMachine<Operation = Operation, Response = Response>> Rows<R> for DeskRows {
     ghost use Rattle.std.specs.Prelude.{map};
     ghost use Rattle.run_rows.specs.Asks.{asked, desk_rows, desk_texts};
 
-    type Forms = DeskForms;
+    type RowFormat = DeskRowFormat;
 
     type Error = RowError;
 
@@ -34,9 +34,9 @@ impl<R: Docket<Ask = Ask, Verdict = Verdict>> Rows<R> for DeskRows {
         MOST_FILINGS
     }
 
-    fn next(&mut self) -> Result<Option<Result<Ask, RowError>>, AllocError> {
+    fn next(&mut self) -> Result<Option<Result<Operation, RowError>>, AllocError> {
         match self.rows.next()? {
-            Some(Ok(filing)) => Ok(Some(Ok(Ask::File(filing)))),
+            Some(Ok(filing)) => Ok(Some(Ok(Operation::File(filing)))),
             Some(Err(error)) => Ok(Some(Err(error))),
             None => Ok(None),
         }
@@ -45,10 +45,10 @@ impl<R: Docket<Ask = Ask, Verdict = Verdict>> Rows<R> for DeskRows {
     fn put_answer(
         number: u32,
         front: u32,
-        verdict: &Verdict,
+        response: &Response,
         out: &mut Vec<u8>,
     ) -> Result<(), AllocError> {
-        put_answer(number, front, verdict, out)
+        put_answer(number, front, response, out)
     }
 
     fn put_error(error: &RowError, out: &mut Vec<u8>) -> Result<(), AllocError> {
@@ -58,10 +58,10 @@ impl<R: Docket<Ask = Ask, Verdict = Verdict>> Rows<R> for DeskRows {
 
 /// The forms of rows of all kinds but books.
 #[derive(Drop)]
-pub struct DeskForms;
+pub struct DeskRowFormat;
 
-impl<R: Docket<Ask = Ask, Verdict = Verdict>> Forms<R> for DeskForms {
-    ghost use Rattle.desk_forms.specs.Lines.{fine_line};
+impl<R: StateMachine<Operation = Operation, Response = Response>> RowFormat<R> for DeskRowFormat {
+    ghost use Rattle.format_filings.specs.Lines.{fine_line};
 
     type Rows = DeskRows;
 

@@ -5,6 +5,6 @@ mod book;
 mod desk;
 mod quote;
 
-pub use book::{BookForms, BookRow};
-pub use desk::{DeskForms, DeskRows};
+pub use book::{BookRow, BookRowFormat};
+pub use desk::{DeskRowFormat, DeskRows};
 pub use quote::QuoteRow;

@@ -1,9 +1,9 @@
 // A quote that is asked.
-use aid_filings::{Ask, Verdict};
-use desk_forms::{put_error, put_quote};
-use field_rows::RowError;
-use filing_rules::MOST_FILINGS;
-use kept_list::{Docket, Rows};
+use aid_filings::{Operation, Response};
+use format_filings::{put_error, put_quote};
+use format_rows::RowError;
+use law_rules::MOST_FILINGS;
+use log_machine::{Rows, StateMachine};
 use run_words::QuoteRequest;
 use std::alloc::AllocError;
 
@@ -24,11 +24,11 @@ impl QuoteRow {
     }
 }
 
-impl<R: Docket<Ask = Ask, Verdict = Verdict>> Rows<R> for QuoteRow {
+impl<R: StateMachine<Operation = Operation, Response = Response>> Rows<R> for QuoteRow {
     ghost use Rattle.std.specs.Prelude.{[]};
     ghost use Rattle.run_rows.specs.Asks.{quote_left, quote_texts};
 
-    type Forms = ();
+    type RowFormat = ();
 
     type Error = RowError;
 
@@ -46,9 +46,9 @@ impl<R: Docket<Ask = Ask, Verdict = Verdict>> Rows<R> for QuoteRow {
         MOST_FILINGS
     }
 
-    fn next(&mut self) -> Result<Option<Result<Ask, RowError>>, AllocError> {
+    fn next(&mut self) -> Result<Option<Result<Operation, RowError>>, AllocError> {
         match self.quote.take() {
-            Some(quote) => Ok(Some(Ok(Ask::Quote {
+            Some(quote) => Ok(Some(Ok(Operation::Quote {
                 school: quote.school,
                 student: quote.student,
                 year: quote.year,
@@ -61,11 +61,11 @@ impl<R: Docket<Ask = Ask, Verdict = Verdict>> Rows<R> for QuoteRow {
     fn put_answer(
         _number: u32,
         _front: u32,
-        verdict: &Verdict,
+        response: &Response,
         out: &mut Vec<u8>,
     ) -> Result<(), AllocError> {
-        match verdict {
-            Verdict::Quoted(cents) => put_quote(*cents, out),
+        match response {
+            Response::Quoted(cents) => put_quote(*cents, out),
             _ => Ok(()),
         }
     }

@@ -4,10 +4,10 @@ use Rattle.std.specs.Prelude.{nat_le, if◌then◌else◌}
 use Rattle.std.proofs.lemmas.List.{length-drop, length-reverse, length-take-le, reverse-append, reverse-reverse}
 use Rattle.std.proofs.Math.Seq.{drop-append_seam}
 use Rattle.aid_filings.specs.declared.filing.Filing.{Filing}
-use Rattle.stamped_list.specs.Entries.{entries, stamps_of}
-use Rattle.stamped_list.specs.StampedLaws.{length-entries}
-use Rattle.stamped_list.specs.declared.entry.StampedEntry.{StampedEntry}
-use Rattle.stamps.specs.declared.stamp.Stamp.{Stamp}
+use Rattle.log_stamps.specs.Entries.{entries, stamps_of}
+use Rattle.log_stamps.specs.StampedLaws.{length-entries}
+use Rattle.log_stamps.specs.declared.entry.StampedEntry.{StampedEntry}
+use Rattle.aid_stamps.specs.declared.stamp.Stamp.{Stamp}
 use Rattle.run_sheets.specs.Texts.{first_of, sheet_of, sheet_on, sheet_upto}
 use Rattle.run_sheets.specs.declared.request.Position.{Position}
 use Rattle.run_sheets.specs.declared.request.SheetRequest.{SheetRequest}

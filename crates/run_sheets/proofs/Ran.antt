@@ -1,27 +1,27 @@
 -- What follows from how a sheet is written.
 use Rattle.std.proofs.Common.{◌≡◌, inl, inr, ℕ, ◌≤◌, arith, false, List, ◌++◌, Result, Ok, IsTrue, ap, refl, subst, sym, ◌∙◌}
 use Rattle.std.specs.Prelude.{IfErr}
-use Rattle.aid_edges.specs.Faults.{Rose}
-use Rattle.aid_edges.specs.declared.sink.Sink.{Ghosts as SinkGhosts}
+use Rattle.io_traits.specs.Faults.{Rose}
+use Rattle.io_traits.specs.declared.sink.Sink.{Ghosts as SinkGhosts}
 use Rattle.aid_filings.specs.declared.filing.Filing.{Filing}
-use Rattle.disk_model.specs.Telling.{EachImage, EachMoment, IsHonest}
-use Rattle.disk_model.specs.declared.disk.Disk.{Ghosts}
-use Rattle.kept_list.proofs.Histories.{recovers_once}
-use Rattle.kept_office.specs.OfficeLaws.{office_alone}
-use Rattle.kept_office.specs.Openable.{IsOffice}
-use Rattle.kept_office.specs.Recovers.{Recovers}
-use Rattle.kept_office.specs.Scheme.{office_scheme}
-use Rattle.kept_runs.specs.Counts.{Counts, HasCause, written}
-use Rattle.kept_runs.specs.Ends.{Ends, Moved, stopped, well}
-use Rattle.kept_runs.specs.Statuses.{ended_file, is_disk_fault, is_read_fault, is_write_fault, status_of}
-use Rattle.kept_runs.specs.declared.stop.RunStop.{RunStop}
-use Rattle.kept_runs.proofs.EndLaws.{done_at, sink_moved}
-use Rattle.kept_runs.proofs.Excused.{IsExcused, unopened_by}
-use Rattle.kept_session.specs.Edges.{Output}
-use Rattle.kept_session.specs.Links.{IsOpened}
-use Rattle.kept_session.specs.Reports.{Reports, starved, told, unopened, unwritten}
-use Rattle.kept_session.specs.declared.stop.SessionStop.{SessionStop}
-use Rattle.stamped_list.specs.declared.entry.StampedEntry.{StampedEntry}
+use Rattle.io_traits.specs.DiskState.{EachImage, EachMoment, IsHonest}
+use Rattle.io_traits.specs.declared.disk.Disk.{Ghosts}
+use Rattle.log_machine.proofs.Histories.{recovers_once}
+use Rattle.office_log.specs.OfficeLaws.{office_alone}
+use Rattle.office_log.specs.Openable.{IsOffice}
+use Rattle.office_log.specs.Recovers.{Recovers}
+use Rattle.office_log.specs.Scheme.{office_scheme}
+use Rattle.log_runs.specs.Counts.{Counts, HasCause, written}
+use Rattle.log_runs.specs.Ends.{Ends, Moved, stopped, well}
+use Rattle.log_runs.specs.Statuses.{ended_file, is_disk_fault, is_read_fault, is_write_fault, status_of}
+use Rattle.log_runs.specs.declared.stop.RunStop.{RunStop}
+use Rattle.log_runs.proofs.EndLaws.{done_at, sink_moved}
+use Rattle.log_runs.proofs.Excused.{IsExcused, unopened_by}
+use Rattle.log_session.specs.Edges.{Output}
+use Rattle.log_session.specs.Links.{IsOpened}
+use Rattle.log_session.specs.Reports.{Reports, starved, told, unopened, unwritten}
+use Rattle.log_session.specs.declared.stop.SessionStop.{SessionStop}
+use Rattle.log_stamps.specs.declared.entry.StampedEntry.{StampedEntry}
 use Rattle.run_sheets.specs.Runs.{RanSheets, did, edges}
 use Rattle.run_sheets.specs.Texts.{sheet_text}
 use Rattle.run_sheets.specs.Words.{sheet_words}

@@ -1,14 +1,14 @@
 -- What a run does that writes a sheet.
 use Rattle.std.specs.Prelude.{◌≡◌, ℕ, List, Result, Err}
-use Rattle.aid_edges.specs.declared.sink.Sink.{Ghosts as SinkGhosts}
-use Rattle.disk_model.specs.declared.disk.Disk.{Ghosts}
-use Rattle.kept_office.specs.Scheme.{office_scheme}
-use Rattle.kept_runs.specs.Counts.{Counts, HasCause, written}
-use Rattle.kept_runs.specs.Ends.{Ends}
-use Rattle.kept_runs.specs.Statuses.{ended_file}
-use Rattle.kept_runs.specs.declared.stop.RunStop.TheVariants.{Usage}
-use Rattle.kept_session.specs.Reports.{Reports}
-use Rattle.kept_session.specs.declared.stop.SessionStop.{SessionStop}
+use Rattle.io_traits.specs.declared.sink.Sink.{Ghosts as SinkGhosts}
+use Rattle.io_traits.specs.declared.disk.Disk.{Ghosts}
+use Rattle.office_log.specs.Scheme.{office_scheme}
+use Rattle.log_runs.specs.Counts.{Counts, HasCause, written}
+use Rattle.log_runs.specs.Ends.{Ends}
+use Rattle.log_runs.specs.Statuses.{ended_file}
+use Rattle.log_runs.specs.declared.stop.RunStop.TheVariants.{Usage}
+use Rattle.log_session.specs.Reports.{Reports}
+use Rattle.log_session.specs.declared.stop.SessionStop.{SessionStop}
 use Rattle.run_sheets.specs.Texts.{sheet_text}
 use Rattle.run_sheets.specs.Words.{sheet_words}
 use Rattle.run_sheets.specs.declared.request.SheetRow.{SheetRow}

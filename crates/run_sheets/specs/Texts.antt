@@ -1,19 +1,19 @@
 -- The text of a sheet. Own.
 use Rattle.std.specs.Prelude.{ℕ, ◌-◌, nat_le, List, Option, Some, None, codes, drop, if◌then◌else◌, length, reverse}
 use Rattle.aid_filings.specs.declared.filing.Filing.{Filing}
-use Rattle.aid_reports.specs.Reports.{award_report, lifetime_report, return_report, stamp_report, standing_report}
-use Rattle.aid_sheets.specs.Ledgers.{student_sheet}
-use Rattle.aid_sheets.specs.Lists.{list_sheet}
-use Rattle.need_worksheet.specs.Need.{need_sheet}
-use Rattle.aid_sheets.specs.Payments.{payments_sheet}
-use Rattle.aid_sheets.specs.Quotes.{quotes_sheet}
-use Rattle.export_lines.specs.Exports.{export_text}
-use Rattle.return_worksheet.specs.ReturnSheet.{return_sheet}
+use Rattle.office_reports.specs.Reports.{award_report, lifetime_report, return_report, stamp_report, standing_report}
+use Rattle.office_sheets.specs.Ledgers.{student_sheet}
+use Rattle.office_sheets.specs.Lists.{list_sheet}
+use Rattle.sheet_need.specs.Need.{need_sheet}
+use Rattle.office_sheets.specs.Payments.{payments_sheet}
+use Rattle.office_sheets.specs.Quotes.{quotes_sheet}
+use Rattle.office_export.specs.Exports.{export_text}
+use Rattle.sheet_r2t4.specs.ReturnSheet.{return_sheet}
 use Rattle.run_words.specs.declared.command.ReportRequest.{ReportRequest}
 use Rattle.run_words.specs.declared.command.ReportRequest.TheVariants as reports
-use Rattle.stamped_list.specs.Entries.{entries, stamps_of}
-use Rattle.stamped_list.specs.declared.entry.StampedEntry.{StampedEntry}
-use Rattle.stamps.specs.declared.stamp.Stamp.{Stamp}
+use Rattle.log_stamps.specs.Entries.{entries, stamps_of}
+use Rattle.log_stamps.specs.declared.entry.StampedEntry.{StampedEntry}
+use Rattle.aid_stamps.specs.declared.stamp.Stamp.{Stamp}
 use Rattle.run_sheets.specs.declared.request.Position.{Position}
 use Rattle.run_sheets.specs.declared.request.SheetRequest.{SheetRequest}
 use Rattle.run_sheets.specs.declared.request.SheetRequest.TheVariants as sheets

@@ -1,19 +1,19 @@
 //! A run that writes a sheet.
 ghost use Rattle.std.specs.Prelude.{◌≡◌, ◌⊎◌, ◌≤◌, ◌++◌, ℕ, IsTrue, List, Result, map, string_bytes};
-ghost use Rattle.aid_edges.specs.Faults.{Rose};
+ghost use Rattle.io_traits.specs.Faults.{Rose};
 ghost use Rattle.aid_filings.specs.declared.filing.Filing.{Filing};
-ghost use Rattle.disk_model.specs.Telling.{EachImage, EachMoment, IsHonest};
-ghost use Rattle.kept_office.specs.Openable.{IsOffice};
-ghost use Rattle.kept_office.specs.Recovers.{Recovers};
-ghost use Rattle.kept_office.specs.Scheme.{office_scheme};
-ghost use Rattle.kept_runs.specs.Counts.{Shows};
-ghost use Rattle.kept_runs.specs.Ends.{Moved};
-ghost use Rattle.kept_runs.specs.Statuses.{ended_file, is_disk_fault, is_read_fault, is_write_fault};
-ghost use Rattle.kept_session.specs.Reports.{Reports};
-ghost use Rattle.kept_session.specs.declared.stop.SessionStop.{SessionStop as Stopping};
+ghost use Rattle.io_traits.specs.DiskState.{EachImage, EachMoment, IsHonest};
+ghost use Rattle.office_log.specs.Openable.{IsOffice};
+ghost use Rattle.office_log.specs.Recovers.{Recovers};
+ghost use Rattle.office_log.specs.Scheme.{office_scheme};
+ghost use Rattle.log_runs.specs.Counts.{Shows};
+ghost use Rattle.log_runs.specs.Ends.{Moved};
+ghost use Rattle.log_runs.specs.Statuses.{ended_file, is_disk_fault, is_read_fault, is_write_fault};
+ghost use Rattle.log_session.specs.Reports.{Reports};
+ghost use Rattle.log_session.specs.declared.stop.SessionStop.{SessionStop as Stopping};
 ghost use Rattle.office_history.specs.Within.{IsWithinEveryLimit};
-ghost use Rattle.stamped_list.specs.Entries.{entries};
-ghost use Rattle.stamped_list.specs.declared.entry.StampedEntry.{StampedEntry};
+ghost use Rattle.log_stamps.specs.Entries.{entries};
+ghost use Rattle.log_stamps.specs.declared.entry.StampedEntry.{StampedEntry};
 ghost use Rattle.run_sheets.specs.Runs.{RanSheets, edges};
 ghost use Rattle.run_sheets.specs.Texts.{sheet_text};
 ghost use Rattle.run_sheets.specs.Words.{sheet_words};
@@ -22,11 +22,10 @@ ghost use Rattle.run_sheets.specs.declared.request.SheetRow.{SheetRow as RowData
 use crate::request::SheetRow;
 use crate::sheet::SheetReport;
 use crate::words::row_of;
-use aid_edges::Sink;
-use disk_model::Disk;
-use kept_office::StampedOffice;
-use kept_runs::{RunStop, end, ended_filing};
-use kept_session::write_report;
+use io_traits::{Disk, Sink};
+use log_runs::{RunStop, end, ended_filing};
+use log_session::write_report;
+use office_log::StampedOfficeMachine;
 use std::alloc::Global;
 
 // Opens the office of the disk's file, and writes the sheet of a row, up to how it ends.
@@ -47,7 +46,9 @@ fn write_sheet<D: Disk, K: Sink>(
     ensures disk_honest { (D.tells result.1).honest ≡ (D.tells disk).honest }
 {
     let report = SheetReport { row };
-    let (ended, disk) = write_report::<D, K, StampedOffice, SheetReport>(alloc, disk, &report, out);
+    let (ended, disk) = write_report::<D, K, StampedOfficeMachine, SheetReport>(
+        alloc, disk, &report, out,
+    );
     (ended_filing(ended), disk)
 }
 

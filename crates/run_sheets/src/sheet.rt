@@ -3,15 +3,15 @@ ghost use Rattle.std.specs.Prelude.{◌≡◌, ◌-◌, ◌≤◌, IfOk, drop, l
 ghost use Rattle.run_sheets.specs.Texts.{report_on, sheet_on};
 
 use crate::request::{SheetRequest, SheetRow};
-use aid_reports::{awards, export, lifetimes, returns, stamp_lines, standings};
-use aid_sheets::{front_of, list, none_text, payments, quotes, student};
-use kept_office::StampedOffice;
-use kept_session::Report;
-use need_worksheet::need;
-use office_core::Office;
-use return_worksheet::withdrawal;
+use aid_stamps::Stamp;
+use log_session::Report;
+use office_index::Office;
+use office_log::StampedOfficeMachine;
+use office_reports::{awards, export, lifetimes, returns, stamp_lines, standings};
+use office_sheets::{front_of, list, none_text, payments, quotes, student};
 use run_words::ReportRequest;
-use stamps::Stamp;
+use sheet_need::need;
+use sheet_r2t4::withdrawal;
 use std::alloc::{AllocError, Global};
 
 /// The sheet of a row, as a text of the office.
@@ -20,14 +20,14 @@ pub struct SheetReport {
     pub row: SheetRow,
 }
 
-impl Report<StampedOffice> for SheetReport {
+impl Report<StampedOfficeMachine> for SheetReport {
     ghost use Rattle.run_sheets.specs.Texts.{sheet_text};
 
     ghost text = { λ report. sheet_text report.row };
 
-    fn write(&self, alloc: Global, docket: &StampedOffice) -> Result<Vec<u8>, AllocError> {
-        let office = docket.inner().office();
-        let stamps = docket.stamps();
+    fn write(&self, alloc: Global, machine: &StampedOfficeMachine) -> Result<Vec<u8>, AllocError> {
+        let office = machine.inner().office();
+        let stamps = machine.stamps();
         match self.row.upto {
             None => sheet(alloc, self.row.request, office, stamps),
             Some(last) => {

@@ -3,27 +3,27 @@ use Rattle.std.proofs.Common.{◌≡◌, inl, inr, ◌⊎◌, ⊎_elim, ℕ, Lis
 use Rattle.std.proofs.Math.Seq.{drop-length}
 use Rattle.std.proofs.lemmas.Bool.{true≢false, false≢true}
 use Rattle.std.specs.Prelude.{◌==◌}
-use Rattle.aid_edges.specs.Faults.{Rose}
-use Rattle.aid_edges.specs.declared.sink.Sink.{Ghosts as SinkGhosts}
+use Rattle.io_traits.specs.Faults.{Rose}
+use Rattle.io_traits.specs.declared.sink.Sink.{Ghosts as SinkGhosts}
 use Rattle.aid_filings.specs.declared.filing.Filing.{Filing}
-use Rattle.disk_model.specs.Telling.{EachImage, EachMoment, IsHonest, IsRead, Telling}
-use Rattle.disk_model.specs.declared.disk.Disk.{Ghosts}
-use Rattle.disk_model.proofs.Moments.{started, weaken}
-use Rattle.filing_journal.proofs.Unique.{not_unborn}
-use Rattle.filing_journal.specs.Founded.{UnbornOrEmpty}
-use Rattle.filing_journal.specs.Head.{IsBorn, IsOld}
-use Rattle.filing_journal.specs.Header.{with_version}
-use Rattle.filing_journal.specs.Stands.{IsUnborn}
-use Rattle.filing_journal.specs.declared.header.Header.{Header}
-use Rattle.kept_list.proofs.Histories.{recovers_once}
-use Rattle.kept_list.specs.declared.kept.FoundFault.{FoundFault}
-use Rattle.kept_list.specs.declared.kept.FoundFault.TheVariants as founding
-use Rattle.kept_office.specs.OfficeLaws.{alone}
-use Rattle.kept_office.specs.Recovers.{Recovers}
-use Rattle.kept_office.specs.Scheme.{filing_scheme, office_header, office_scheme, old_header}
-use Rattle.kept_runs.specs.Ends.{EndsWith, Moved, told, untold}
-use Rattle.kept_runs.specs.Puts.{HasPut}
-use Rattle.kept_session.specs.Sessions.{IsNotFounded}
+use Rattle.io_traits.specs.DiskState.{EachImage, EachMoment, IsHonest, IsRead, DiskState}
+use Rattle.io_traits.specs.declared.disk.Disk.{Ghosts}
+use Rattle.io_traits.proofs.Moments.{started, weaken}
+use Rattle.log_journal.proofs.Unique.{not_unborn}
+use Rattle.log_journal.specs.Founded.{UnbornOrEmpty}
+use Rattle.log_journal.specs.Head.{IsBorn, IsOld}
+use Rattle.log_journal.specs.Header.{with_version}
+use Rattle.log_journal.specs.Stands.{IsUnborn}
+use Rattle.log_journal.specs.declared.header.Header.{Header}
+use Rattle.log_machine.proofs.Histories.{recovers_once}
+use Rattle.log_machine.specs.declared.kept.FoundFault.{FoundFault}
+use Rattle.log_machine.specs.declared.kept.FoundFault.TheVariants as founding
+use Rattle.office_log.specs.OfficeLaws.{alone}
+use Rattle.office_log.specs.Recovers.{Recovers}
+use Rattle.office_log.specs.Scheme.{filing_scheme, office_header, office_scheme, old_header}
+use Rattle.log_runs.specs.Ends.{EndsWith, Moved, told, untold}
+use Rattle.log_runs.specs.Puts.{HasPut}
+use Rattle.log_session.specs.Sessions.{IsNotFounded}
 use Rattle.run_upgrade.specs.Ends.{is_source_fault, is_target_fault, line_of, source_status, status_of, target_status}
 use Rattle.run_upgrade.specs.Fronts.{UnbornOrFront, under_plain}
 use Rattle.run_upgrade.specs.Upgrades.{Copies, Counts, Fills, HasCause, HasList, IsOldOffice, RecoversOld, Refuses, copied, source_read, source_refused, stopped, target_refused}
@@ -44,7 +44,7 @@ empty_front history file (inl unborn) = inl unborn
 empty_front history file (inr stands) = inr (length history, subst (λ (l : List Filing). Recovers file (under_plain l)) (sym (drop-length history)) (record { stands = stands; entries = tt; legal = tt }))
 
 -- no call is a look
-pub read_none : (at : Telling) → IsRead at at
+pub read_none : (at : DiskState) → IsRead at at
 read_none at = record {
   reads = refl;
   images = λ c is. is;

@@ -2,21 +2,21 @@
 use Rattle.std.proofs.Common.{◌≡◌, inl, inr, ℕ, List, [], length, reverse, Option, None, sym, ◌∙◌, ap, subst, IsTrue}
 use Rattle.std.proofs.lemmas.List.{length-reverse}
 use Rattle.aid_filings.specs.declared.filing.Filing.{Filing}
-use Rattle.disk_model.specs.Telling.{EachImage, EachMoment, IsHonest}
-use Rattle.disk_model.specs.declared.disk.Disk.{Ghosts}
-use Rattle.disk_model.proofs.Moments.{join, weaken}
-use Rattle.filing_journal.specs.Founded.{UnbornOrEmpty}
-use Rattle.filing_journal.specs.Stands.{IsUnborn}
-use Rattle.kept_list.specs.Kept.{IsSound}
-use Rattle.kept_office.specs.Recovers.{Recovers}
-use Rattle.kept_office.specs.Scheme.{office_header, office_scheme}
-use Rattle.kept_session.proofs.Standing.{settled}
+use Rattle.io_traits.specs.DiskState.{EachImage, EachMoment, IsHonest}
+use Rattle.io_traits.specs.declared.disk.Disk.{Ghosts}
+use Rattle.io_traits.proofs.Moments.{join, weaken}
+use Rattle.log_journal.specs.Founded.{UnbornOrEmpty}
+use Rattle.log_journal.specs.Stands.{IsUnborn}
+use Rattle.log_machine.specs.Kept.{IsSound}
+use Rattle.office_log.specs.Recovers.{Recovers}
+use Rattle.office_log.specs.Scheme.{office_header, office_scheme}
+use Rattle.log_session.proofs.Standing.{settled}
 use Rattle.run_upgrade.specs.Fronts.{RecoversFront, UnbornOrFront, under_plain}
 use Rattle.run_upgrade.specs.Upgrades.{Fills, IsBegun, copied, stopped}
 use Rattle.run_upgrade.specs.declared.ending.CopyFault.{CopyFault}
 use Rattle.run_upgrade.specs.declared.ending.UpgradeEnd.TheVariants.{Copied, Copying}
 use Rattle.run_upgrade.proofs.Ended.{empty_front}
-use Rattle.stamped_list.specs.declared.entry.StampedEntry.{StampedEntry}
+use Rattle.log_stamps.specs.declared.entry.StampedEntry.{StampedEntry}
 
 -- `at` is the disk of the list that was founded, and `last` that of the list behind the copying
 module _ {B : Type 0} (disk : Ghosts B) (history : List Filing) (items : List Filing) (is : reverse items ≡ history) (old at last new : B) (given : new ≡ last)

@@ -1,7 +1,7 @@
 -- The status of an upgrade, and its last line. Own.
 use Rattle.std.specs.Prelude.{ℕ, Bool, true, false, List, ◌++◌, codes, decimal}
-use Rattle.kept_list.specs.declared.kept.FoundFault.{FoundFault}
-use Rattle.kept_list.specs.declared.kept.FoundFault.TheVariants as target
+use Rattle.log_machine.specs.declared.kept.FoundFault.{FoundFault}
+use Rattle.log_machine.specs.declared.kept.FoundFault.TheVariants as target
 use Rattle.run_upgrade.specs.declared.ending.CopyFault.TheVariants as copying
 use Rattle.run_upgrade.specs.declared.ending.SourceFault.{SourceFault}
 use Rattle.run_upgrade.specs.declared.ending.SourceFault.TheVariants as source

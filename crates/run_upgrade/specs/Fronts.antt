@@ -1,11 +1,11 @@
 -- What a target recovers while filings are copied into it. A list is read newest first.
 use Rattle.std.specs.Prelude.{◌⊎◌, ℕ, List, drop, map}
 use Rattle.aid_filings.specs.declared.filing.Filing.{Filing}
-use Rattle.filing_journal.specs.Stands.{IsUnborn}
-use Rattle.kept_office.specs.Recovers.{Recovers}
-use Rattle.stamped_list.specs.Entries.{with_stamp}
-use Rattle.stamped_list.specs.declared.entry.StampedEntry.{StampedEntry}
-use Rattle.stamps.specs.Stamps.{plain_stamp}
+use Rattle.log_journal.specs.Stands.{IsUnborn}
+use Rattle.office_log.specs.Recovers.{Recovers}
+use Rattle.log_stamps.specs.Entries.{with_stamp}
+use Rattle.log_stamps.specs.declared.entry.StampedEntry.{StampedEntry}
+use Rattle.aid_stamps.specs.Stamps.{plain_stamp}
 
 -- these filings, each under the plain stamp
 abbrev pub under_plain : List Filing → List (StampedEntry Filing)

@@ -1,19 +1,19 @@
 -- What an upgrade does, by how it ends. A list is read newest first.
 use Rattle.std.specs.Prelude.{◌≡◌, ◌==◌, ℕ, List, length}
-use Rattle.aid_edges.specs.declared.sink.Sink.{Ghosts as SinkGhosts}
+use Rattle.io_traits.specs.declared.sink.Sink.{Ghosts as SinkGhosts}
 use Rattle.aid_filings.specs.declared.filing.Filing.{Filing}
-use Rattle.disk_model.specs.Telling.{EachImage, EachMoment, IsHonest, IsRead, Telling}
-use Rattle.disk_model.specs.declared.disk.Disk.{Ghosts}
-use Rattle.filing_journal.specs.Founded.{UnbornOrEmpty}
-use Rattle.filing_journal.specs.Head.{IsBorn, IsForeign}
-use Rattle.filing_journal.specs.Stands.{IsUnborn}
-use Rattle.kept_list.specs.Faulty.{IsFaultyAt}
-use Rattle.kept_list.specs.Recovers as list
-use Rattle.kept_list.specs.declared.kept.FoundFault.{FoundFault}
-use Rattle.kept_office.specs.Recovers.{Recovers}
-use Rattle.kept_office.specs.Scheme.{filing_scheme, office_header, office_scheme, old_header}
-use Rattle.kept_runs.specs.Ends.{EndsWith, Moved}
-use Rattle.kept_session.specs.Sessions.{IsNotFounded}
+use Rattle.io_traits.specs.DiskState.{EachImage, EachMoment, IsHonest, IsRead, DiskState}
+use Rattle.io_traits.specs.declared.disk.Disk.{Ghosts}
+use Rattle.log_journal.specs.Founded.{UnbornOrEmpty}
+use Rattle.log_journal.specs.Head.{IsBorn, IsForeign}
+use Rattle.log_journal.specs.Stands.{IsUnborn}
+use Rattle.log_machine.specs.Faulty.{IsFaultyAt}
+use Rattle.log_machine.specs.Recovers as list
+use Rattle.log_machine.specs.declared.kept.FoundFault.{FoundFault}
+use Rattle.office_log.specs.Recovers.{Recovers}
+use Rattle.office_log.specs.Scheme.{filing_scheme, office_header, office_scheme, old_header}
+use Rattle.log_runs.specs.Ends.{EndsWith, Moved}
+use Rattle.log_session.specs.Sessions.{IsNotFounded}
 use Rattle.office_history.specs.Answer.{IsLegal}
 use Rattle.run_upgrade.specs.Ends.{is_source_fault, is_target_fault, line_of, status_of}
 use Rattle.run_upgrade.specs.Fronts.{UnbornOrFront, under_plain}
@@ -86,5 +86,5 @@ pub record Upgrades {A B K : Type 0} (from : Ghosts A) (to : Ghosts B) (sink : S
   pub ends : EndsWith sink (line_of end) (status_of end) out out' status
 
 -- an honest disk whose file is an office's of version 1, and isn't damaged
-abbrev pub IsOldOffice : Telling → Type 0
+abbrev pub IsOldOffice : DiskState → Type 0
 IsOldOffice disk = IsHonest disk × IsBorn old_header disk.reads × ((place : ℕ) → IsFaultyAt filing_scheme disk.reads place → ⊥)

@@ -1,13 +1,13 @@
 // How an upgrade ends: its status and its last line.
 ghost use Rattle.std.specs.Prelude.{◌≡◌, ◌≤◌, length};
 ghost use Rattle.arrayvec.specs.ArrayString.{array_string_len};
-ghost use Rattle.kept_runs.specs.Ends.{EndsWith};
+ghost use Rattle.log_runs.specs.Ends.{EndsWith};
 ghost use Rattle.run_upgrade.specs.Ends.{source_line as source_line_of, source_status as source_status_of, target_line as target_line_of, target_status as target_status_of};
 
-use aid_edges::Sink;
 use arrayvec::ArrayString;
-use kept_list::FoundFault;
-use kept_runs::{WRITE_FAILED, number_line, put};
+use io_traits::Sink;
+use log_machine::FoundFault;
+use log_runs::{WRITE_FAILED, number_line, put};
 
 /// Why the source gives no list.
 #[derive(Clone, Copy, Debug, PartialEq, Eq)]

@@ -1,17 +1,17 @@
 // The source is read whole, and judged.
 ghost use Rattle.std.specs.Prelude.{◌≡◌, ◌⊎◌, ◌≤◌, IfOk, IfErr};
-ghost use Rattle.aid_edges.specs.Faults.{Rose};
-ghost use Rattle.disk_model.specs.Telling.{IsHonest, IsRead};
-ghost use Rattle.filing_journal.specs.Head.{IsForeign};
-ghost use Rattle.kept_office.specs.Scheme.{old_header};
+ghost use Rattle.io_traits.specs.Faults.{Rose};
+ghost use Rattle.io_traits.specs.DiskState.{IsHonest, IsRead};
+ghost use Rattle.log_journal.specs.Head.{IsForeign};
+ghost use Rattle.office_log.specs.Scheme.{old_header};
 ghost use Rattle.office_history.specs.Answer.{IsLegal};
 ghost use Rattle.run_upgrade.specs.Upgrades.{RecoversOld, Refuses};
 
 use crate::ending::SourceFault;
-use disk_model::Disk;
-use filing_journal::OpenError;
-use kept_list::Docket;
-use kept_office::{FiledOffice, StampedOffice, recover_old};
+use io_traits::Disk;
+use log_journal::OpenError;
+use log_machine::StateMachine;
+use office_log::{OfficeMachine, StampedOfficeMachine, recover_old};
 use std::alloc::Global;
 
 // What a file is that is no journal of version 1: one of version 2, or none.
@@ -23,7 +23,7 @@ fn look_anew<D: Disk>(disk: D) -> (SourceFault, D)
     ensures cause { result.0 ≡ SourceFault.DiskFault → Rose (D.faults disk) (D.faults result.1) }
     ensures unmoved { (result.0 ≡ SourceFault.DiskFault) ⊎ (D.faults result.1 ≡ D.faults disk) }
 {
-    match filing_journal::recover(disk, StampedOffice::header()) {
+    match log_journal::recover(disk, StampedOfficeMachine::header()) {
         Ok(opening) => (SourceFault::NewVersion, opening.into_disk()),
         Err((OpenError::DiskFault, disk)) => (SourceFault::DiskFault, disk),
         Err((_, disk)) => (SourceFault::NotJournal, disk),
@@ -34,12 +34,12 @@ fn look_anew<D: Disk>(disk: D) -> (SourceFault, D)
 pub(crate) fn read_source<D: Disk>(
     alloc: Global,
     disk: D,
-) -> Result<(FiledOffice, D), (SourceFault, D)>
+) -> Result<(OfficeMachine, D), (SourceFault, D)>
     ensures honest { IfOk result (λ r. (D.tells r.1).honest ≡ (D.tells disk).honest) }
     ensures honest_err { IfErr result (λ e. (D.tells e.1).honest ≡ (D.tells disk).honest) }
     ensures recovers { IsHonest (D.tells disk)
-        → IfOk result (λ r. RecoversOld (D.tells disk).reads (⟦<FiledOffice as Docket>⟧.history r.0)) }
-    ensures legal { IfOk result (λ r. IsLegal (⟦<FiledOffice as Docket>⟧.history r.0)) }
+        → IfOk result (λ r. RecoversOld (D.tells disk).reads (⟦<OfficeMachine as StateMachine>⟧.history r.0)) }
+    ensures legal { IfOk result (λ r. IsLegal (⟦<OfficeMachine as StateMachine>⟧.history r.0)) }
     ensures refuses { IsHonest (D.tells disk) → IfErr result (λ e. Refuses (D.tells disk).reads e.0) }
     ensures told { IsHonest (D.tells disk) → IfOk result (λ r. IsRead (D.tells disk) (D.tells r.1)) }
     ensures told_err { IsHonest (D.tells disk) → IfErr result (λ e. IsRead (D.tells disk) (D.tells e.1)) }

@@ -1,13 +1,13 @@
 // A journal of version 1 is copied into one of version 2.
 ghost use Rattle.std.specs.Prelude.{◌≡◌, ◌⊎◌, ◌≤◌, ℕ, List, length, false, IsTrue, ◌++◌};
-ghost use Rattle.aid_edges.specs.Faults.{Rose};
+ghost use Rattle.io_traits.specs.Faults.{Rose};
 ghost use Rattle.aid_filings.specs.declared.filing.Filing.{Filing};
-ghost use Rattle.disk_model.specs.Telling.{EachImage, EachMoment, IsHonest, IsRead};
-ghost use Rattle.filing_journal.specs.Founded.{UnbornOrEmpty};
-ghost use Rattle.filing_journal.specs.Stands.{IsUnborn};
-ghost use Rattle.kept_office.specs.Recovers.{Recovers};
-ghost use Rattle.kept_office.specs.Scheme.{office_header};
-ghost use Rattle.kept_runs.specs.Ends.{Moved};
+ghost use Rattle.io_traits.specs.DiskState.{EachImage, EachMoment, IsHonest, IsRead};
+ghost use Rattle.log_journal.specs.Founded.{UnbornOrEmpty};
+ghost use Rattle.log_journal.specs.Stands.{IsUnborn};
+ghost use Rattle.office_log.specs.Recovers.{Recovers};
+ghost use Rattle.office_log.specs.Scheme.{office_header};
+ghost use Rattle.log_runs.specs.Ends.{Moved};
 ghost use Rattle.office_history.specs.Answer.{IsLegal};
 ghost use Rattle.run_upgrade.specs.Ends.{copied_line, is_source_fault, is_target_fault};
 ghost use Rattle.run_upgrade.specs.Fronts.{UnbornOrFront, under_plain};
@@ -16,16 +16,15 @@ ghost use Rattle.run_upgrade.specs.Upgrades.{Copies, Fills, IsOldOffice, Recover
 use crate::copying::copy_filings;
 use crate::ending::UpgradeEnd;
 use crate::source::read_source;
-use aid_edges::Sink;
-use disk_model::Disk;
-use kept_list::{Docket, KeptList};
-use kept_office::{FiledOffice, StampedOffice};
+use io_traits::{Disk, Sink};
+use log_machine::{Log, StateMachine};
+use office_log::{OfficeMachine, StampedOfficeMachine};
 use std::alloc::Global;
 
 // Founds a list in the target, and copies the filings of an office into it.
-fn copy<B: Disk>(alloc: Global, office: FiledOffice, target: B) -> (UpgradeEnd, B)
-    requires legal { IsLegal (⟦<FiledOffice as Docket>⟧.history office) }
-    ensures fills { Fills B.Disk (⟦<FiledOffice as Docket>⟧.history office) target result.1 result.0 }
+fn copy<B: Disk>(alloc: Global, office: OfficeMachine, target: B) -> (UpgradeEnd, B)
+    requires legal { IsLegal (⟦<OfficeMachine as StateMachine>⟧.history office) }
+    ensures fills { Fills B.Disk (⟦<OfficeMachine as StateMachine>⟧.history office) target result.1 result.0 }
     ensures honest { (B.tells result.1).honest ≡ (B.tells target).honest }
     ensures later { B.faults target ≤ B.faults result.1 }
     ensures cause { IsTrue (is_target_fault result.0) → Rose (B.faults target) (B.faults result.1) }
@@ -34,7 +33,7 @@ fn copy<B: Disk>(alloc: Global, office: FiledOffice, target: B) -> (UpgradeEnd, 
 {
     let filings = office.into_filings();
     let count = filings.len() as u64;
-    match KeptList::<B, StampedOffice>::found(alloc, target) {
+    match Log::<B, StampedOfficeMachine>::found(alloc, target) {
         Ok(mut kept) => {
             let copied = copy_filings(filings, &mut kept);
             kept.sound();

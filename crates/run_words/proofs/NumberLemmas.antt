@@ -2,9 +2,9 @@
 use Rattle.std.proofs.Common.{◌≡◌, ◌≢◌, ◌↔◌, ℕ, ◌<◌, ◌≤◌, ◌^◌, List, Result, Ok, Err, ℤ, pos, negsuc, ◌≤ℤ◌, w64, to_z, of_z, decimal, refl, sym, subst, ◌∙◌, arith}
 use Rattle.std.proofs.lemmas.Int.{ints, to_z_pos}
 use Rattle.std.proofs.Math.IntN.{nat_abs}
-use Rattle.aid_num.specs.Whole.{whole_text}
-use Rattle.aid_num.specs.declared.text.Malformed.{Malformed}
-use Rattle.aid_num.proofs.WholeLemmas.{decimal-natural_text}
+use Rattle.aid_types.specs.Whole.{whole_text}
+use Rattle.aid_types.specs.declared.text.Malformed.{Malformed}
+use Rattle.aid_types.proofs.WholeLemmas.{decimal-natural_text}
 use Rattle.aid_types.specs.Ranges.{IsBetween}
 
 -- what was read is the whole number from `low` to `high` that a text spells

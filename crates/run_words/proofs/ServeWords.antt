@@ -2,7 +2,7 @@
 use Rattle.std.proofs.Common.{◌≡◌, ◌↔◌, ℕ, ◌<◌, ◌≤◌, List, [], ◌∷◌, Option, Some, decimal, get_or, length, map, refl, sym, ap, ◌∙◌, subst, arith}
 use Rattle.std.proofs.lemmas.Fmt.{decimal_injective}
 use Rattle.std.proofs.lemmas.List.{length-map}
-use Rattle.stamps.specs.declared.stamp.Stamp.{Stamp}
+use Rattle.aid_stamps.specs.declared.stamp.Stamp.{Stamp}
 use Rattle.run_words.specs.Words.{AreServe, ReadsServe, serve_words}
 use Rattle.run_words.specs.declared.command.MainRow.{MainRow}
 use Rattle.run_words.specs.declared.command.MainRow.TheVariants.{Serve}

@@ -6,11 +6,11 @@ use Rattle.std.proofs.Math.Seq.{take-length}
 use Rattle.std.proofs.lemmas.Bool.{true≢false}
 use Rattle.std.proofs.lemmas.List.{length-map}
 use Rattle.std.proofs.lemmas.Slice.Eq.{bytes_eq-Decides}
-use Rattle.enrolment.specs.DayText.{IsDayText}
-use Rattle.enrolment.proofs.DayTextLaws.{IsDayReading-day_in}
-use Rattle.stamps.specs.Clerks.{IsClerk}
-use Rattle.stamps.specs.Stamps.{plain_stamp}
-use Rattle.stamps.specs.declared.stamp.Stamp.{Stamp}
+use Rattle.law_terms.specs.DayText.{IsDayText}
+use Rattle.law_terms.proofs.DayTextLaws.{IsDayReading-day_in}
+use Rattle.aid_stamps.specs.Clerks.{IsClerk}
+use Rattle.aid_stamps.specs.Stamps.{plain_stamp}
+use Rattle.aid_stamps.specs.declared.stamp.Stamp.{Stamp}
 use Rattle.run_words.specs.Stamped.{IsStamped, IsStampedRow, begins_with_at, plain, said}
 use Rattle.run_words.specs.Words.{IsRow, words_of}
 use Rattle.run_words.specs.declared.command.Command.{Command}

@@ -1,10 +1,10 @@
 -- Rows of words behind a stamp. Own format.
 use Rattle.std.specs.Prelude.{◌≡◌, ◌≤◌, ℕ, Bool, false, List, [], ◌∷◌, codes, length}
 use Rattle.std.specs.Str.{bytes_eq}
-use Rattle.enrolment.specs.DayText.{IsDayText}
-use Rattle.stamps.specs.Clerks.{IsClerk}
-use Rattle.stamps.specs.Stamps.{plain_stamp}
-use Rattle.stamps.specs.declared.stamp.Stamp.{Stamp}
+use Rattle.law_terms.specs.DayText.{IsDayText}
+use Rattle.aid_stamps.specs.Clerks.{IsClerk}
+use Rattle.aid_stamps.specs.Stamps.{plain_stamp}
+use Rattle.aid_stamps.specs.declared.stamp.Stamp.{Stamp}
 use Rattle.run_words.specs.Words.{AreDesks, AreServe, IsRow}
 use Rattle.run_words.specs.declared.command.Command.{Command}
 

@@ -1,12 +1,12 @@
 //! The stamp in front of a row of words.
 ghost use Rattle.std.specs.Prelude.{◌≡◌, ◌≤◌, ℕ, List, IfSome, None, length, map, string_bytes, true};
-ghost use Rattle.enrolment.specs.DayText.{IsDayText};
-ghost use Rattle.stamps.specs.Clerks.{IsClerk};
-ghost use Rattle.stamps.specs.declared.stamp.Stamp.{Stamp as StampData};
+ghost use Rattle.law_terms.specs.DayText.{IsDayText};
+ghost use Rattle.aid_stamps.specs.Clerks.{IsClerk};
+ghost use Rattle.aid_stamps.specs.declared.stamp.Stamp.{Stamp as StampData};
 ghost use Rattle.run_words.specs.Stamped.{IsStamped, begins_with_at as begins_so};
 
-use enrolment::read_day;
-use stamps::{ClerkName, Stamp};
+use aid_stamps::{ClerkName, Stamp};
+use law_terms::read_day;
 
 /// The stamp of the words, and the words behind it: `at DAY CLERK` stands in front of them, or nothing does, and then the stamp is
 /// the plain one. `None` where `at` stands there with no day, as 2025-09-01, or no clerk's name of 1 to 32 bytes.

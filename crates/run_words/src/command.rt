@@ -2,8 +2,8 @@
 ghost use Rattle.std.specs.Prelude.{◌≤◌};
 ghost use Rattle.aid_types.specs.Ranges.{IsBetween};
 
+use aid_stamps::Stamp;
 use aid_types::{School, Student, Year};
-use stamps::Stamp;
 
 /// The number that the office's desk gives to a book that it files: 1 to 999,999,999,999.
 #[derive(Clone, Copy, PartialEq, Eq, Debug)]
@@ -41,7 +41,7 @@ pub enum ReportRequest {
     Returns(ReportYear),
     /// `lifetime`: the lifetime units of each student who used some.
     Lifetime,
-    /// `stamps`: the stamp of each filing.
+    /// `aid_stamps`: the stamp of each filing.
     Stamps,
     /// `export YEAR`: all filings, and where each student with an application in the year stands.
     Export(ReportYear),

@@ -1,6 +1,6 @@
 //! Which call of the program a row of words needs.
 ghost use Rattle.std.specs.Prelude.{◌≡◌, ◌≢◌, ◌↔◌, ◌⊎◌, ◌∷◌, [], ℕ, List, codes, false, map, string_bytes};
-ghost use Rattle.stamps.specs.declared.stamp.Stamp.{Stamp as StampData};
+ghost use Rattle.aid_stamps.specs.declared.stamp.Stamp.{Stamp as StampData};
 ghost use Rattle.run_words.specs.Stamped.{AreStampedDesks, AreStampedServe, IsStampedRow};
 ghost use Rattle.run_words.specs.Words.{AreDesks, AreServe, IsRow, IsUpgrade, ReadsServe, words_of};
 ghost use Rattle.run_words.specs.declared.command.Command.{Command as CommandData};
@@ -11,7 +11,7 @@ use crate::command::MainRow;
 use crate::hyphen::are_plain;
 use crate::number::number_in;
 use crate::upgrade::upgrade_file;
-use stamps::Stamp;
+use aid_stamps::Stamp;
 
 /// At most so many desks file at once.
 pub const MOST_DESKS: usize = 16;

@@ -2,7 +2,7 @@
 ghost use Rattle.std.specs.Prelude.{◌≡◌, ◌≢◌, ◌^◌, ◌<◌, ℕ, IfSome, decimal};
 ghost use Rattle.aid_types.specs.Ranges.{IsBetween};
 
-use aid_num::read_whole;
+use aid_types::read_whole;
 
 /// The number whose one spelling the word is, where it is from `low` to `high`.
 pub fn number_in(word: &str, low: u64, high: u64) -> Option<u64>

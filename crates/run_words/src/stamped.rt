@@ -1,7 +1,7 @@
 //! The command of a row of words behind a stamp.
 ghost use Rattle.std.specs.Prelude.{◌≡◌, ◌↔◌, ◌∷◌, [], IfOk, IfSome, IsTrue, None, Some, codes, map, string_bytes};
-ghost use Rattle.stamps.specs.Stamps.{plain_stamp};
-ghost use Rattle.stamps.specs.declared.stamp.Stamp.{Stamp as StampData};
+ghost use Rattle.aid_stamps.specs.Stamps.{plain_stamp};
+ghost use Rattle.aid_stamps.specs.declared.stamp.Stamp.{Stamp as StampData};
 ghost use Rattle.run_words.specs.Stamped.{IsStamped, IsStampedRow};
 ghost use Rattle.run_words.specs.Words.{IsRow};
 ghost use Rattle.run_words.specs.declared.command.Command.{Command as CommandData};
@@ -9,7 +9,7 @@ ghost use Rattle.run_words.specs.declared.command.Command.{Command as CommandDat
 use crate::at::behind_at;
 use crate::command::StampedCommand;
 use crate::words::command_in;
-use fund_policy::Policies;
+use law_funds::Policies;
 use std::alloc::{AllocError, Global};
 
 /// The stamp of the words and the command whose row stands behind it, where these policies are known; `None` where they are no row

@@ -12,7 +12,7 @@ use crate::command::{
 use crate::hyphen::are_plain;
 use crate::number::number_in;
 use aid_types::{School, Student, Year};
-use fund_policy::Policies;
+use law_funds::Policies;
 use std::alloc::{AllocError, Global};
 
 /// The command that the words are the row of with nothing in front, where these policies are known; `None` where they are no row of

@@ -1,8 +1,8 @@
 //! The program of sheets: texts of an aid office's list that people read. It files nothing.
 #![tactic(auto)]
 
-use aid_edges::WriteEdge;
-use desk_program::{Opened, close_program, open_program};
+use io_traits::HostWriter;
+use run_rules::{Opened, close_program, open_program};
 use run_sheets::run_sheets;
 use std::process::ExitCode;
 
@@ -18,7 +18,7 @@ usage: sheet_desk JOURNAL list
        sheet_desk JOURNAL upto POSITION .. (any of these, of the first so many filings)";
 
 fn main(rt: HostRuntime) -> ExitCode {
-    let mut out = WriteEdge::new(rt.stdout());
+    let mut out = HostWriter::new(rt.stdout());
     match open_program(&rt, USAGE, &mut out) {
         Ok(
             Opened {

@@ -8,9 +8,9 @@ use Rattle.std.proofs.lemmas.Bool.{cases_lt}
 use Rattle.std.proofs.lemmas.Option.{get_or_from_slice_get}
 
 -- after so many looks among `all` rows at most `left` of them may still hold the key
-pub record AreLooks (all looks left : ℕ) : Type 0 where
-  pub halved : 2 ^ looks * left ≤ all
-  pub few : 2 ^ looks ≤ 2 * all + 1
+pub record AreLooks (all lookups left : ℕ) : Type 0 where
+  pub halved : 2 ^ lookups * left ≤ all
+  pub few : 2 ^ lookups ≤ 2 * all + 1
 
 pow_more : (k : ℕ) → 2 ^ (k + 1) ≡ 2 * 2 ^ k
 pow_more k = rw add-one (pow-succ' 2 k)
@@ -22,25 +22,25 @@ at_least : (p left n : ℕ) → p * left ≤ n → 0 < left → p ≤ n
 at_least p left n h some = let one : 1 ≤ left = omega arith in omega (arith, mul-le-mul_left {m = 1} {n = left} p one)
 
 -- one look more leaves at most half of the rows
-pub one_look : (all looks left rest : ℕ) → AreLooks all looks left → 0 < left → 2 * rest ≤ left → AreLooks all (looks + 1) rest
-one_look all looks left rest are some half = record {
-  halved = subst (λ (p : ℕ). p * rest ≤ all) (sym (pow_more looks)) (product (2 ^ looks) left rest all are.halved half);
-  few = omega (arith, pow_more looks, at_least (2 ^ looks) left all are.halved some);
+pub one_look : (all lookups left rest : ℕ) → AreLooks all lookups left → 0 < left → 2 * rest ≤ left → AreLooks all (lookups + 1) rest
+one_look all lookups left rest are some half = record {
+  halved = subst (λ (p : ℕ). p * rest ≤ all) (sym (pow_more lookups)) (product (2 ^ lookups) left rest all are.halved half);
+  few = omega (arith, pow_more lookups, at_least (2 ^ lookups) left all are.halved some);
 }
 
 -- if the looks so far miss no more rows than this, one more that leaves so many doesn't either
-pub one_missed : (all looks left rest : ℕ) → all + 2 ≤ 2 ^ looks * (left + 2) → left ≤ 2 * rest + 2 → all + 2 ≤ 2 ^ (looks + 1) * (rest + 2)
-one_missed all looks left rest so_far half =
-    let more : 2 ^ looks * (left + 2) ≤ 2 ^ looks * (2 * (rest + 2)) = mul-le-mul_left {m = left + 2} {n = 2 * (rest + 2)} (2 ^ looks) (omega arith) in
-    let twice : (2 * 2 ^ looks) * (rest + 2) ≡ 2 ^ looks * (2 * (rest + 2)) = mul_assoc 2 (2 ^ looks) (rest + 2) ∙ sym (mul_left_comm (2 ^ looks) 2 (rest + 2)) in
-    subst (λ (p : ℕ). all + 2 ≤ p * (rest + 2)) (sym (pow_more looks)) (omega (arith, so_far, more, twice))
+pub one_missed : (all lookups left rest : ℕ) → all + 2 ≤ 2 ^ lookups * (left + 2) → left ≤ 2 * rest + 2 → all + 2 ≤ 2 ^ (lookups + 1) * (rest + 2)
+one_missed all lookups left rest so_far half =
+    let more : 2 ^ lookups * (left + 2) ≤ 2 ^ lookups * (2 * (rest + 2)) = mul-le-mul_left {m = left + 2} {n = 2 * (rest + 2)} (2 ^ lookups) (omega arith) in
+    let twice : (2 * 2 ^ lookups) * (rest + 2) ≡ 2 ^ lookups * (2 * (rest + 2)) = mul_assoc 2 (2 ^ lookups) (rest + 2) ∙ sym (mul_left_comm (2 ^ lookups) 2 (rest + 2)) in
+    subst (λ (p : ℕ). all + 2 ≤ p * (rest + 2)) (sym (pow_more lookups)) (omega (arith, so_far, more, twice))
 
 -- where none is left, all were missed
-pub all_missed : (all looks left : ℕ) → all + 2 ≤ 2 ^ looks * (left + 2) → left ≡ 0 → all + 2 ≤ 2 ^ (looks + 1)
-all_missed all looks left so_far none = omega (arith, pow_more looks, subst (λ (n : ℕ). all + 2 ≤ 2 ^ looks * (n + 2)) none so_far)
+pub all_missed : (all lookups left : ℕ) → all + 2 ≤ 2 ^ lookups * (left + 2) → left ≡ 0 → all + 2 ≤ 2 ^ (lookups + 1)
+all_missed all lookups left so_far none = omega (arith, pow_more lookups, subst (λ (n : ℕ). all + 2 ≤ 2 ^ lookups * (n + 2)) none so_far)
 
-positive : (looks : ℕ) → 1 ≤ 2 ^ looks
-positive looks = pow_mono {i = 0} {j = looks} (omega arith)
+positive : (lookups : ℕ) → 1 ≤ 2 ^ lookups
+positive lookups = pow_mono {i = 0} {j = lookups} (omega arith)
 
 -- two numbers from 1 on are together at most their product and 1
 sum_in_product : (a b : ℕ) → 1 ≤ a → 1 ≤ b → a + b ≤ a * b + 1
@@ -54,12 +54,12 @@ both_missed in_tail in_main tail main tail_missed main_missed =
     omega (arith, pow_more (in_tail + in_main), pow_more in_tail, pow_more in_main, product, sum_in_product (2 ^ in_tail) (2 ^ in_main) (positive in_tail) (positive in_main))
 
 -- the looks are at most the binary digits of the number of rows
-pub looks_in_digits : (looks all digits : ℕ) → 2 ^ looks ≤ 2 * all + 1 → all < 2 ^ digits → looks ≤ digits
-looks_in_digits looks all digits few short =
-    elim (cases_lt looks (digits + 1)) [
+pub looks_in_digits : (lookups all digits : ℕ) → 2 ^ lookups ≤ 2 * all + 1 → all < 2 ^ digits → lookups ≤ digits
+looks_in_digits lookups all digits few short =
+    elim (cases_lt lookups (digits + 1)) [
       | inl below ↦ omega arith
       | inr above ↦
-          let more : 2 ^ (digits + 1) ≤ 2 ^ looks = pow_mono {i = digits + 1} {j = looks} above in
+          let more : 2 ^ (digits + 1) ≤ 2 ^ lookups = pow_mono {i = digits + 1} {j = lookups} above in
           absurd (omega (arith, pow_more digits))
     ]
 

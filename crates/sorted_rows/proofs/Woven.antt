@@ -83,7 +83,7 @@ pub record IsWoven {K V : Type 0} (R : K → K → Ordering) (tail old : List (K
   pub same : take i rows ≡ take i old
   pub sorted : IsStrictlySortedBy R (keys_of (merged rows i k))
   pub under : 0 < j → (y e : K × V) → slice_get tail (j - 1) ≡ Some y → slice_get rows k ≡ Some e → R y.0 e.0 ≡ Less
-  pub looks : (q : K) → lookup (is_at (R q)) (take j tail ++ merged rows i k) ≡ lookup (is_at (R q)) (tail ++ take count old)
+  pub lookups : (q : K) → lookup (is_at (R q)) (take j tail ++ merged rows i k) ≡ lookup (is_at (R q)) (tail ++ take count old)
 
 module _ {K V : Type 0} {R : K → K → Ordering} (o : IsTotalOrder R) where
   pub woven_start : (tail rows : List (K × V)) (count : ℕ) → length rows ≡ count + length tail → AreApart R tail (take count rows) → IsWoven R tail rows count rows count (length tail) (length rows)
@@ -97,7 +97,7 @@ module _ {K V : Type 0} {R : K → K → Ordering} (o : IsTotalOrder R) where
         same = refl;
         sorted = subst (λ (z : List (K × V)). IsStrictlySortedBy R (keys_of z)) (sym all) two.main_sorted;
         under = λ some y e at_y at_e. let lt : length rows < length rows = slice_get_within rows (length rows) e at_e in absurd (omega arith);
-        looks = λ q.
+        lookups = λ q.
             ap (λ z. lookup (is_at (R q)) (z ++ merged rows count (length rows))) (take_all (length tail) tail (omega arith))
             ∙ ap (λ z. lookup (is_at (R q)) (tail ++ z)) all;
       }
@@ -107,7 +107,7 @@ module _ {K V : Type 0} {R : K → K → Ordering} (o : IsTotalOrder R) where
       let met : k ≡ i = w.order ∙ omega arith in
       let all : merged rows i k ≡ rows = ap (λ n. merged rows i n) met ∙ take-append-drop i rows in (
         subst (λ (z : List (K × V)). IsStrictlySortedBy R (keys_of z)) all w.sorted,
-        λ q. sym (ap (lookup (is_at (R q))) all) ∙ w.looks q,
+        λ q. sym (ap (lookup (is_at (R q))) all) ∙ w.lookups q,
       )
 
   pub woven_move : (tail old : List (K × V)) (count : ℕ) (rows : List (K × V)) (i j k : ℕ) (x : K × V) → IsWoven R tail old count rows (i + 1) j (k + 1) → x ≡ get_or rows i x → ((y : K × V) → slice_get tail (j - 1) ≡ Some y → R y.0 x.0 ≡ Less) → IsWoven R tail old count (set rows k x) i j k
@@ -124,7 +124,7 @@ module _ {K V : Type 0} {R : K → K → Ordering} (o : IsTotalOrder R) where
         same = take-set-le i rows k x (omega arith) ∙ sym (take-take i (i + 1) rows (omega arith)) ∙ ap (take i) w.same ∙ take-take i (i + 1) old (omega arith);
         sorted = subst (λ (z : List (K × V)). IsStrictlySortedBy R (keys_of z)) (sym chain) w.sorted;
         under = λ some y e at_y at_e. subst (λ (z : K × V). R y.0 z.0 ≡ Less) (sym (at_set rows k x e (omega arith) at_e)) (below y at_y);
-        looks = λ q. ap (λ z. lookup (is_at (R q)) (take j tail ++ z)) chain ∙ w.looks q;
+        lookups = λ q. ap (λ z. lookup (is_at (R q)) (take j tail ++ z)) chain ∙ w.lookups q;
       }
 
   -- no row of the tail has a key of the main rows
@@ -181,12 +181,12 @@ module _ {K V : Type 0} {R : K → K → Ordering} (o : IsTotalOrder R) where
         same = take-set-le i rows k y (omega arith) ∙ w.same;
         sorted = subst (λ (z : List (K × V)). IsStrictlySortedBy R (keys_of z)) (sym chain) (sorted-put o y.0 so_far i y.1 w.sorted gap);
         under = λ some z e at_z at_e. subst (λ (x : K × V). R z.0 x.0 ≡ Less) (sym (at_set rows k y e (omega arith) at_e)) (rises o tail (j - 1) j z y two.tail_sorted (omega arith) at_z at_y);
-        looks = λ q.
+        lookups = λ q.
             let one : lookup (is_at (R q)) (insert so_far i y) ≡ lookup (is_at (R q)) (y ∷ so_far) =
             lookup-put o y.0 so_far i y.1 q w.sorted gap
             ∙ ap (λ b. cond b (Some y.1) (lookup (is_at (R q)) so_far)) ((eq_by_cmp_equiv o).symm y.0 q) in
             ap (λ z. lookup (is_at (R q)) (take j tail ++ z)) chain
             ∙ rest_same (is_at (R q)) (take j tail) (insert so_far i y) (y ∷ so_far) one
             ∙ sym (ap (lookup (is_at (R q))) more)
-            ∙ w.looks q;
+            ∙ w.lookups q;
       }

@@ -20,7 +20,7 @@ pub(crate) fn find<K: Ord + Copy, V: Copy, L: Ledger>(
     ensures later { steps.old ≤ steps.new }
     ensures met { IfSome result (λ _. steps.old + 1 ≤ steps.new) }
     ensures missed { result ≡ None → length rows.now + 2 ≤ 2 ^ (steps.new - steps.old + 1) }
-    ensures looks { 2 ^ (steps.new - steps.old) ≤ 2 * length rows.now + 1 }
+    ensures lookups { 2 ^ (steps.new - steps.old) ≤ 2 * length rows.now + 1 }
 {
     match search(rows, key, steps) {
         Ok(place) => Some(rows[place].1),

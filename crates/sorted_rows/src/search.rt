@@ -18,7 +18,7 @@ pub(crate) fn search<K: Ord, V, L: Ledger>(
     ensures later { steps.old ≤ steps.new }
     ensures met { IfOk result (λ _. steps.old + 1 ≤ steps.new) }
     ensures missed { IfErr result (λ _. length rows.now + 2 ≤ 2 ^ (steps.new - steps.old + 1)) }
-    ensures looks { 2 ^ (steps.new - steps.old) ≤ 2 * length rows.now + 1 }
+    ensures lookups { 2 ^ (steps.new - steps.old) ≤ 2 * length rows.now + 1 }
 {
     let mut low = 0;
     let mut high = rows.len();

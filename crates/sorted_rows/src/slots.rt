@@ -69,7 +69,7 @@ impl<K: Ord + Copy, V: Copy> Slots<K, V> {
         ensures later { steps.old ≤ steps.new }
         ensures met { IfSome result (λ _. steps.old + 1 ≤ steps.new) }
         ensures missed { result ≡ None → length self.now.rows + 2 ≤ 2 ^ (steps.new - steps.old + 1) }
-        ensures looks { (digits : ℕ) → length self.now.rows < 2 ^ digits → steps.new ≤ steps.old + 2 * digits }
+        ensures lookups { (digits : ℕ) → length self.now.rows < 2 ^ digits → steps.new ≤ steps.old + 2 * digits }
         ensures spared { (digits : ℕ) → 0 < length self.now.rows → length self.now.rows < 2 ^ digits → steps.new + 1 ≤ steps.old + 2 * digits }
     {
         self.slots.get(key, steps)
@@ -110,7 +110,7 @@ impl<K: Ord + Copy, V: Copy> Slots<K, V> {
         ensures later { steps.old ≤ steps.new }
         ensures met { IfSome result (λ _. steps.old + 2 ≤ steps.new) }
         ensures missed { result ≡ None → length self.now.rows + 2 ≤ 2 ^ (steps.new - steps.old + 1) }
-        ensures looks { (digits : ℕ) → length self.now.rows < 2 ^ digits → steps.new ≤ steps.old + 2 * digits }
+        ensures lookups { (digits : ℕ) → length self.now.rows < 2 ^ digits → steps.new ≤ steps.old + 2 * digits }
     {
         let slot = self.slot_of(key, steps)?;
         Some(&self.look(slot, steps).1)

@@ -75,7 +75,7 @@ impl<K: Ord + Copy, V: Copy> Table<K, V> {
         ensures later { steps.old ≤ steps.new }
         ensures met { IfSome result (λ _. steps.old + 1 ≤ steps.new) }
         ensures missed { result ≡ None → length self.now.rows + 2 ≤ 2 ^ (steps.new - steps.old + 1) }
-        ensures looks { (digits : ℕ) → length self.now.rows < 2 ^ digits → steps.new ≤ steps.old + tail_looks + digits }
+        ensures lookups { (digits : ℕ) → length self.now.rows < 2 ^ digits → steps.new ≤ steps.old + tail_looks + digits }
         ensures twice { (digits : ℕ) → length self.now.rows < 2 ^ digits → steps.new ≤ steps.old + 2 * digits }
         ensures spared { (digits : ℕ) → 0 < length self.now.rows → length self.now.rows < 2 ^ digits → steps.new + 1 ≤ steps.old + 2 * digits }
     {

@@ -4,7 +4,7 @@ ghost use Rattle.specimen.specs.Specimen.{age_rows, bracket_rows, business_rows}
 
 use aid_books::{AgeRow, Ages, Bracket, Brackets};
 
-#[tactic(auto, unfolding(aid_num::specs::Nearest::half_up))]
+#[tactic(auto, unfolding(aid_types::specs::Nearest::half_up))]
 pub(crate) fn business() -> Brackets
     ensures { result ≡ business_rows }
 {
@@ -59,7 +59,7 @@ pub(crate) fn ages() -> Ages
     ])
 }
 
-#[tactic(auto, unfolding(aid_num::specs::Nearest::half_up))]
+#[tactic(auto, unfolding(aid_types::specs::Nearest::half_up))]
 pub(crate) fn brackets() -> Brackets
     ensures { result ≡ bracket_rows }
 {

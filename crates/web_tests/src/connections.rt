@@ -1,19 +1,17 @@
 // Sessions over one connection: what is written over any cutting of its bytes, the answers of a worked year, what a fault leaves,
 // that each answer is written before more is read, and a session over a socket.
 ghost use Rattle.std.specs.Prelude.{◌≡◌, ◌≤◌, None, IfSome};
-ghost use Rattle.aid_edges.specs.Faults.{Rose};
+ghost use Rattle.io_traits.specs.Faults.{Rose};
 
 use crate::runs::{assert_runs, with_book, with_school};
-use aid_edges::Failed;
-use disk_model::MemoryDisk;
-use kept_desks::SharedList;
-use kept_list::{KeptList, RowName};
-use kept_office::{FiledOffice, StampedOffice};
-use kept_web::serve_desk;
-use office_lock::Turns;
-use run_web::OfficeForms;
+use aid_stamps::Stamp;
+use io_traits::{Failed, MemoryDisk};
+use log_desks::SharedList;
+use log_lock::TicketLock;
+use log_machine::{Log, RowName};
+use office_log::{OfficeMachine, StampedOfficeMachine};
+use run_server::OfficeApi;
 use specimen::{NINE_LINES, NINE_ROWS, YEAR_LINES, YEAR_ROWS};
-use stamps::Stamp;
 use std::alloc::{AllocError, Global};
 use std::io;
 use std::io::{Read, Write};
@@ -22,8 +20,8 @@ use std::process::Abort;
 use std::sync::Wait;
 use std::test::Fail;
 use std::thread::join;
-use web_desk::End;
-use web_edges::{Link, MemoryLink, SocketEdge};
+use web_session::{Connection, End, HostConnection, MemoryConnection};
+use web_workers::serve_desk;
 use whole_runs::disk;
 
 // A request that files a student's earlier use, and its answers where one filing stands and where it stands itself.
@@ -49,32 +47,37 @@ Content-Type: application/json\r\n\
 {\"answer\":\"again\",\"front\":2,\"outcome\":\"noted\",\"position\":2}";
 
 // The list of the office in a file.
-fn opened(alloc: Global, disk: MemoryDisk) -> Option<KeptList<MemoryDisk, StampedOffice>>
+fn opened(alloc: Global, disk: MemoryDisk) -> Option<Log<MemoryDisk, StampedOfficeMachine>>
     ensures { IfSome result (λ kept. kept.pending ≡ None) }
 {
-    match KeptList::<MemoryDisk, StampedOffice>::recover(alloc, disk) {
+    match Log::<MemoryDisk, StampedOfficeMachine>::recover(alloc, disk) {
         Ok(kept) => Some(kept),
         Err(_) => None,
     }
 }
 
 // How a session over a connection ends, for the office in a file, if it is opened.
-fn serve<L: Link, H: Wait>(rt: &H, alloc: Global, disk: MemoryDisk, link: &mut L) -> Option<End> {
+fn serve<L: Connection, H: Wait>(
+    rt: &H,
+    alloc: Global,
+    disk: MemoryDisk,
+    link: &mut L,
+) -> Option<End> {
     let kept = opened(alloc, disk)?;
-    let Ok((turns, pass)) = Turns::new(alloc, SharedList::new(alloc, kept), 1) else {
+    let Ok((turns, handle)) = TicketLock::new(alloc, SharedList::new(alloc, kept), 1) else {
         return None;
     };
     let by = RowName { desk: 1, row: 1 };
-    let (pass, end) = serve_desk::<MemoryDisk, FiledOffice, OfficeForms, L, H>(
+    let (handle, end) = serve_desk::<MemoryDisk, OfficeMachine, OfficeApi, L, H>(
         rt,
         alloc,
         &turns,
-        pass,
+        handle,
         by,
         Stamp::plain(),
         link,
     );
-    turns.close(pass);
+    turns.close(handle);
     Some(end)
 }
 
@@ -90,7 +93,7 @@ fn assert_session(
     for piece in [1, 7, 1_000_000] {
         assert!(rt; piece > 0);
         let none = Vec::new(alloc);
-        let link = MemoryLink::new(alloc, bytes.to_vec(alloc)?, none, Vec::new(alloc));
+        let link = MemoryConnection::new(alloc, bytes.to_vec(alloc)?, none, Vec::new(alloc));
         let mut link = link.in_pieces(piece);
         let ended = serve(rt, alloc, disk(alloc, image, &[], None)?, &mut link);
         assert_eq!(rt; link.text(), text);
@@ -345,9 +348,9 @@ Content-Type: application/json\r\n\r\n\
 const FAULTS: [(&[u64], &[u64], &[u64], End, &str); 5] = [
     (&[6], &[], &[], End::Closed, NONE_UNDECIDED),
     (&[8], &[], &[], End::Closed, ONE_UNDECIDED),
-    (&[], &[1], &[], End::LinkFault, ""),
-    (&[], &[], &[1], End::LinkFault, ""),
-    (&[], &[], &[2], End::LinkFault, HALF),
+    (&[], &[1], &[], End::ConnectionFault, ""),
+    (&[], &[], &[1], End::ConnectionFault, ""),
+    (&[], &[], &[2], End::ConnectionFault, HALF),
 ];
 
 const NONE_UNDECIDED: &str = "\
@@ -385,7 +388,7 @@ fn faults_on_a_connection(rt: HostRuntime) -> Result<(), Fail> {
     for (calls, reads, writes, end, text) in FAULTS {
         let disk = disk(alloc, school.image(), calls, None)?;
         let bytes = joined(alloc, FILING, FILING)?;
-        let link = MemoryLink::new(alloc, bytes, reads.to_vec(alloc)?, writes.to_vec(alloc)?);
+        let link = MemoryConnection::new(alloc, bytes, reads.to_vec(alloc)?, writes.to_vec(alloc)?);
         let mut link = link.in_pieces(50);
         let ended = serve(&rt, alloc, disk, &mut link);
         assert_eq!(rt; link.text(), text.as_bytes());
@@ -434,7 +437,7 @@ impl<'a> Peer<'a> {
     }
 }
 
-impl<'a> Link for Peer<'a> {
+impl<'a> Connection for Peer<'a> {
     ghost use Rattle.std.specs.Prelude.{[], false};
 
     ghost tells = { λ _. record { honest = false; left = []; text = [] } };
@@ -649,7 +652,7 @@ fn serve_socket<H: Wait>(
     disk: MemoryDisk,
     stream: TcpStream,
 ) -> Option<End> {
-    let mut link = SocketEdge::new(stream);
+    let mut link = HostConnection::new(stream);
     let ended = serve(rt, alloc, disk, &mut link);
     link.close();
     ended

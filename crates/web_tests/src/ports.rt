@@ -1,21 +1,20 @@
 // What the web desk writes on connections in memory: a worked row, a port that fails, and two ports in either order; and the
 // stamps in the file.
 ghost use Rattle.std.specs.Prelude.{◌≡◌, ◌<◌, IfOk};
-ghost use Rattle.web_edges.specs.Ports.{IsUnused};
+ghost use Rattle.web_session.specs.Ports.{IsUnused};
 
 use crate::connections::{AGAIN, CREATED, FILING};
 use crate::runs::with_school;
-use aid_edges::{HoldGate, MemorySink};
+use aid_stamps::{ClerkName, Stamp};
 use aid_types::Day;
-use disk_model::MemoryDisk;
-use run_web::run_web;
-use stamps::{ClerkName, Stamp};
+use io_traits::{HoldSyncPoint, MemoryDisk, MemorySink};
+use run_server::run_web;
 use std::alloc::{AllocError, Global};
 use std::process::Abort;
 use std::sync::Wait;
 use std::test::Fail;
 use std::thread::Threads;
-use web_edges::{GatedPort, MemoryLink, MemoryPort, Port};
+use web_session::{Acceptor, MemoryAcceptor, MemoryConnection, PacedAcceptor};
 use whole_runs::{EMPTY, disk};
 
 // The filing of a student's earlier use under another number.
@@ -30,10 +29,10 @@ const SECOND: &[u8] =
     b"HTTP/1.1 422 Unprocessable Entity\r\nContent-Length: 62\r\nContent-Type: application/json\r\n\r\n{\"answer\":\"refused\",\"bound\":5001,\"front\":1,\"kept\":1,\"rule\":80}";
 
 // A connection that brings these bytes.
-fn link(alloc: Global, bytes: &[u8]) -> Result<MemoryLink, Fail>
+fn link(alloc: Global, bytes: &[u8]) -> Result<MemoryConnection, Fail>
     ensures { IfOk result (λ link. IsUnused link) }
 {
-    Ok(MemoryLink::new(
+    Ok(MemoryConnection::new(
         alloc,
         bytes.to_vec(alloc)?,
         Vec::new(alloc),
@@ -42,11 +41,11 @@ fn link(alloc: Global, bytes: &[u8]) -> Result<MemoryLink, Fail>
 }
 
 // A port of one connection.
-fn port_of_one(alloc: Global, bytes: &[u8]) -> Result<MemoryPort, Fail> {
+fn port_of_one(alloc: Global, bytes: &[u8]) -> Result<MemoryAcceptor, Fail> {
     let link = link(alloc, bytes)?;
     let mut links = Vec::new(alloc);
     links.push(link)?;
-    Ok(MemoryPort::new(alloc, links, Vec::new(alloc))?)
+    Ok(MemoryAcceptor::new(alloc, links, Vec::new(alloc))?)
 }
 
 // A port of two connections that bring the same.
@@ -55,7 +54,7 @@ fn port_of_two(
     bytes: &[u8],
     piece: usize,
     failing: &[u64],
-) -> Result<MemoryPort, Fail>
+) -> Result<MemoryAcceptor, Fail>
     requires { 0 < piece }
 {
     let one = link(alloc, bytes)?.in_pieces(piece);
@@ -63,7 +62,7 @@ fn port_of_two(
     let mut links = Vec::new(alloc);
     links.push(one)?;
     links.push(other)?;
-    Ok(MemoryPort::new(alloc, links, failing.to_vec(alloc)?)?)
+    Ok(MemoryAcceptor::new(alloc, links, failing.to_vec(alloc)?)?)
 }
 
 // A founded file.
@@ -72,7 +71,7 @@ fn founded(alloc: Global) -> Result<MemoryDisk, AllocError> {
 }
 
 // The ports are served, so many connections each, which ends with this status and this text.
-fn serve<P: Port + Send, H: Threads + Wait + Abort + Sync>(
+fn serve<P: Acceptor + Send, H: Threads + Wait + Abort + Sync>(
     rt: &H,
     alloc: Global,
     ports: &mut Vec<P>,
@@ -81,7 +80,7 @@ fn serve<P: Port + Send, H: Threads + Wait + Abort + Sync>(
     ends: (u8, &str),
 )
 where
-    P::Link: Send,
+    P::Connection: Send,
 {
     let mut sink = MemorySink::new(alloc, Vec::new(alloc));
     let (status, _) = run_web(rt, alloc, ports, sessions, Stamp::plain(), disk, &mut sink);
@@ -149,7 +148,7 @@ fn a_port_fails(rt: HostRuntime) -> Result<(), Fail> {
 }
 
 // The text of the one connection that was taken back.
-fn is_back<H: Abort>(rt: &H, port: &MemoryPort, text: &[u8]) {
+fn is_back<H: Abort>(rt: &H, port: &MemoryAcceptor, text: &[u8]) {
     let back = port.back();
     assert!(rt; back.len() == 1);
     assert!(rt; back[0].text() == text);
@@ -159,12 +158,12 @@ fn is_back<H: Abort>(rt: &H, port: &MemoryPort, text: &[u8]) {
 fn serve_gated<H: Threads + Wait + Abort + Sync>(
     rt: &H,
     alloc: Global,
-    gate: &HoldGate,
+    gate: &HoldSyncPoint,
     texts: (&[u8], &[u8]),
 ) -> Result<(), Fail> {
     let mut ports = Vec::new(alloc);
-    ports.push(GatedPort::new(port_of_one(alloc, FILING.as_bytes())?, gate, 1))?;
-    ports.push(GatedPort::new(port_of_one(alloc, OTHER)?, gate, 2))?;
+    ports.push(PacedAcceptor::new(port_of_one(alloc, FILING.as_bytes())?, gate, 1))?;
+    ports.push(PacedAcceptor::new(port_of_one(alloc, OTHER)?, gate, 2))?;
     serve(rt, alloc, &mut ports, 1, founded(alloc)?, (0, ""));
     let [one, other] = ports.as_slice() else {
         return Err(Fail::new("not two ports"));
@@ -176,13 +175,13 @@ fn serve_gated<H: Threads + Wait + Abort + Sync>(
 
 #[test]
 fn port_2_files_first(rt: HostRuntime) -> Result<(), Fail> {
-    let gate = HoldGate::new(1, 2, 1000000);
+    let gate = HoldSyncPoint::new(1, 2, 1000000);
     serve_gated(&rt, rt.alloc(), &gate, (SECOND, FIRST))
 }
 
 #[test]
 fn port_1_files_first(rt: HostRuntime) -> Result<(), Fail> {
-    let gate = HoldGate::new(2, 1, 1000000);
+    let gate = HoldSyncPoint::new(2, 1, 1000000);
     serve_gated(&rt, rt.alloc(), &gate, (FIRST, SECOND))
 }
 

@@ -1,10 +1,9 @@
 //! Runs of the program, each over a file in memory.
 ghost use Rattle.std.specs.Prelude.{◌≡◌, IfOk};
-ghost use Rattle.disk_model.specs.Memory.{memory_bytes, memory_lists};
+ghost use Rattle.io_traits.specs.Memory.{memory_bytes, memory_lists};
 
-use aid_edges::{MemorySink, Source, SteadySource};
-use disk_model::{Disk, DiskStop, MemoryDisk};
-use fund_policy::{Rule, level, quarter, standard};
+use io_traits::{Disk, DiskStop, MemoryDisk, MemorySink, Source, SteadySource};
+use law_funds::{Rule, level, quarter, standard};
 use run_office::run;
 use std::alloc::{AllocError, Global};
 

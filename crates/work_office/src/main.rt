@@ -1,16 +1,15 @@
 //! The program of a work-study fund.
 #![tactic(auto)]
 
-use aid_edges::{ReadEdge, Sink, WriteEdge};
 use aid_types::School;
-use desk_program::{Opened, close_program, open_program};
-use disk_model::HostDisk;
-use fund_policy::{Rule, level, quarter, standard};
-use kept_runs::{RunStop, end};
-use kept_session::ReadStop;
-use run_work::run_work;
+use io_traits::{HostDisk, HostReader, HostWriter, Sink};
+use law_funds::{Rule, level, quarter, standard};
+use log_runs::{RunStop, end};
+use log_session::ReadStop;
+use run_rules::{Opened, close_program, open_program};
 use std::alloc::AllocError;
 use std::process::ExitCode;
+use work_rounds::run_work;
 use work_study::SchoolPolicies;
 
 // How the program is used.
@@ -43,7 +42,7 @@ fn run_alone<K: Sink>(
     for (school, policy) in SCHOOLS.iter().zip(policies.list) {
         list.push((*school, policy))?;
     }
-    let mut input = ReadEdge::new(rt.stdin());
+    let mut input = HostReader::new(rt.stdin());
     Ok(
         run_work(
             alloc,
@@ -58,7 +57,7 @@ fn run_alone<K: Sink>(
 }
 
 fn main(rt: HostRuntime) -> ExitCode {
-    let mut out = WriteEdge::new(rt.stdout());
+    let mut out = HostWriter::new(rt.stdout());
     match open_program(&rt, USAGE, &mut out) {
         Ok(
             Opened {

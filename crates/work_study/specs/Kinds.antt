@@ -1,9 +1,9 @@
 -- The kinds of work-study filings: the code and the name of each, and its fields behind those of the key. Own format.
 use Rattle.std.specs.Prelude.{pos, List, [], ◌∷◌, codes}
-use Rattle.field_table.specs.Columns.{one, student, year}
-use Rattle.field_table.specs.Parts.{Slot}
-use Rattle.field_table.specs.Tables.{KindRow}
-use Rattle.field_table.specs.declared.field.Form.TheVariants.{U32}
+use Rattle.format_table.specs.Columns.{one, student, year}
+use Rattle.format_table.specs.Parts.{Slot}
+use Rattle.format_table.specs.Tables.{KindRow}
+use Rattle.format_table.specs.declared.field.Form.TheVariants.{U32}
 
 -- of the fund of an award year
 abbrev pub fund_slots : List Slot

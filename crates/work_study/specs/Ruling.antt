@@ -1,16 +1,16 @@
 -- The rules of the work-study desk as those of a list of filings: the key, the first rule that a filing breaks, and its outcome.
 use Rattle.std.specs.Prelude.{◌≡◌, ◌<◌, List, [], ◌∷◌, length, None}
-use Rattle.filing_kinds.specs.Kinds.{key_slots}
-use Rattle.ruled_list.specs.Rows.{SpellsRows, ruling_by}
-use Rattle.ruled_list.specs.Ruled.{IsLegal}
-use Rattle.ruled_list.specs.Ruling.{Ruling}
-use Rattle.ruled_list.specs.RowLaws.{rows_by}
-use Rattle.work_history.specs.declared.filing.WorkFiling.{WorkFiling}
-use Rattle.work_history.specs.AddsUp.{AddsUp}
-use Rattle.work_history.specs.Rules.{AreAllowed, breaks, outcome_of}
-use Rattle.work_history.specs.declared.facts.WorkOutcome.{WorkOutcome}
-use Rattle.work_history.proofs.AllowedAddsUp.{allowed_adds_up}
-use Rattle.work_history.proofs.Holding.{has_room}
+use Rattle.format_kinds.specs.Kinds.{key_slots}
+use Rattle.log_rules.specs.Rows.{SpellsRows, ruling_by}
+use Rattle.log_rules.specs.Ruled.{IsLegal}
+use Rattle.log_rules.specs.Ruling.{Ruling}
+use Rattle.log_rules.specs.RowLaws.{rows_by}
+use Rattle.work_study.specs.declared.filing.WorkFiling.{WorkFiling}
+use Rattle.work_study.specs.AddsUp.{AddsUp}
+use Rattle.work_study.specs.Rules.{AreAllowed, breaks, outcome_of}
+use Rattle.work_study.specs.declared.facts.WorkOutcome.{WorkOutcome}
+use Rattle.work_study.proofs.AllowedAddsUp.{allowed_adds_up}
+use Rattle.work_study.proofs.Holding.{has_room}
 use Rattle.work_study.specs.Kinds.{work_kinds}
 use Rattle.work_study.specs.Numbers.{code_of_work, numbers_of_work}
 use Rattle.work_study.specs.Same.{same_work}

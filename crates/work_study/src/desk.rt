@@ -1,15 +1,15 @@
 //! What a round asks of a desk.
 ghost use Rattle.std.specs.Prelude.{◌≡◌, List, nat_lt};
-ghost use Rattle.work_history.specs.declared.filing.WorkFiling.{WorkFiling};
-ghost use Rattle.work_history.specs.Funds.{award_at, rest as rest_of};
+ghost use Rattle.work_study.specs.declared.filing.WorkFiling.{WorkFiling};
+ghost use Rattle.work_study.specs.Funds.{award_at, rest as rest_of};
 
 use crate::table::WorkStudy;
 use aid_types::{School, Student, Year};
-use disk_model::Disk;
-use ruled_list::{RuledList, RuledOffice};
+use io_traits::Disk;
+use log_rules::{RuleMachine, RuledOffice};
 
 /// A desk whose funds are awarded of.
-pub trait FundDesk {
+pub trait FundBalances {
     /// Its filings, the newest first.
     ghost history: { Self → List WorkFiling };
 
@@ -22,7 +22,7 @@ pub trait FundDesk {
         ensures { result ≡ nat_lt 0 (award_at (history self.now) school year student) };
 }
 
-impl FundDesk for RuledList<WorkStudy> {
+impl FundBalances for RuleMachine<WorkStudy> {
     ghost history = { λ list. list.list };
 
     fn rest(&self, school: School, year: Year) -> u32 {
@@ -34,7 +34,7 @@ impl FundDesk for RuledList<WorkStudy> {
     }
 }
 
-impl<D: Disk> FundDesk for RuledOffice<D, WorkStudy> {
+impl<D: Disk> FundBalances for RuledOffice<D, WorkStudy> {
     ghost history = { λ office. office.list.history };
 
     fn rest(&self, school: School, year: Year) -> u32 {

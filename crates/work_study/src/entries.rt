@@ -1,13 +1,13 @@
 //! A work-study filing as the list of its numbers, both ways.
 ghost use Rattle.std.specs.Prelude.{◌≡◌, ◌∷◌, [], IsTrue, pos};
-ghost use Rattle.field_table.specs.Limits.{is_between};
+ghost use Rattle.format_table.specs.Limits.{is_between};
 ghost use Rattle.work_study.specs.Numbers.{code_of_work, key_numbers, numbers_of_work};
 ghost use Rattle.work_study.specs.Same.{same_work};
 
 use crate::table::WorkStudy;
+use crate::{DollarFacts, EarnFacts, FundFacts, WorkFiling, WorkWhat};
 use aid_types::{Key, School, Student, Year};
-use field_table::{Entries, Numbers, add_numbers};
-use work_history::{DollarFacts, EarnFacts, FundFacts, WorkFiling, WorkWhat};
+use format_table::{EntryCodec, Numbers, add_numbers};
 
 // The numbers of a key, and those behind them.
 macro_rules! numbers_of {
@@ -42,7 +42,7 @@ macro_rules! dollars_of {
     };
 }
 
-impl Entries for WorkStudy {
+impl EntryCodec for WorkStudy {
     type Entry = WorkFiling;
 
     ghost code_of = { code_of_work };

@@ -4,7 +4,7 @@ ghost use Rattle.std.specs.List.{find};
 ghost use Rattle.std.specs.Option.{option_copied};
 
 use aid_types::School;
-use fund_policy::Policy;
+use law_funds::Policy;
 
 /// The policy of each school, in the order of a search.
 #[derive(Drop)]

@@ -1,11 +1,11 @@
 //! The table of the kinds.
 ghost use Rattle.std.specs.Prelude.{◌≡◌, [], bytes_eq, refl};
-ghost use Rattle.field_table.specs.Parts.{slots_of};
-ghost use Rattle.filing_kinds.specs.Kinds.{key_slots};
+ghost use Rattle.format_table.specs.Parts.{slots_of};
+ghost use Rattle.format_kinds.specs.Kinds.{key_slots};
 ghost use Rattle.work_study.specs.Kinds.{dollar_slots, earn_slots, fund_slots, work_kinds};
 
-use field_table::{Field, Form, Limit, Part, Table, TableRow};
-use filing_kinds::key_parts as filing_key;
+use format_kinds::key_parts as filing_key;
+use format_table::{Field, Form, KindTable, Limit, Part, TableRow};
 
 macro_rules! one {
     ($name:literal, $form:ident: $low:literal to $high:literal) => {
@@ -71,7 +71,7 @@ fn earn_parts() -> &'static [Part]
 /// The table of work-study filings, whose key is that of the aid office's filings, and their rules.
 pub struct WorkStudy;
 
-impl Table for WorkStudy {
+impl KindTable for WorkStudy {
     ghost key = { key_slots };
 
     ghost kinds = { work_kinds };

@@ -1,5 +1,5 @@
 use Rattle.std.proofs.Common.{◌≡◌, pos, option_map, slice_get, refl, lit≤}
-use Rattle.aid_num.specs.Nearest.{half_up, share}
+use Rattle.aid_types.specs.Nearest.{half_up, share}
 use Rattle.aid_books.specs.declared.marginal.Bracket.{Bracket}
 use Rattle.specimen.specs.Specimen.{bracket_rows}
 use Rattle.specimen.proofs.specimen_book.Goals as goal

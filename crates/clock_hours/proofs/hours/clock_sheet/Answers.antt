@@ -1,6 +1,6 @@
 use Rattle.std.proofs.Common.{ℕ, List, sym, subst}
 use Rattle.aid_types.specs.Ranges.{EachIsCents}
-use Rattle.withdrawal_returns.specs.declared.Lines.{Lines}
+use Rattle.law_r2t4.specs.declared.Lines.{Lines}
 use Rattle.clock_hours.proofs.Owed.{owed_cents}
 use Rattle.clock_hours.proofs.hours.clock_sheet.Goals as goal
 

@@ -1,5 +1,5 @@
 use Rattle.std.proofs.Common.{IsTrue, [], subst}
-use Rattle.disk_model.specs.Telling.{IsHonest}
+use Rattle.io_traits.specs.DiskState.{IsHonest}
 use Rattle.journal_tests.proofs.journals.lengthened.Goals as goal
 
 pub lengthen-requires-clause-stands : goal.lengthen-requires-clause-stands

@@ -1,8 +1,8 @@
 use Rattle.std.proofs.Common.{◌≡◌}
-use Rattle.disk_model.specs.Telling.{IsHonest}
-use Rattle.filing_journal.specs.Stands.{Payloads}
-use Rattle.filing_journal.specs.Journal.{Keeps, IsDecided, journal_disk, journal_count}
-use Rattle.filing_journal.specs.declared.header.Header.{Header}
+use Rattle.io_traits.specs.DiskState.{IsHonest}
+use Rattle.log_journal.specs.Stands.{Payloads}
+use Rattle.log_journal.specs.Journal.{Keeps, IsDecided, journal_disk, journal_count}
+use Rattle.log_journal.specs.declared.header.Header.{Header}
 use Rattle.journal_tests.proofs.pieces.holding.Given as goal
 
 abbrev pub invariant-loop-payload : goal.invariant-loop-payload

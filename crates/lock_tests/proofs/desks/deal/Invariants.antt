@@ -1,12 +1,12 @@
 use Rattle.std.proofs.Common.{◌≡◌, ◌<◌, ◌+◌, ℕ, length, get_or}
-use Rattle.lock_tests.specs.Desks.{HasPass}
+use Rattle.lock_tests.specs.Desks.{HasHandle}
 use Rattle.lock_tests.specs.declared.desks.Desk.{Desk}
 use Rattle.lock_tests.proofs.desks.deal.Given as goal
 
 abbrev pub invariant-loop-i : goal.invariant-loop-i
 invariant-loop-i g l = record {
-  lock : l.pass.lock ≡ l.turns.id;
-  share : l.pass.allowance + l.i ≡ l.fn.first.allowance;
-  dealt : (k : ℕ) (d : Desk) → k < l.i → HasPass l.turns.id (get_or l.desks k d);
+  lock : l.handle.lock ≡ l.turns.id;
+  share : l.handle.allowance + l.i ≡ l.fn.first.allowance;
+  dealt : (k : ℕ) (d : Desk) → k < l.i → HasHandle l.turns.id (get_or l.desks k d);
   desks : length l.desks ≡ length l.fn.desks;
 }

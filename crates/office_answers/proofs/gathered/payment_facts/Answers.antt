@@ -11,7 +11,7 @@ use Rattle.office_answers.proofs.gathered.payment_facts.Goals as goal
 
 pub returns-clause-facts : goal.returns-clause-facts
 returns-clause-facts g c =
-    let past = g.P.OnFile.history c.args.past.now in
+    let past = g.P.HistoryView.history c.args.past.now in
     let program = rank c.args.program in
     let aid = c.aid_facts-aid.ensures in
     let code : c.beside-other_school.result.1 ≡ least_code (is_paid_beside past c.args.school c.args.student (the_term past c.args.school c.args.year c.args.number)) (terms_on_file past) =

@@ -1,5 +1,5 @@
 use Rattle.std.proofs.Common.{◌≡◌}
-use Rattle.filing_journal.specs.Journal.{IsDecided, journal_count}
+use Rattle.log_journal.specs.Journal.{IsDecided, journal_count}
 use Rattle.office_bench.proofs.journal.put_all.Given as goal
 
 abbrev pub invariant-loop : goal.invariant-loop

@@ -1,6 +1,6 @@
 use Rattle.std.proofs.Common.{rules, ap, ◌∙◌, w32, FitsSigned}
 use Rattle.std.proofs.lemmas.Int.{to_z-of_z}
-use Rattle.pell_schedule.specs.Award.{decision}
+use Rattle.law_pell.specs.Award.{decision}
 use Rattle.office_history.specs.Award.{scheduled_of}
 use Rattle.office_history.proofs.Greatest.{award_at_most}
 use Rattle.office_history.proofs.decided.award.Goals as goal

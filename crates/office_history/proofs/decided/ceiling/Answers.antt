@@ -1,6 +1,6 @@
 use Rattle.std.proofs.Common.{rules, ap, ◌∙◌, w32, FitsSigned}
 use Rattle.std.proofs.lemmas.Int.{to_z-of_z}
-use Rattle.pell_schedule.specs.Award.{ceiling_at}
+use Rattle.law_pell.specs.Award.{ceiling_at}
 use Rattle.office_history.specs.Award.{ceiling_by}
 use Rattle.office_history.proofs.decided.ceiling.Goals as goal
 

@@ -1,6 +1,6 @@
 use Rattle.std.proofs.Common.{rules, ap, ◌∙◌, w32, FitsSigned}
 use Rattle.std.proofs.lemmas.Int.{to_z-of_z}
-use Rattle.pell_schedule.specs.Award.{decision}
+use Rattle.law_pell.specs.Award.{decision}
 use Rattle.office_history.proofs.decided.decision.Goals as goal
 
 pub returns : goal.returns

@@ -1,7 +1,7 @@
 use Rattle.std.proofs.Common.{List, ◌+◌, ◌++◌, ◌∷◌, reverse, subst, ap, ◌∙◌}
 use Rattle.std.proofs.lemmas.List.{length-reverse}
 use Rattle.aid_filings.specs.declared.filing.Filing.{Filing}
-use Rattle.aid_filings.specs.declared.reply.Verdict.TheVariants.{Again}
+use Rattle.aid_filings.specs.declared.reply.Response.TheVariants.{Again}
 use Rattle.office_history.specs.Answer.{IsLegal, answer_of, outcome_of}
 use Rattle.office_history.proofs.Oldest.{reverse-middle}
 use Rattle.office_history.proofs.Recorded.{answer_of-repeated}

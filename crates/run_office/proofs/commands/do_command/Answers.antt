@@ -4,7 +4,7 @@ use Rattle.run_office.specs.Rounds.{IsPolicyAmong}
 use Rattle.run_office.specs.Ran.{founding, filing, booking, quoting, reporting, funding, generating, checking_rows, checking_book}
 use Rattle.run_office.proofs.Awarding.{planned_at}
 use Rattle.run_office.proofs.Checking.{rows_disk}
-use Rattle.kept_runs.proofs.EndLaws.{stood}
+use Rattle.log_runs.proofs.EndLaws.{stood}
 use Rattle.run_office.proofs.commands.do_command.Goals as goal
 
 pub returns-in-Found-clause-does : goal.returns-in-Found-clause-does

@@ -1,20 +1,20 @@
 use Rattle.std.proofs.Common.{◌≡◌, ◌∙◌, ◌++◌, ⊎_elim, inr, List, [], ap, arith, Global, length, map, refl, string_bytes, subst, sym, Ok, Err}
 use Rattle.aid_filings.specs.declared.filing.Filing.{Filing}
-use Rattle.disk_model.proofs.Moments.{started, weaken}
-use Rattle.headline.specs.Office.{Recovers}
-use Rattle.headline.proofs.Office.{from_kept, one_history, to_kept}
+use Rattle.io_traits.proofs.Moments.{started, weaken}
+use Rattle.run_claims.specs.Office.{Recovers}
+use Rattle.run_claims.proofs.Office.{from_kept, one_history, to_kept}
 use Rattle.office_history.proofs.LegalWithin.{legal_within}
-use Rattle.stamps.specs.declared.stamp.Stamp.{Stamp}
-use Rattle.stamped_list.specs.Entries.{entries}
-use Rattle.stamped_list.specs.declared.entry.StampedEntry.{StampedEntry}
+use Rattle.aid_stamps.specs.declared.stamp.Stamp.{Stamp}
+use Rattle.log_stamps.specs.Entries.{entries}
+use Rattle.log_stamps.specs.declared.entry.StampedEntry.{StampedEntry}
 use Rattle.run_words.specs.declared.command.StampedCommand.{StampedCommand}
 use Rattle.run_words.specs.declared.command.Command.TheVariants.{File, Found}
 use Rattle.run_office.specs.Ran.{CanBeDone, FileRan, did, no_memory, no_row, unread_words}
-use Rattle.kept_runs.specs.declared.stop.RunStop.TheVariants as stops
-use Rattle.kept_session.specs.Edges.{Input}
+use Rattle.log_runs.specs.declared.stop.RunStop.TheVariants as stops
+use Rattle.log_session.specs.Edges.{Input}
 use Rattle.run_office.proofs.Complete.{complete}
-use Rattle.kept_runs.proofs.EndLaws.{done_at, ends_honest, ends_later, sink_moved, stood, with_status}
-use Rattle.kept_runs.specs.Statuses.{fault_line}
+use Rattle.log_runs.proofs.EndLaws.{done_at, ends_honest, ends_later, sink_moved, stood, with_status}
+use Rattle.log_runs.specs.Statuses.{fault_line}
 use Rattle.run_office.proofs.Headline.{has_filed}
 use Rattle.run_office.proofs.Keeps.{keeps}
 use Rattle.run_office.proofs.Images.{moments_by, moments_unread, stands_by}

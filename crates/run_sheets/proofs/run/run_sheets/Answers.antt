@@ -1,12 +1,12 @@
 use Rattle.std.proofs.Common.{◌≡◌, ◌∙◌, ◌++◌, ap, None, Some, Err, arith, Global, map, refl, string_bytes, sym}
-use Rattle.kept_runs.specs.Counts.{HasCause, written}
-use Rattle.kept_runs.specs.declared.stop.RunStop.TheVariants.{Usage}
-use Rattle.kept_runs.proofs.EndLaws.{ends_honest, ends_later, sink_moved, stood}
-use Rattle.kept_runs.proofs.Shown.{ends_done, ends_show}
-use Rattle.disk_model.proofs.Moments.{started}
-use Rattle.kept_office.specs.Recovers.{Recovers}
+use Rattle.log_runs.specs.Counts.{HasCause, written}
+use Rattle.log_runs.specs.declared.stop.RunStop.TheVariants.{Usage}
+use Rattle.log_runs.proofs.EndLaws.{ends_honest, ends_later, sink_moved, stood}
+use Rattle.log_runs.proofs.Shown.{ends_done, ends_show}
+use Rattle.io_traits.proofs.Moments.{started}
+use Rattle.office_log.specs.Recovers.{Recovers}
 use Rattle.office_history.proofs.LegalWithin.{legal_within}
-use Rattle.stamped_list.specs.Entries.{entries}
+use Rattle.log_stamps.specs.Entries.{entries}
 use Rattle.run_sheets.specs.Runs.{edges, no_row}
 use Rattle.run_sheets.specs.Texts.{sheet_text}
 use Rattle.run_sheets.specs.Words.{sheet_words}

@@ -1,7 +1,7 @@
 use Rattle.std.proofs.Common.{◌∙◌, ap}
-use Rattle.kept_runs.specs.Counts.{written}
-use Rattle.kept_runs.specs.Statuses.{is_read_fault}
-use Rattle.kept_runs.proofs.EndLaws.{stood}
+use Rattle.log_runs.specs.Counts.{written}
+use Rattle.log_runs.specs.Statuses.{is_read_fault}
+use Rattle.log_runs.proofs.EndLaws.{stood}
 use Rattle.run_sheets.specs.Texts.{sheet_text}
 use Rattle.run_sheets.proofs.Ran.{unread_by}
 use Rattle.run_sheets.proofs.run.write_sheet.Goals as goal

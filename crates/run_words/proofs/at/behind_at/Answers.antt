@@ -1,5 +1,5 @@
 use Rattle.std.proofs.Common.{◌∙◌, Bor, Global, List, String, map, string_bytes, subst, sym}
-use Rattle.stamps.specs.declared.stamp.Stamp.{Stamp}
+use Rattle.aid_stamps.specs.declared.stamp.Stamp.{Stamp}
 use Rattle.run_words.specs.Stamped.{IsStamped, plain}
 use Rattle.run_words.proofs.StampedWords.{only_found}
 use Rattle.run_words.proofs.at.behind_at.Goals as goal

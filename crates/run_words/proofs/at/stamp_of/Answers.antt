@@ -1,5 +1,5 @@
 use Rattle.std.proofs.Common.{List, ℕ, subst, sym}
-use Rattle.enrolment.specs.DayText.{IsDayText}
+use Rattle.law_terms.specs.DayText.{IsDayText}
 use Rattle.run_words.proofs.at.stamp_of.Goals as goal
 
 pub returns-in_default-clause-none : goal.returns-in_default-clause-none

@@ -1,5 +1,5 @@
 use Rattle.std.proofs.Common.{Global, map, refl, string_bytes}
-use Rattle.stamps.specs.Stamps.{plain_stamp}
+use Rattle.aid_stamps.specs.Stamps.{plain_stamp}
 use Rattle.run_words.proofs.StampedWords.{no_command, only_command, row_is_stamped}
 use Rattle.run_words.proofs.stamped.command_of.Goals as goal
 

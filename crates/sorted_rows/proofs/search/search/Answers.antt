@@ -3,17 +3,17 @@ use Rattle.std.specs.List.{slice_get}
 use Rattle.sorted_rows.proofs.Looks.{AreLooks, one_look, one_missed, all_missed, compared}
 use Rattle.sorted_rows.proofs.search.search.Goals as goal
 
-pub returns-in-Equal-clause-looks : goal.returns-in-Equal-clause-looks
-returns-in-Equal-clause-looks g c =
+pub returns-in-Equal-clause-lookups : goal.returns-in-Equal-clause-lookups
+returns-in-Equal-clause-lookups g c =
     let n = length c.args.rows.now in
-    let looks : AreLooks n (c.loop-low.steps - c.args.steps.now + 1) 0 = one_look n (c.loop-low.steps - c.args.steps.now) (c.loop-low.high - c.loop-low.low) 0 c.loop-low.invariant.looks (omega arith) (omega arith) in
-    subst (λ (k : ℕ). 2 ^ k ≤ 2 * n + 1) {x = c.loop-low.steps - c.args.steps.now + 1} (omega arith) looks.few
+    let lookups : AreLooks n (c.loop-low.steps - c.args.steps.now + 1) 0 = one_look n (c.loop-low.steps - c.args.steps.now) (c.loop-low.high - c.loop-low.low) 0 c.loop-low.invariant.lookups (omega arith) (omega arith) in
+    subst (λ (k : ℕ). 2 ^ k ≤ 2 * n + 1) {x = c.loop-low.steps - c.args.steps.now + 1} (omega arith) lookups.few
 
 pub loop-low-preserved-in-Less : goal.loop-low-preserved-in-Less
 loop-low-preserved-in-Less g c =
     let n = length c.args.rows.now in
     let rest = c.loop-low.low + (c.loop-low.high - c.loop-low.low) / 2 - c.loop-low.low in
-    let looks : AreLooks n (c.loop-low.steps - c.args.steps.now + 1) rest = one_look n (c.loop-low.steps - c.args.steps.now) (c.loop-low.high - c.loop-low.low) rest c.loop-low.invariant.looks (omega arith) (omega arith) in
+    let lookups : AreLooks n (c.loop-low.steps - c.args.steps.now + 1) rest = one_look n (c.loop-low.steps - c.args.steps.now) (c.loop-low.high - c.loop-low.low) rest c.loop-low.invariant.lookups (omega arith) (omega arith) in
     record {
       order = omega arith;
       within = omega arith;
@@ -22,14 +22,14 @@ loop-low-preserved-in-Less g c =
       missed = subst (λ (k : ℕ). n + 2 ≤ 2 ^ k * (rest + 2)) {x = c.loop-low.steps - c.args.steps.now + 1} (omega arith)
           (one_missed n (c.loop-low.steps - c.args.steps.now) (c.loop-low.high - c.loop-low.low) rest c.loop-low.invariant.missed (omega arith));
       later = omega arith;
-      looks = subst (λ (k : ℕ). AreLooks n k rest) {x = c.loop-low.steps - c.args.steps.now + 1} (omega arith) looks;
+      lookups = subst (λ (k : ℕ). AreLooks n k rest) {x = c.loop-low.steps - c.args.steps.now + 1} (omega arith) lookups;
     }
 
 pub loop-low-preserved : goal.loop-low-preserved
 loop-low-preserved g c =
     let n = length c.args.rows.now in
     let rest = c.loop-low.high - (c.loop-low.low + (c.loop-low.high - c.loop-low.low) / 2 + 1) in
-    let looks : AreLooks n (c.loop-low.steps - c.args.steps.now + 1) rest = one_look n (c.loop-low.steps - c.args.steps.now) (c.loop-low.high - c.loop-low.low) rest c.loop-low.invariant.looks (omega arith) (omega arith) in
+    let lookups : AreLooks n (c.loop-low.steps - c.args.steps.now + 1) rest = one_look n (c.loop-low.steps - c.args.steps.now) (c.loop-low.high - c.loop-low.low) rest c.loop-low.invariant.lookups (omega arith) (omega arith) in
     record {
       order = omega arith;
       within = omega arith;
@@ -40,7 +40,7 @@ loop-low-preserved g c =
       missed = subst (λ (k : ℕ). n + 2 ≤ 2 ^ k * (rest + 2)) {x = c.loop-low.steps - c.args.steps.now + 1} (omega arith)
           (one_missed n (c.loop-low.steps - c.args.steps.now) (c.loop-low.high - c.loop-low.low) rest c.loop-low.invariant.missed (omega arith));
       later = omega arith;
-      looks = subst (λ (k : ℕ). AreLooks n k rest) {x = c.loop-low.steps - c.args.steps.now + 1} (omega arith) looks;
+      lookups = subst (λ (k : ℕ). AreLooks n k rest) {x = c.loop-low.steps - c.args.steps.now + 1} (omega arith) lookups;
     }
 
 pub returns-clause-missed : goal.returns-clause-missed

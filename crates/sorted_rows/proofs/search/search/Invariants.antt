@@ -11,7 +11,7 @@ invariant-loop-low g l = record {
   after : IsBeforeGreater g.K.Ord.cmp l.key l.rows l.high;
   missed : length l.rows + 2 ≤ 2 ^ (l.steps - l.fn.steps) * (l.high - l.low + 2);
   later : l.fn.steps ≤ l.steps;
-  looks : AreLooks (length l.rows) (l.steps - l.fn.steps) (l.high - l.low);
+  lookups : AreLooks (length l.rows) (l.steps - l.fn.steps) (l.high - l.low);
 }
 
 abbrev pub decreases-loop-low : goal.decreases-loop-low

@@ -1,5 +1,5 @@
 use Rattle.std.proofs.Common.{ℕ, pos, ◌≤◌, List, length, All}
-use Rattle.aid_num.specs.Nearest.{share}
+use Rattle.aid_types.specs.Nearest.{share}
 use Rattle.aid_books.specs.Ages.{IsAgeRow, IsByAge}
 use Rattle.aid_books.specs.Marginal.{IsBracket, IsMarginal}
 use Rattle.aid_types.specs.Ranges.{IsBetween}

@@ -1,7 +1,7 @@
 use Rattle.std.proofs.Common.{◌≡◌, ℤ, ℕ, pos, ◌+ℤ◌, ◌*ℤ◌, ◌-◌, ◌<◌, min, length, slice_index_or, FitsSigned, to_z, of_z, w64, unsigned_abs, arith, lit<, ap, ◌∙◌}
 use Rattle.std.proofs.lemmas.Int.{ints, unsigned_abs-mul}
 use Rattle.std.proofs.lemmas.Nat.{mul-le}
-use Rattle.aid_num.proofs.Machine.{fits as fits_of, machine}
+use Rattle.aid_types.proofs.Machine.{fits as fits_of, machine}
 use Rattle.aid_types.specs.Ranges.{IsAmount, IsSumOf}
 use Rattle.aid_books.specs.BySize.{by_size}
 use Rattle.aid_books.proofs.RangeLemmas.{EachIsAmount-at}

@@ -1,6 +1,6 @@
 use Rattle.std.proofs.Common.{ℕ, ◌∙◌, sym, subst}
-use Rattle.kept_runs.specs.Puts.{HasCut, HasPut}
-use Rattle.kept_runs.specs.Ends.{EndsWith, told, untold}
+use Rattle.log_runs.specs.Puts.{HasCut, HasPut}
+use Rattle.log_runs.specs.Ends.{EndsWith, told, untold}
 use Rattle.run_upgrade.specs.Ends.{line_of, status_of}
 use Rattle.run_upgrade.proofs.ending.UpgradeEnd.tell.Goals as goal
 

@@ -13,10 +13,10 @@ returns-in-Some-clause-value g c =
     in_first test c.self.inside.tail.items c.self.inside.main.items c.in-Some.value (c.in-Some.ensures.value ∙ ap (lookup test) c.as_slice.ensures.value)
     ∙ ap (λ (t : Seen g.row.K.Denot g.row.V.Denot). lookup test t.rows) c.self.view_is
 
-pub returns-in-Some-clause-looks : goal.returns-in-Some-clause-looks
-returns-in-Some-clause-looks g c = λ digits short.
+pub returns-in-Some-clause-lookups : goal.returns-in-Some-clause-lookups
+returns-in-Some-clause-lookups g c = λ digits short.
     let few : length c.as_slice.result.now ≡ length c.self.inside.tail.items = ap length c.as_slice.ensures.value in
-    omega (arith, looks_in_digits (c.find.new.steps - c.args.steps.now) (length c.as_slice.result.now) tail_looks c.in-Some.ensures.looks (omega arith))
+    omega (arith, looks_in_digits (c.find.new.steps - c.args.steps.now) (length c.as_slice.result.now) tail_looks c.in-Some.ensures.lookups (omega arith))
 
 pub returns-in-None-clause-value : goal.returns-in-None-clause-value
 returns-in-None-clause-value g c =
@@ -26,31 +26,31 @@ returns-in-None-clause-value g c =
     ∙ in_second test c.self.inside.tail.items c.self.inside.main.items (c.in-None.ensures.value ∙ ap (lookup test) c.as_slice.ensures.value)
     ∙ ap (λ (t : Seen g.row.K.Denot g.row.V.Denot). lookup test t.rows) c.self.view_is
 
-pub returns-in-None-clause-looks : goal.returns-in-None-clause-looks
-returns-in-None-clause-looks g c = λ digits short.
+pub returns-in-None-clause-lookups : goal.returns-in-None-clause-lookups
+returns-in-None-clause-lookups g c = λ digits short.
     let tail = c.self.inside.tail.items in
     let main = c.self.inside.main.items in
     let all : length c.args.self.now.rows ≡ length tail + length main = sym (ap (λ (t : Seen g.row.K.Denot g.row.V.Denot). length t.rows) c.self.view_is) ∙ length-append tail main in
     let few : length c.as_slice.result.now ≡ length tail = ap length c.as_slice.ensures.value in
     let many : length c.as_slice-in-None.result.now ≡ length main = ap length c.as_slice-in-None.ensures.value in
     let in_tail : c.find.new.steps - c.args.steps.now ≤ tail_looks =
-    looks_in_digits (c.find.new.steps - c.args.steps.now) (length c.as_slice.result.now) tail_looks c.in-None.ensures.looks (omega arith) in
+    looks_in_digits (c.find.new.steps - c.args.steps.now) (length c.as_slice.result.now) tail_looks c.in-None.ensures.lookups (omega arith) in
     let in_main : c.find-in-None.new.steps - c.find.new.steps ≤ digits =
-    looks_in_digits (c.find-in-None.new.steps - c.find.new.steps) (length c.as_slice-in-None.result.now) digits c.find-in-None.ensures.looks (omega arith) in
+    looks_in_digits (c.find-in-None.new.steps - c.find.new.steps) (length c.as_slice-in-None.result.now) digits c.find-in-None.ensures.lookups (omega arith) in
     omega (arith, c.in-None.ensures.later, c.find-in-None.ensures.later)
 
 pub returns-in-Some-clause-twice : goal.returns-in-Some-clause-twice
 returns-in-Some-clause-twice g c = λ digits short.
     let all : length c.args.self.now.rows ≡ length c.self.inside.tail.items + length c.self.inside.main.items = sym (ap (λ (t : Seen g.row.K.Denot g.row.V.Denot). length t.rows) c.self.view_is) ∙ length-append c.self.inside.tail.items c.self.inside.main.items in
     let few : length c.as_slice.result.now ≡ length c.self.inside.tail.items = ap length c.as_slice.ensures.value in
-    omega (arith, looks_in_digits (c.find.new.steps - c.args.steps.now) (length c.as_slice.result.now) digits c.in-Some.ensures.looks (omega arith))
+    omega (arith, looks_in_digits (c.find.new.steps - c.args.steps.now) (length c.as_slice.result.now) digits c.in-Some.ensures.lookups (omega arith))
 
 pub returns-in-Some-clause-spared : goal.returns-in-Some-clause-spared
 returns-in-Some-clause-spared g c = λ digits some short.
     let all : length c.args.self.now.rows ≡ length c.self.inside.tail.items + length c.self.inside.main.items = sym (ap (λ (t : Seen g.row.K.Denot g.row.V.Denot). length t.rows) c.self.view_is) ∙ length-append c.self.inside.tail.items c.self.inside.main.items in
     let few : length c.as_slice.result.now ≡ length c.self.inside.tail.items = ap length c.as_slice.ensures.value in
     let spare : 0 < digits = some_digit (length c.args.self.now.rows) digits some short in
-    omega (arith, looks_in_digits (c.find.new.steps - c.args.steps.now) (length c.as_slice.result.now) digits c.in-Some.ensures.looks (omega arith))
+    omega (arith, looks_in_digits (c.find.new.steps - c.args.steps.now) (length c.as_slice.result.now) digits c.in-Some.ensures.lookups (omega arith))
 
 pub returns-in-None-clause-twice : goal.returns-in-None-clause-twice
 returns-in-None-clause-twice g c = λ digits short.
@@ -60,9 +60,9 @@ returns-in-None-clause-twice g c = λ digits short.
     let few : length c.as_slice.result.now ≡ length tail = ap length c.as_slice.ensures.value in
     let many : length c.as_slice-in-None.result.now ≡ length main = ap length c.as_slice-in-None.ensures.value in
     let in_tail : c.find.new.steps - c.args.steps.now ≤ digits =
-    looks_in_digits (c.find.new.steps - c.args.steps.now) (length c.as_slice.result.now) digits c.in-None.ensures.looks (omega arith) in
+    looks_in_digits (c.find.new.steps - c.args.steps.now) (length c.as_slice.result.now) digits c.in-None.ensures.lookups (omega arith) in
     let in_main : c.find-in-None.new.steps - c.find.new.steps ≤ digits =
-    looks_in_digits (c.find-in-None.new.steps - c.find.new.steps) (length c.as_slice-in-None.result.now) digits c.find-in-None.ensures.looks (omega arith) in
+    looks_in_digits (c.find-in-None.new.steps - c.find.new.steps) (length c.as_slice-in-None.result.now) digits c.find-in-None.ensures.lookups (omega arith) in
     omega (arith, c.in-None.ensures.later, c.find-in-None.ensures.later)
 
 pub returns-in-None-clause-spared : goal.returns-in-None-clause-spared
@@ -73,7 +73,7 @@ returns-in-None-clause-spared g c = λ digits some short.
     let few : length c.as_slice.result.now ≡ length tail = ap length c.as_slice.ensures.value in
     let many : length c.as_slice-in-None.result.now ≡ length main = ap length c.as_slice-in-None.ensures.value in
     let both : c.find.new.steps - c.args.steps.now + (c.find-in-None.new.steps - c.find.new.steps) + 1 ≤ 2 * digits =
-    two_searches (c.find.new.steps - c.args.steps.now) (c.find-in-None.new.steps - c.find.new.steps) (length c.as_slice.result.now) (length c.as_slice-in-None.result.now) digits c.in-None.ensures.looks c.find-in-None.ensures.looks (omega arith) (omega arith) in
+    two_searches (c.find.new.steps - c.args.steps.now) (c.find-in-None.new.steps - c.find.new.steps) (length c.as_slice.result.now) (length c.as_slice-in-None.result.now) digits c.in-None.ensures.lookups c.find-in-None.ensures.lookups (omega arith) (omega arith) in
     omega (arith, c.in-None.ensures.later, c.find-in-None.ensures.later)
 
 pub returns-in-None-clause-missed : goal.returns-in-None-clause-missed

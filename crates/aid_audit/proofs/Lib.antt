@@ -1,9 +1,0 @@
-pub mod Causes
-pub mod Exports
-pub mod Judged
-pub mod Lengths
-mod Ran
-pub mod Ranges
-pub mod Runs
-pub mod Stood
-pub mod Walk

@@ -1,4 +1,0 @@
-pub mod Faults
-pub mod Kept
-pub mod Moved
-pub mod Whole

@@ -1,7 +1,0 @@
-use Rattle.std.proofs.Common.{◌≡◌, reverse, take}
-use Rattle.export_lines.specs.Applicants.{told_by}
-use Rattle.aid_reports.specs.Rows.{lifetime_user}
-use Rattle.aid_reports.proofs.gathered.lifetime_users.Given as goal
-
-abbrev pub invariant-loop-filing : goal.invariant-loop-filing
-invariant-loop-filing l = l.students.items ≡ reverse (told_by (λ f. lifetime_user f.what) (reverse (take l.filing-index l.filings)))

@@ -1,6 +1,0 @@
-use Rattle.std.proofs.Common.{◌≡◌, ◌++◌, map, take}
-use Rattle.std.specs.List.{concat}
-use Rattle.aid_sheets.proofs.headed.put_lines.Given as goal
-
-abbrev pub invariant-loop-row : goal.invariant-loop-row
-invariant-loop-row g l = l.out.items ≡ l.initial.out.items ++ concat (map g.L.Line.line (take l.row-index l.rows))

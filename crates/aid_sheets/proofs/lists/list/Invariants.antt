@@ -1,7 +1,0 @@
-use Rattle.std.proofs.Common.{◌≡◌, reverse, take}
-use Rattle.std.specs.List.{concat}
-use Rattle.aid_sheets.specs.Lists.{list_lines}
-use Rattle.aid_sheets.proofs.lists.list.Given as goal
-
-abbrev pub invariant-loop-index : goal.invariant-loop-index
-invariant-loop-index l = l.out.items ≡ concat (list_lines (reverse (take l.index l.filings)) (reverse (take l.index l.stamps)))

@@ -1,7 +1,0 @@
-use Rattle.std.proofs.Common.{◌≡◌, reverse, take}
-use Rattle.export_lines.specs.Applicants.{told_by}
-use Rattle.aid_sheets.specs.Quotes.{enrolled_by}
-use Rattle.aid_sheets.proofs.term_quotes.enrolled.Given as goal
-
-abbrev pub invariant-loop-filing : goal.invariant-loop-filing
-invariant-loop-filing l = l.students.items ≡ reverse (told_by (λ f. enrolled_by l.school l.year l.term f.key f.what) (reverse (take l.filing-index l.filings)))

@@ -1,7 +1,0 @@
-pub mod Amounts
-pub mod Behind
-pub mod Chain
-pub mod Equal
-pub mod InRange
-pub mod Plain
-pub mod RowsOf

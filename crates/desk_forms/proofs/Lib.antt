@@ -1,2 +1,0 @@
-pub mod RowsLemmas
-pub mod LineLemmas

@@ -1,4 +1,0 @@
-pub mod DayLemmas
-pub mod DayTextLaws
-pub mod DayTexts
-pub mod TermDays

@@ -1,6 +1,0 @@
-use Rattle.std.proofs.Common.{◌≡◌, ◌-◌, take}
-use Rattle.enrolment.specs.Terms.{counted}
-use Rattle.enrolment.proofs.terms.days.Given as goal
-
-abbrev pub invariant-loop-from : goal.invariant-loop-from
-invariant-loop-from l = l.count ≡ counted (take l.from-index l.from-items) l.first (l.end - l.first)

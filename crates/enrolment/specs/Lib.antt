@@ -1,4 +1,0 @@
-pub mod CivilDays
-pub mod DayText
-pub mod Days
-pub mod Terms

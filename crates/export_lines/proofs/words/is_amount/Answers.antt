@@ -1,7 +1,0 @@
-use Rattle.std.proofs.Common.{◌∙◌}
-use Rattle.aid_num.specs.Cents.{cents_of}
-use Rattle.export_lines.proofs.Readings.{cents_well}
-use Rattle.export_lines.proofs.words.is_amount.Goals as goal
-
-pub returns : goal.returns
-returns c = c.is_spelled.ensures ∙ cents_well 99999999 (cents_of c.args.text.now) c.read_cents.result c.read_cents.ensures.value

@@ -1,4 +1,0 @@
-pub mod Behind
-pub mod FilingLaws
-pub mod RowLaws
-pub mod Places

@@ -1,6 +1,0 @@
-use Rattle.std.proofs.Common.{◌≤◌, List, ℕ, length, subst, sym}
-use Rattle.filing_codec.proofs.FilingLaws.{length-spelling}
-use Rattle.filing_codec.proofs.stamped.put_stamped.Goals as goal
-
-pub put_front-requires : goal.put_front-requires
-put_front-requires c = record { fits = subst (λ (l : List ℕ). length l ≤ 8155) (sym c.put.ensures.spelled) (length-spelling c.args.filing.now c.put.ensures.is_filing) }

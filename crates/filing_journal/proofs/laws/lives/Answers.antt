@@ -1,5 +1,0 @@
-use Rattle.filing_journal.proofs.Fates.{kept}
-use Rattle.filing_journal.proofs.laws.lives.Goals as goal
-
-pub returns : goal.returns
-returns g c header before fates file life = kept g.D.Disk header before file fates life

@@ -1,5 +1,0 @@
-use Rattle.filing_journal.proofs.Unique.{undamaged}
-use Rattle.filing_journal.proofs.laws.undamaged.Goals as goal
-
-pub returns : goal.returns
-returns c header file payloads given place stands damaged = undamaged header file given payloads place stands damaged

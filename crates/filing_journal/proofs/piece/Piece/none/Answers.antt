@@ -1,6 +1,0 @@
-use Rattle.std.proofs.Common.{arith}
-use Rattle.filing_journal.proofs.Pieces.{past_end}
-use Rattle.filing_journal.proofs.piece.Piece.none.Goals as goal
-
-pub returns : goal.returns
-returns c file small = past_end 4096 18446744073709551615 file (omega arith)

@@ -1,9 +1,0 @@
--- The numbers of a kind's fields, read one after the other.
-use Rattle.std.specs.Prelude.{ℤ, List, Result}
-use Rattle.field_table.specs.Walk.{Source, numbers_of_slots}
-use Rattle.filing_kinds.specs.Kinds.{slots_of_kind}
-use Rattle.filing_kinds.specs.declared.kind.Kind.{Kind}
-
--- the numbers of a filing of a kind
-abbrev pub numbers_of_kind : {S E : Type 0} → Source S E → Kind → S → Result (List ℤ) E
-numbers_of_kind source kind s = numbers_of_slots source (slots_of_kind kind) s

@@ -1,9 +1,0 @@
-use Rattle.std.proofs.Common.{◌≡◌, ◌+◌, ◌-◌, ◌≤◌, ◌++◌, length, take}
-use Rattle.field_table.specs.Forms.{most_numbers}
-use Rattle.filing_numbers.proofs.application.add_amounts.Given as goal
-
-abbrev pub invariant-loop-amount : goal.invariant-loop-amount
-invariant-loop-amount l = record {
-  room : length l.numbers.items + (length l.amounts - l.amount-index) ≤ most_numbers;
-  added : l.numbers.items ≡ l.initial.numbers.items ++ take l.amount-index l.amounts;
-}

@@ -1,5 +1,0 @@
-use Rattle.filing_numbers.proofs.Could.{could_fit}
-use Rattle.filing_numbers.proofs.facts.put_could.Goals as goal
-
-pub returns-clause-in_range : goal.returns-clause-in_range
-returns-clause-in_range c = could_fit c.args.could.now c.told-could c.requires.cents

@@ -1,0 +1,11 @@
+pub mod Same
+pub mod Applications
+pub mod Calendars
+pub mod Breaks
+pub mod Could
+pub mod Ranges
+pub mod Slots
+pub mod Behind
+pub mod FilingLaws
+pub mod RowLaws
+pub mod Places

@@ -1,0 +1,9 @@
+pub mod RowsLemmas
+pub mod LineLemmas
+pub mod Days
+pub mod Kept
+pub mod Plain
+pub mod ReadAgain
+pub mod Records
+pub mod RowLaws
+pub mod WritingLemmas

@@ -1,0 +1,4 @@
+pub mod Drafts
+pub mod Kinds
+pub mod Book
+pub mod Sections

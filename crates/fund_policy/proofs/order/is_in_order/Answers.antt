@@ -1,9 +1,0 @@
-use Rattle.std.proofs.Common.{rules, of_calls}
-use Rattle.std.proofs.lemmas.List.Sorted.{answers_always}
-use Rattle.fund_policy.specs.Order.{comes_before}
-use Rattle.fund_policy.proofs.Ordered.{told_in_order}
-use Rattle.fund_policy.proofs.order.is_in_order.Goals as goal
-
-pub returns : goal.returns
-returns c =
-    told_in_order c.args.list.now c.is_sorted_by.result (c.is_sorted_by.ensures.cases comes_before (answers_always _ _ _ (λ f a r after called. search (of_calls, rules))))

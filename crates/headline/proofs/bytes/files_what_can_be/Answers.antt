@@ -1,8 +1,0 @@
-use Rattle.headline.proofs.FilingRanges.{can_be_filed, is_filing}
-use Rattle.headline.proofs.bytes.files_what_can_be.Goals as goal
-
-pub returns-clause-can_be_filed : goal.returns-clause-can_be_filed
-returns-clause-can_be_filed c f fit = can_be_filed f fit
-
-pub returns-clause-is_filing : goal.returns-clause-is_filing
-returns-clause-is_filing c f can = is_filing f can

@@ -1,5 +1,0 @@
-use Rattle.headline.proofs.KeptFilings.{kept_is_spelling}
-use Rattle.headline.proofs.bytes.kept_as_spelled.Goals as goal
-
-pub returns : goal.returns
-returns c f can = kept_is_spelling f can

@@ -1,5 +1,0 @@
-use Rattle.headline.proofs.RowLaws.{row_means}
-use Rattle.headline.proofs.rows.row_files.Goals as goal
-
-pub returns : goal.returns
-returns c number row f = row_means number row f

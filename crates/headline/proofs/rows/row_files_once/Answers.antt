@@ -1,5 +1,0 @@
-use Rattle.headline.proofs.RowLaws.{one_filing}
-use Rattle.headline.proofs.rows.row_files_once.Goals as goal
-
-pub returns : goal.returns
-returns c row f g one other = one_filing row f g one other

@@ -1,5 +1,0 @@
-use Rattle.headline.proofs.RowLaws.{error_named}
-use Rattle.headline.proofs.rows.row_named.Goals as goal
-
-pub returns : goal.returns
-returns c number row e h = error_named number row e h

@@ -1,5 +1,0 @@
-use Rattle.headline.proofs.Texts.{one_spelling}
-use Rattle.headline.proofs.rows.spelled_once.Goals as goal
-
-pub returns : goal.returns
-returns c n one other fits first second = one_spelling n one other fits first second

@@ -1,5 +1,0 @@
-use Rattle.headline.proofs.Admitted.{legal_admitted}
-use Rattle.headline.proofs.rule_laws.legal_is_admitted.Goals as goal
-
-pub returns : goal.returns
-returns c = legal_admitted

@@ -1,5 +1,0 @@
-use Rattle.headline.proofs.Admitted.{may_follow_is}
-use Rattle.headline.proofs.rule_laws.may_follow_is_rules.Goals as goal
-
-pub returns : goal.returns
-returns c = may_follow_is

@@ -1,4 +1,0 @@
-use Rattle.kept_crews.proofs.desks.only_now.Goals as goal
-
-pub returns : goal.returns
-returns g c disk file honest since = g.met.D.Disk.only_now disk file honest since

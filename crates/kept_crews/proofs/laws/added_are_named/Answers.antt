@@ -1,5 +1,0 @@
-use Rattle.kept_crews.proofs.Named.{added_named}
-use Rattle.kept_crews.proofs.laws.added_are_named.Goals as goal
-
-pub returns : goal.returns
-returns g c opening closed before after filed entry has = added_named g.R.Docket.judging g.R.OwnDocket.own g.C.Copies.copied g.L.Rows.texts g.L.Rows.left opening closed before after filed entry has

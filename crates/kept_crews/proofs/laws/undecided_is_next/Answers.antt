@@ -1,5 +1,0 @@
-use Rattle.kept_crews.proofs.Named.{undecided_next}
-use Rattle.kept_crews.proofs.laws.undecided_is_next.Goals as goal
-
-pub returns : goal.returns
-returns g c opening closed before after filed k d position lt is = undecided_next g.R.Docket.judging g.R.OwnDocket.own g.C.Copies.copied g.L.Rows.texts g.L.Rows.left opening closed before after filed k d position lt is

@@ -1,5 +1,0 @@
-pub mod DeskTexts
-pub mod Names
-pub mod Reads
-pub mod DesksDone
-pub mod RanCrew

@@ -1,5 +1,0 @@
-use Rattle.kept_office.proofs.Oldest.{never_old}
-use Rattle.kept_office.proofs.old.recover_old.Goals as goal
-
-pub returns-clause-oldest : goal.returns-clause-oldest
-returns-clause-oldest g c honest = never_old (g.D.Disk.tells c.args.disk).reads c.read.result (c.read.ensures.old honest)

@@ -1,0 +1,6 @@
+use Rattle.std.proofs.Common.{arith}
+use Rattle.std.proofs.lemmas.Int.{ints, clamps}
+use Rattle.law_sai.proofs.household.employment_allowance.Goals as goal
+
+pub returns-clause-in_range : goal.returns-clause-in_range
+returns-clause-in_range c = omega (arith, ints, clamps)

@@ -1,4 +1,0 @@
-pub mod Cents
-pub mod Sums
-pub mod Tied
-pub mod Written

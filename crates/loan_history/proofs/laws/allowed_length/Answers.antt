@@ -1,5 +1,0 @@
-use Rattle.loan_history.proofs.Small.{is_short}
-use Rattle.loan_history.proofs.laws.allowed_length.Goals as goal
-
-pub returns : goal.returns
-returns c = is_short

@@ -1,5 +1,0 @@
-use Rattle.loan_history.proofs.Holding.{has_room}
-use Rattle.loan_history.proofs.laws.room_left.Goals as goal
-
-pub returns : goal.returns
-returns c = has_room

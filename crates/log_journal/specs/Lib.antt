@@ -1,0 +1,12 @@
+pub mod Ahead
+pub mod Founded
+pub mod Head
+pub mod Header
+pub mod Journal
+pub mod Lives
+pub mod Opening
+pub mod Piece
+pub mod Record
+pub mod Stands
+pub use Rattle.io_traits.specs.Faults
+pub use Rattle.io_traits.specs.DiskState

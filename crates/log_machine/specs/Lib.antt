@@ -1,0 +1,13 @@
+pub mod Scheme
+pub mod Recovers
+pub mod NewEntry
+pub mod Faulty
+pub mod Reading
+pub mod Submits
+pub mod Kept
+pub mod Lives
+pub mod Names
+pub mod Texts
+pub use Rattle.log_journal.specs.Founded
+pub use Rattle.log_journal.specs.Stands
+pub use Rattle.log_journal.specs.DiskState

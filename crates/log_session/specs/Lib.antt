@@ -1,0 +1,10 @@
+pub mod Edges
+pub mod Links
+pub mod Sessions
+pub mod Checks
+pub mod Reports
+pub mod Asks
+pub mod Planned
+pub mod Counted
+pub mod Fronts
+pub use Rattle.log_machine.specs.Recovers

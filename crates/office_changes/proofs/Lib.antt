@@ -1,9 +1,0 @@
-pub mod NamesChanged
-pub mod PlacesAfter
-pub mod RowNames
-pub mod SchoolYearsAfter
-pub mod SchoolsAfter
-pub mod StudentUse
-pub mod YearFilings
-pub mod YearMoves
-pub mod YearNames

@@ -1,6 +1,0 @@
-use Rattle.std.proofs.Common.{arith}
-use Rattle.office_changes.proofs.SchoolsAfter.{next_fits}
-use Rattle.office_changes.proofs.after_schools.next_position.Goals as goal
-
-pub overflow_add-result : goal.overflow_add-result
-overflow_add-result g c = omega (arith, next_fits (g.P.OnFile.history c.args.past.now) c.front.ensures.legal, c.front.ensures.value)

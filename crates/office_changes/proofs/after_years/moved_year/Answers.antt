@@ -1,5 +1,0 @@
-use Rattle.std.proofs.Common.{arith}
-use Rattle.office_changes.proofs.after_years.moved_year.Goals as goal
-
-pub plus-requires : goal.plus-requires
-plus-requires g c = λ p. omega (arith, c.requires.nets p, c.requires.paid p)

@@ -1,4 +1,0 @@
-use Rattle.office_changes.proofs.uncounted.place_of.Given as goal
-
-abbrev pub ghosts-place_on : goal.ghosts-place_on
-ghosts-place_on g a = record { name = a.blank.name; parts = a.blank.parts }

@@ -1,4 +1,0 @@
-use Rattle.office_changes.proofs.uncounted.term_of.Given as goal
-
-abbrev pub ghosts-term_on : goal.ghosts-term_on
-ghosts-term_on g a = record { name = a.blank.name; parts = a.blank.parts }

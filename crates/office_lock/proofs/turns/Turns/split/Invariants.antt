@@ -1,4 +1,0 @@
-use Rattle.office_lock.proofs.turns.Turns.split.Given as goal
-
-abbrev pub ghosts-cut : goal.ghosts-cut
-ghosts-cut g a = record { share = a.share }

@@ -1,0 +1,47 @@
+use Rattle.std.proofs.Common.{◌≤◌, ◌<◌, refl, ap, arith, length, ◌∙◌}
+use Rattle.std.proofs.lemmas.List.{length-reverse}
+use Rattle.office_sheets.specs.Ledgers.{ledger_rows, rows_about}
+use Rattle.office_sheets.proofs.LedgerPass.{passed_more, rows_more, rows_whole}
+use Rattle.office_sheets.proofs.Passed.{may_follow, stands_inside}
+use Rattle.office_sheets.proofs.ledger.ledger_rows.Goals as goal
+
+pub bounds-filings-index : goal.bounds-filings-index
+bounds-filings-index c = stands_inside c.filings-filings.result.now c.args.office.now.history c.loop-index.index c.front-front.result c.filings-filings.ensures c.loop-index-test.true (omega (arith, c.front-front.ensures.value))
+
+pub bounds-stamps-index : goal.bounds-stamps-index
+bounds-stamps-index c = omega (arith, c.front-front.ensures.value, c.requires, c.loop-index-test.true)
+
+pub pass-requires : goal.pass-requires
+pass-requires c =
+    let inside = stands_inside c.filings-filings.result.now c.args.office.now.history c.loop-index.index c.front-front.result c.filings-filings.ensures c.loop-index-test.true (omega (arith, c.front-front.ensures.value)) in
+    record {
+      legal = may_follow c.filings-filings.result.now c.args.office.now.history c.loop-index.past.history c.loop-index.index c.index-filings-index.result
+          c.filings-filings.ensures c.front-front.ensures.legal inside c.index-filings-index.is c.loop-index.invariant.history;
+      room = omega (arith, c.loop-index.invariant.room, c.loop-index-test.true);
+    }
+
+pub loop-index-init : goal.loop-index-init
+loop-index-init c = record {
+  history = c.reserve.ensures.history ∙ c.new-past.ensures.history;
+  room = omega (arith, c.in_ok-reserve.ensures.room, c.new-past.ensures.spare);
+  rows = c.new-rows.ensures.items;
+}
+
+pub loop-index-preserved : goal.loop-index-preserved
+loop-index-preserved c =
+    let inside = stands_inside c.filings-filings.result.now c.args.office.now.history c.loop-index.index c.front-front.result c.filings-filings.ensures c.loop-index-test.true (omega (arith, c.front-front.ensures.value)) in
+    let stamped : c.loop-index.index < length c.args.stamps.now = omega (arith, c.front-front.ensures.value, c.requires, c.loop-index-test.true) in
+    record {
+      history = passed_more c.filings-filings.result.now c.loop-index.past.history c.pass.new.past.history c.loop-index.index c.index-filings-index.result
+          inside c.index-filings-index.is c.loop-index.invariant.history c.in_ok-pass.ensures.history;
+      room = omega (arith, c.in_ok-pass.ensures.spare, c.loop-index.invariant.room);
+      rows = rows_more (ledger_rows c.args.student) (rows_about c.args.student) (λ past f s stamps. refl) c.filings-filings.result.now c.loop-index.past.history c.args.stamps.now c.loop-index.index c.index-filings-index.result c.index-stamps-index.result
+          inside stamped c.index-filings-index.is c.index-stamps-index.is c.loop-index.invariant.history _ _ c.loop-index.invariant.rows c.in_ok-pass.ensures.rows;
+    }
+
+pub returns : goal.returns
+returns c =
+    let fs = c.filings-filings.result.now in
+    let all : length fs ≤ c.loop-index.index = omega (arith, length-reverse fs, ap length c.filings-filings.ensures, c.front-front.ensures.value, c.loop-index-test.false) in
+    let enough : length c.args.stamps.now ≤ c.loop-index.index = omega (arith, c.requires, c.front-front.ensures.value, c.loop-index-test.false) in
+    rows_whole (ledger_rows c.args.student) fs c.args.office.now.history c.args.stamps.now c.loop-index.index c.filings-filings.ensures all enough _ c.loop-index.invariant.rows

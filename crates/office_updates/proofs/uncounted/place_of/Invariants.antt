@@ -1,0 +1,4 @@
+use Rattle.office_updates.proofs.uncounted.place_of.Given as goal
+
+abbrev pub ghosts-place_on : goal.ghosts-place_on
+ghosts-place_on g a = record { name = a.blank.name; parts = a.blank.parts }

@@ -1,4 +1,0 @@
-pub mod Enrolments
-pub mod Links
-pub mod Placed
-pub mod Walks

@@ -1,8 +1,0 @@
-use Rattle.std.proofs.Common.{arith}
-use Rattle.std.proofs.lemmas.Int.{to_z-of_z}
-use Rattle.pell_schedule.specs.Award.{is_minimum}
-use Rattle.pell_schedule.proofs.is_minimum.Goals as goal
-
-pub returns : goal.returns
-unfolding is_minimum
-returns c = grind (arith, to_z-of_z)

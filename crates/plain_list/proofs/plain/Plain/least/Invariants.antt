@@ -1,9 +1,0 @@
-use Rattle.std.proofs.Common.{◌≡◌, Bool, reverse, take}
-use Rattle.office_history.specs.Past.{FiledTerm}
-use Rattle.plain_list.specs.Asked.{Tests}
-use Rattle.plain_list.proofs.Terms.{code, place}
-use Rattle.plain_list.proofs.plain.Plain.least.Given as goal
-
-abbrev pub invariant-loop-filing : goal.invariant-loop-filing
-invariant-loop-filing g l = (test : FiledTerm → Bool) → Tests (goal.F-post g l.passes) test →
-    (l.least ≡ code test (reverse (take l.filing-index l.filings))) × (l.first ≡ place test (reverse (take l.filing-index l.filings)))

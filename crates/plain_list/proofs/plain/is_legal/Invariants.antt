@@ -1,6 +1,0 @@
-use Rattle.std.proofs.Common.{reverse, take}
-use Rattle.office_history.specs.Answer.{IsLegal}
-use Rattle.plain_list.proofs.plain.is_legal.Given as goal
-
-abbrev pub invariant-loop-index : goal.invariant-loop-index
-invariant-loop-index l = IsLegal (reverse (take l.index l.filings))

@@ -1,7 +1,0 @@
-use Rattle.return_worksheet.proofs.ReturnPieces.{amount}
-use Rattle.return_worksheet.proofs.lines.put_cents.Goals as goal
-
-pub returns : goal.returns
-returns c =
-    rw (c.in_ok-push-3.ensures.items, c.in_ok-push-2.ensures.items, c.in_ok-push.ensures.items, c.in_ok-put_number.ensures)
-    (amount c.args.out.now.items c.args.width c.args.cents c.requires.wide c.ranges.cents.fits)

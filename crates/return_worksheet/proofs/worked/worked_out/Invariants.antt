@@ -1,4 +1,0 @@
-use Rattle.return_worksheet.proofs.worked.worked_out.Given as goal
-
-abbrev pub ghosts-on_file : goal.ghosts-on_file
-ghosts-on_file a = record { name = a.blank.name; parts = a.blank.parts }

@@ -1,0 +1,108 @@
+// The way from a program's words to a journal that is open, and to its status.
+use io_traits::{
+    HostDisk, Sink, fill_streams, is_born, keep_in_folder, open_journal, say, words_of,
+};
+use log_journal::OpenError;
+use log_runs::{RunStop, end};
+use log_session::ReadStop;
+use page_cache::take;
+use std::fs::File;
+use std::io::ErrorKind;
+use std::process::ExitCode;
+
+/// What a program begins with: the words behind its journal's path, the journal's disk, and the standard streams, which stay open.
+pub struct Opened {
+    pub words: Vec<String>,
+    pub disk: HostDisk,
+    pub streams: (File, File, File),
+}
+
+// Whether the words found a list.
+fn is_found(words: &[String]) -> bool {
+    match words {
+        [word] => word.as_str() == "found",
+        _ => false,
+    }
+}
+
+// The journal's path and the words behind it, or the status with which the program ends.
+fn read_words<K: Sink>(
+    rt: &HostRuntime,
+    usage: &str,
+    out: &mut K,
+) -> Result<(String, Vec<String>), u8> {
+    match words_of(rt) {
+        Ok(words) if words.is_empty() => {
+            say(rt, usage);
+            Err(RunStop::Usage.status())
+        }
+        Ok(mut words) => {
+            let path = words.remove(0);
+            Ok((path, words))
+        }
+        Err(error) if error.kind() == ErrorKind::OutOfMemory => {
+            let stop = RunStop::File(ReadStop::NoMemory.into());
+            Err(end(Err(stop), out))
+        }
+        // A word that is no text is no row of words.
+        Err(_) => {
+            say(rt, usage);
+            Err(end(Err(RunStop::Usage), out))
+        }
+    }
+}
+
+// The journal of a path, held for this program alone; one that is to be founded is kept in its folder first.
+fn open_disk(rt: &HostRuntime, path: &str, words: &[String]) -> Option<HostDisk> {
+    let file = match open_journal(rt, path) {
+        Ok(file) => file,
+        Err(error) => {
+            let _ = eprintln!(rt; "the journal can't be opened: {error}");
+            return None;
+        }
+    };
+    if !take(rt, &file) {
+        return None;
+    }
+    // Of a file that can't be read its folder is synced, and the run tells of the fault.
+    let is_to_be_founded = is_found(words) && !is_born(&file).unwrap_or(false);
+    if is_to_be_founded && keep_in_folder(rt, path).is_err() {
+        say(rt, "the journal's folder can't be written for good");
+        return None;
+    }
+    Some(HostDisk::new(file))
+}
+
+/// Opens the journal that the first word names, or answers the status with which the program ends. `usage` says how the program is
+/// used.
+pub fn open_program<K: Sink>(
+    rt: &HostRuntime,
+    usage: &str,
+    out: &mut K,
+) -> Result<Opened, ExitCode> {
+    let disk_fault = RunStop::File(OpenError::DiskFault.into()).status();
+    let Ok([input, output, errors]) = fill_streams(rt) else {
+        say(rt, "the program may open too few files at once");
+        return Err(ExitCode::from(disk_fault));
+    };
+    let (path, words) = match read_words(rt, usage, out) {
+        Ok(read) => read,
+        Err(status) => return Err(ExitCode::from(status)),
+    };
+    match open_disk(rt, path.as_str(), &words) {
+        Some(disk) => Ok(Opened {
+            words,
+            disk,
+            streams: (input, output, errors),
+        }),
+        None => Err(ExitCode::from(disk_fault)),
+    }
+}
+
+/// The end of a program with a status; one of 2 is told of by how the program is used.
+pub fn close_program(rt: &HostRuntime, usage: &str, status: u8) -> ExitCode {
+    if status == RunStop::Usage.status() {
+        say(rt, usage);
+    }
+    ExitCode::from(status)
+}

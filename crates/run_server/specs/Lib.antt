@@ -1,0 +1,4 @@
+pub mod RanWeb
+pub mod WebAnswers
+pub mod WebLaws
+pub mod OfficeApi

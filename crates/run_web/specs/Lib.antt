@@ -1,4 +1,0 @@
-pub mod RanWeb
-pub mod WebAnswers
-pub mod WebLaws
-pub mod OfficeForms

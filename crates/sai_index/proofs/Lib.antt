@@ -1,4 +1,0 @@
-pub mod IncomeLaws
-pub mod IndexLaws
-pub mod NearestOrder
-pub mod ScheduleRises

@@ -1,5 +1,0 @@
-pub mod Fits
-pub mod Formulas
-pub mod Income
-pub mod Index
-pub mod Indices

@@ -1,2 +1,0 @@
-pub mod LinesLaws
-pub mod Sums

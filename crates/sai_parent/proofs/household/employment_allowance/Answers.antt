@@ -1,6 +1,0 @@
-use Rattle.std.proofs.Common.{arith}
-use Rattle.std.proofs.lemmas.Int.{ints, clamps}
-use Rattle.sai_parent.proofs.household.employment_allowance.Goals as goal
-
-pub returns-clause-in_range : goal.returns-clause-in_range
-returns-clause-in_range c = omega (arith, ints, clamps)

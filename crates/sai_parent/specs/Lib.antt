@@ -1,2 +1,0 @@
-pub mod Household
-pub mod Lines

@@ -1,0 +1,6 @@
+use Rattle.std.proofs.lemmas.Result.{on_ok_weaker}
+use Rattle.sheet_need.proofs.NeedPieces.{chained}
+use Rattle.sheet_need.proofs.sheet.put_alone.Goals as goal
+
+pub returns : goal.returns
+returns c = on_ok_weaker c.put_single.result (λ last. chained c.args.out.now.items _ _ c.put_text.new.out.items _ c.in_ok-put_text.ensures last) c.put_single.ensures

@@ -1,0 +1,14 @@
+use Rattle.std.proofs.lemmas.Result.{on_ok_weaker}
+use Rattle.sheet_r2t4.proofs.ReturnPieces.{chained}
+use Rattle.sheet_r2t4.proofs.sheet.put_title.Goals as goal
+
+pub returns : goal.returns
+returns c =
+    let t1 = chained c.args.out.now.items _ _ c.put_text.new.out.items c.put_student.new.out.items c.in_ok-put_text.ensures c.in_ok-put_student.ensures in
+    let t2 = chained c.args.out.now.items _ _ c.put_student.new.out.items c.put_text-2.new.out.items t1 c.in_ok-put_text-2.ensures in
+    let t3 = chained c.args.out.now.items _ _ c.put_text-2.new.out.items c.put_school.new.out.items t2 c.in_ok-put_school.ensures in
+    let t4 = chained c.args.out.now.items _ _ c.put_school.new.out.items c.put_text-3.new.out.items t3 c.in_ok-put_text-3.ensures in
+    let t5 = chained c.args.out.now.items _ _ c.put_text-3.new.out.items c.put_year.new.out.items t4 c.in_ok-put_year.ensures in
+    let t6 = chained c.args.out.now.items _ _ c.put_year.new.out.items c.put_text-4.new.out.items t5 c.in_ok-put_text-4.ensures in
+    let t7 = chained c.args.out.now.items _ _ c.put_text-4.new.out.items c.put_term.new.out.items t6 c.in_ok-put_term.ensures in
+    on_ok_weaker c.put_text-5.result (λ last. chained c.args.out.now.items _ _ c.put_term.new.out.items _ t7 last) c.put_text-5.ensures

@@ -1,5 +1,0 @@
-use Rattle.web_desk.proofs.EndLaws.{head_end-first, head_end-none}
-use Rattle.web_desk.proofs.laws.first_end.Goals as goal
-
-pub returns : goal.returns
-returns c = record { first = head_end-first; none = head_end-none }

@@ -1,5 +1,0 @@
-use Rattle.web_desk.proofs.Brought.{one_telling, one_brought}
-use Rattle.web_desk.proofs.laws.one_exchange.Goals as goal
-
-pub returns : goal.returns
-returns c = record { telling = one_telling; brought = one_brought }

@@ -1,5 +1,0 @@
-use Rattle.web_desk.proofs.OneExchange.{get_brings, post_brings}
-use Rattle.web_desk.proofs.laws.two_exchanges.Goals as goal
-
-pub returns : goal.returns
-returns c = record { get = get_brings; post = post_brings }

@@ -1,9 +1,0 @@
-pub mod Asks
-pub mod Calls
-pub mod Ends
-pub mod Exchange
-pub mod Found
-pub mod Heads
-pub mod NextRequests
-pub mod Responses
-pub mod Statuses

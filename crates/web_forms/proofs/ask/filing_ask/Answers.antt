@@ -1,5 +1,0 @@
-use Rattle.web_forms.proofs.BodyLemmas.{asked_filing}
-use Rattle.web_forms.proofs.ask.filing_ask.Goals as goal
-
-pub returns-in-Ok : goal.returns-in-Ok
-returns-in-Ok c = asked_filing c.args.school c.args.body.now c.in-Ok.filing c.in-Ok.ensures.filing

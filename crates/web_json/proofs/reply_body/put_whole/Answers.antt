@@ -1,0 +1,13 @@
+use Rattle.std.proofs.Common.{rules, ◌≡◌, ◌++◌, ◌<◌, ◌^◌, ap, ◌∙◌, w32, to_z, of_z, arith}
+use Rattle.std.specs.Int.Signed.{mag}
+use Rattle.std.specs.Prelude.{OnOk}
+use Rattle.aid_types.specs.Whole.{whole_text}
+use Rattle.aid_types.proofs.SignedText.{signed_decimal-whole_text}
+use Rattle.web_json.proofs.reply_body.put_whole.Goals as goal
+
+pub returns : goal.returns
+returns c =
+    let same : to_z w32 (of_z w32 c.args.number) ≡ c.args.number = search rules in
+    let size : mag c.args.number < 2 ^ 63 = omega (arith, c.ranges.number.sfits) in
+    let text : c.format.result.now ≡ whole_text c.args.number = (rw same at c.format.ensures.text) ∙ signed_decimal-whole_text c.args.number size in
+    rw (← c.in_ok-put_text.ensures, ← text) c.put_text-2.ensures

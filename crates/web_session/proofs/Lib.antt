@@ -1,0 +1,16 @@
+pub mod Handing
+pub mod PieceReads
+pub mod Sent
+pub mod Brought
+pub mod CallLemmas
+pub mod EndLaws
+pub mod EndWalk
+pub mod HeadLines
+pub mod Joined
+pub mod NextRequestLemmas
+pub mod OneExchange
+pub mod Reached
+pub mod PayloadBuffer
+pub mod RouteLemmas
+pub mod SessionLemmas
+pub mod Steps

@@ -1,0 +1,12 @@
+pub mod Ports
+pub mod Wires
+pub mod ConnectionState
+pub mod Asks
+pub mod Calls
+pub mod Ends
+pub mod Exchange
+pub mod Found
+pub mod Heads
+pub mod NextRequests
+pub mod Responses
+pub mod Statuses

@@ -1,0 +1,13 @@
+pub mod Telling
+pub mod Reached
+pub mod Connections
+pub mod Dealing
+pub mod Gathered
+pub mod AllPorts
+pub mod Rejections
+pub mod Closing
+pub mod AllStates
+pub mod Creating
+pub mod Parts
+pub mod Forgetting
+pub mod Stamped

@@ -1,0 +1,10 @@
+pub mod NewEntry
+pub mod Clerks
+pub mod Told
+pub mod Sessions
+pub mod Workers
+pub mod Closed
+pub mod AllTold
+pub use Rattle.log_machine.specs.Names
+pub use Rattle.log_machine.specs.Submits
+pub use Rattle.log_lock.specs.Passes

@@ -1,6 +1,0 @@
-pub mod AddsUp
-pub mod Changes
-pub mod Funds
-pub mod Register
-pub mod Rows
-pub mod Rules

@@ -1,7 +1,0 @@
-use Rattle.std.proofs.Common.{◌≡◌, drop}
-use Rattle.field_table.specs.Parts.{slots_of}
-use Rattle.year_books.specs.Ranges.{limit_named}
-use Rattle.year_books.proofs.ranges.limit_named.Given as goal
-
-abbrev pub invariant-loop-part : goal.invariant-loop-part
-invariant-loop-part l = limit_named l.name (slots_of l.parts) ≡ limit_named l.name (slots_of (drop l.part-index l.parts))

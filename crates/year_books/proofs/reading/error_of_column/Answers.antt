@@ -1,6 +1,0 @@
-use Rattle.std.proofs.Common.{rules}
-use Rattle.year_books.proofs.ReadingLemmas.{column_error}
-use Rattle.year_books.proofs.reading.error_of_column.Goals as goal
-
-pub returns : goal.returns
-returns c = rw (column_error c.args.field.now.number c.args.low c.args.high c.args.field.now.key.now c.args.rows.now) (search rules)

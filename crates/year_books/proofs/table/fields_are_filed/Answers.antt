@@ -1,7 +1,0 @@
-use Rattle.std.proofs.Common.{refl}
-use Rattle.year_books.specs.Ranges.{range_named}
-use Rattle.year_books.proofs.table.fields_are_filed.Goals as goal
-
-pub returns : goal.returns
-unfolding range_named
-returns c = (refl, refl)

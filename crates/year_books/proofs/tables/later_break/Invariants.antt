@@ -1,8 +1,0 @@
-use Rattle.std.proofs.Common.{◌≡◌, ◌+◌, drop}
-use Rattle.aid_books.specs.Marginal.{IsBracket}
-use Rattle.year_books.specs.Tables.{break_from, continues}
-use Rattle.year_books.proofs.tables.later_break.Given as goal
-
-abbrev pub invariant-loop-index : goal.invariant-loop-index
-invariant-loop-index l =
-    IsBracket l.row × (break_from continues 2 l.first l.rest ≡ break_from continues (l.index + 2) l.row (drop l.index l.rest))

@@ -1,6 +1,0 @@
-use Rattle.std.proofs.Common.{◌∙◌}
-use Rattle.year_books.proofs.UnknownLemmas.{is_key_by}
-use Rattle.year_books.proofs.unknown.has_key.Goals as goal
-
-pub returns : goal.returns
-returns c = c.is_key_of.ensures ∙ is_key_by c.args.is_form_2 c.fields_by_form.result.now c.args.section.now c.args.key.now c.fields_by_form.ensures
