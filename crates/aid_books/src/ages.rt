@@ -5,7 +5,7 @@ ghost use Rattle.aid_books.specs.Ages.{IsAgeRow, IsByAge};
 use std::marker::Model;
 
 /// A row: the age in years where it begins, and the asset protection allowance from there on in dollars (HEA 478(d)).
-#[derive(Clone, Copy, PartialEq, Eq, Debug)]
+#[derive(Clone, Copy, PartialEq, Eq)]
 pub struct AgeRow {
     pub start: i64,
     pub single: i64,
@@ -13,7 +13,7 @@ pub struct AgeRow {
 }
 
 /// A table of 1 to 64 such rows, each beginning at a greater age than the one before it. A contract sees the list.
-#[derive(PartialEq, Eq, Debug, Drop)]
+#[derive(PartialEq, Eq, Drop)]
 pub struct Ages {
     rows: [AgeRow; 64],
     count: usize,

@@ -9,7 +9,7 @@ use crate::marginal::Brackets;
 use aid_types::Year;
 
 /// The greatest and the least Scheduled Award, in dollars.
-#[derive(Clone, Copy, PartialEq, Eq, Debug)]
+#[derive(Clone, Copy, PartialEq, Eq)]
 pub struct PellFigures {
     pub maximum: i64,
     pub minimum: i64,
@@ -18,7 +18,7 @@ pub struct PellFigures {
 }
 
 /// The percents of the poverty guideline up to which a household has a Maximum or a Minimum award (HEA 401(b)).
-#[derive(Clone, Copy, PartialEq, Eq, Debug)]
+#[derive(Clone, Copy, PartialEq, Eq)]
 pub struct Percents {
     pub maximum_single: i64,
     pub maximum_other: i64,
@@ -33,7 +33,7 @@ pub struct Percents {
 }
 
 /// The poverty guidelines of the three regions.
-#[derive(Clone, Copy, PartialEq, Eq, Debug)]
+#[derive(Clone, Copy, PartialEq, Eq)]
 pub struct Poverty {
     pub contiguous: Guideline,
     pub alaska: Guideline,
@@ -41,7 +41,7 @@ pub struct Poverty {
 }
 
 /// The payroll tax allowance (HEA 478(g)): caps and thresholds in dollars, rates in ten-thousandths.
-#[derive(Clone, Copy, PartialEq, Eq, Debug)]
+#[derive(Clone, Copy, PartialEq, Eq)]
 pub struct Payroll {
     pub oasdi_cap: i64,
     pub oasdi_rate: i64,
@@ -54,7 +54,7 @@ pub struct Payroll {
 }
 
 /// The income protection allowances (HEA 478(b)).
-#[derive(Clone, Copy, PartialEq, Eq, Debug)]
+#[derive(Clone, Copy, PartialEq, Eq)]
 pub struct Protection {
     pub parents: Allowance,
     pub dependent_student: i64,
@@ -66,7 +66,7 @@ pub struct Protection {
 }
 
 /// The employment expense allowance (HEA 478(h)): the greatest in dollars, and its rate in ten-thousandths.
-#[derive(Clone, Copy, PartialEq, Eq, Debug)]
+#[derive(Clone, Copy, PartialEq, Eq)]
 pub struct Employment {
     pub cap: i64,
     pub rate: i64,
@@ -74,7 +74,7 @@ pub struct Employment {
 }
 
 /// The rates at which assets contribute, in ten-thousandths.
-#[derive(Clone, Copy, PartialEq, Eq, Debug)]
+#[derive(Clone, Copy, PartialEq, Eq)]
 pub struct AssetRates {
     pub parents_rate: i64,
     pub dependent_rate: i64,
@@ -85,7 +85,7 @@ pub struct AssetRates {
 
 /// The assessment schedule of adjusted available income (HEA 475(e)), beside its brackets: its least value `low`, which
 /// stands below `low_at`, the rate below the first bracket, and the student's rate and least contribution from income.
-#[derive(Clone, Copy, PartialEq, Eq, Debug)]
+#[derive(Clone, Copy, PartialEq, Eq)]
 pub struct Schedule {
     pub low_at: i64,
     pub low: i64,
@@ -97,7 +97,7 @@ pub struct Schedule {
 
 /// The figures and tables of one award year. Its ceiling is the percent of the Maximum award at which an index has none, or 0
 /// where the year has no ceiling.
-#[derive(PartialEq, Eq, Debug, Drop)]
+#[derive(PartialEq, Eq, Drop)]
 pub struct Book {
     pub year: Year,
     pub pell: PellFigures,

@@ -5,7 +5,7 @@ use crate::book::Book;
 use std::marker::Model;
 
 /// A book in a box.
-#[derive(Drop, Debug)]
+#[derive(Drop)]
 pub struct BoxedBook {
     book: Box<Book>,
 }

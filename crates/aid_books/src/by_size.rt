@@ -3,7 +3,7 @@ ghost use Rattle.std.specs.Prelude.{◌≡◌, ◌<◌, length};
 ghost use Rattle.aid_types.specs.Ranges.{EachIsAmount, IsAmount};
 
 /// Amounts in dollars by size of family: for `COUNT` sizes from `FIRST` on, and what each further member adds.
-#[derive(Clone, Copy, PartialEq, Eq, Debug)]
+#[derive(Clone, Copy, PartialEq, Eq)]
 pub struct BySize<const FIRST: u8, const COUNT: usize> {
     pub sizes: [i64; COUNT],
     pub extra: i64,

@@ -6,7 +6,7 @@ use std::marker::Model;
 
 /// A row of such a table: where it begins and its base there in dollars, and the rate of what is over it in
 /// ten-thousandths (HEA 475(e), 478(c)).
-#[derive(Clone, Copy, PartialEq, Eq, Debug)]
+#[derive(Clone, Copy, PartialEq, Eq)]
 pub struct Bracket {
     pub over: i64,
     pub base: i64,
@@ -15,7 +15,7 @@ pub struct Bracket {
 
 /// A table of 1 to 16 such rows, each beginning above the one before it with the value that that one has there. A
 /// contract sees the list.
-#[derive(PartialEq, Eq, Debug, Drop)]
+#[derive(PartialEq, Eq, Drop)]
 pub struct Brackets {
     rows: [Bracket; 16],
     count: usize,

@@ -6,7 +6,7 @@ use aid_books::BoxedBook;
 use aid_types::{Application, Breaks, ByProgram, Day, Key, Program, Student, Term, Year};
 
 /// A school with its main terms in a year, 2 or 3, and its full-time credits, 1 to 40. `code` is 1 to 999,999.
-#[derive(Clone, Copy, PartialEq, Eq, Debug)]
+#[derive(Clone, Copy, PartialEq, Eq)]
 pub struct SchoolFacts {
     pub code: u32,
     pub terms: u8,
@@ -16,7 +16,7 @@ pub struct SchoolFacts {
 
 /// One term of a year, as a school files it: its number in the year, 1 to 8, whether it is one beyond the main terms, its
 /// first and last day, and its breaks.
-#[derive(Clone, Copy, PartialEq, Eq, Debug)]
+#[derive(Clone, Copy, PartialEq, Eq)]
 pub struct CalendarFacts {
     pub year: Year,
     pub term: u8,
@@ -28,14 +28,14 @@ pub struct CalendarFacts {
 }
 
 /// A student's use of the lifetime limit before this office, in units of a thousandth of a percent.
-#[derive(Clone, Copy, PartialEq, Eq, Debug)]
+#[derive(Clone, Copy, PartialEq, Eq)]
 pub struct PriorFacts {
     pub student: Student,
     pub units: u32,
 }
 
 /// A student's credits in a term of the filing school. `term` is 1 to 8.
-#[derive(Clone, Copy, PartialEq, Eq, Debug)]
+#[derive(Clone, Copy, PartialEq, Eq)]
 pub struct EnrollFacts {
     pub student: Student,
     pub year: Year,
@@ -45,7 +45,7 @@ pub struct EnrollFacts {
 }
 
 /// A student's cost of attendance at the filing school in a year, 0 to 999,999 dollars (HEA 472).
-#[derive(Clone, Copy, PartialEq, Eq, Debug)]
+#[derive(Clone, Copy, PartialEq, Eq)]
 pub struct OriginateFacts {
     pub student: Student,
     pub year: Year,
@@ -55,7 +55,7 @@ pub struct OriginateFacts {
 
 /// An amount of a program in a term of the filing school: a payment, a grant repayment or a downward adjustment. `term`
 /// is 1 to 8, `cents` 0 to 99,999,999.
-#[derive(Clone, Copy, PartialEq, Eq, Debug)]
+#[derive(Clone, Copy, PartialEq, Eq)]
 pub struct Amount {
     pub student: Student,
     pub year: Year,
@@ -68,7 +68,7 @@ pub struct Amount {
 /// A student's withdrawal from a term of the filing school (34 CFR 668.22): the last day of attendance, the day on which
 /// the school determined it, the institutional charges and, by program in the order of returns, what could have been
 /// disbursed. `term` is 1 to 8, each amount 0 to 99,999,999 cents.
-#[derive(Clone, Copy, PartialEq, Eq, Debug)]
+#[derive(Clone, Copy, PartialEq, Eq)]
 pub struct WithdrawFacts {
     pub student: Student,
     pub year: Year,
@@ -82,7 +82,7 @@ pub struct WithdrawFacts {
 }
 
 /// What is filed, by kind.
-#[derive(Drop, PartialEq, Eq, Debug)]
+#[derive(Drop, PartialEq, Eq)]
 pub enum What {
     /// The tables of an award year.
     Book(BoxedBook),
@@ -104,7 +104,7 @@ pub enum What {
 }
 
 /// A filing: its key and what is filed.
-#[derive(Drop, PartialEq, Eq, Debug)]
+#[derive(Drop, PartialEq, Eq)]
 pub struct Filing {
     pub key: Key,
     pub what: What,

@@ -5,7 +5,7 @@ ghost use Rattle.aid_types.specs.Ranges.{IsBetween};
 use std::marker::Model;
 
 /// An award year, by the first of its two calendar years: 2000 to 2099.
-#[derive(Clone, Copy, PartialEq, Eq, Debug)]
+#[derive(Clone, Copy, PartialEq, Eq)]
 pub struct Year(pub u16);
 
 impl Model for Year {
@@ -39,7 +39,7 @@ impl Model for Student {
 }
 
 /// A school's code: 0, the office's own desk, to 999,999.
-#[derive(Clone, Copy, PartialEq, Eq, Debug)]
+#[derive(Clone, Copy, PartialEq, Eq)]
 pub struct School(pub u32);
 
 impl Model for School {
@@ -55,7 +55,7 @@ impl Model for School {
 }
 
 /// A program of aid under Title IV, in the order of returns (34 CFR 668.22(i)).
-#[derive(Clone, Copy, PartialEq, Eq, Debug)]
+#[derive(Clone, Copy, PartialEq, Eq)]
 pub enum Program {
     Unsub,
     Sub,
@@ -95,7 +95,7 @@ impl Program {
 }
 
 /// What names a filing: its school and a number that the school gives it, 1 to 999,999,999,999.
-#[derive(Clone, Copy, PartialEq, Eq, Debug)]
+#[derive(Clone, Copy, PartialEq, Eq)]
 pub struct Key {
     pub school: School,
     pub number: u64,

@@ -6,7 +6,7 @@ use crate::day::Day;
 use std::marker::Model;
 
 /// The breaks of a term, at most eight, each by its first and its last day. A contract sees the list.
-#[derive(Clone, Copy, PartialEq, Eq, Debug)]
+#[derive(Clone, Copy, PartialEq, Eq)]
 pub struct Breaks {
     days: [(Day, Day); 8],
     count: usize,
@@ -60,7 +60,7 @@ impl Breaks {
 }
 
 /// A term, as a school filed it: its number in the year, 1 to 8, and whether it is one beyond the main terms.
-#[derive(Clone, Copy, PartialEq, Eq, Debug)]
+#[derive(Clone, Copy, PartialEq, Eq)]
 pub struct Term {
     pub number: u8,
     pub extra: bool,

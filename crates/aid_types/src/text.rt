@@ -9,7 +9,7 @@ ghost use Rattle.aid_types.specs.Cents.{cents_text, fraction_of, cents_of, cents
 use std::alloc::AllocError;
 
 /// Why a text is no number that is asked for.
-#[derive(Clone, Copy, PartialEq, Eq, Debug)]
+#[derive(Clone, Copy, PartialEq, Eq)]
 pub enum Malformed {
     /// The text is no number's spelling.
     Spelling,

@@ -3,7 +3,7 @@ ghost use Rattle.std.specs.Prelude.{◌≡◌, map, string_bytes};
 ghost use Rattle.audit.specs.Words.{command_in, command_of as command_of_word};
 
 /// What a run is to answer.
-#[derive(Clone, Copy, PartialEq, Eq, Debug)]
+#[derive(Clone, Copy, PartialEq, Eq)]
 pub enum AuditCommand {
     /// Whether a text is the export of a legal history.
     Audit,

@@ -10,7 +10,7 @@ use csv::ByteRecord;
 use format_rows::{Cause, RowError};
 
 /// The number that a field spells, or why it spells none, and the range that it has to be in.
-#[derive(Clone, Copy, Debug)]
+#[derive(Clone, Copy)]
 pub struct Field {
     pub number: Result<i64, Malformed>,
     pub least: i64,

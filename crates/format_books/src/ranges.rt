@@ -8,7 +8,7 @@ use format_kinds::{Kind, table_row};
 use format_table::{Field, Limit, Part};
 
 /// The greatest number of a field.
-#[derive(Clone, Copy, Debug)]
+#[derive(Clone, Copy)]
 pub enum Highest {
     /// This one.
     Number(i64),
@@ -17,7 +17,7 @@ pub enum Highest {
 }
 
 /// The least and the greatest number of a field.
-#[derive(Clone, Copy, Debug)]
+#[derive(Clone, Copy)]
 pub struct Bounds {
     pub low: i64,
     pub high: Highest,

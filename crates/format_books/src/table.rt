@@ -5,7 +5,7 @@ ghost use Rattle.format_books.specs.Filed.{AreFiled};
 ghost use Rattle.format_books.specs.Reading.{fields_in_form};
 
 /// What stands at a field.
-#[derive(Clone, Copy, Debug)]
+#[derive(Clone, Copy)]
 pub enum Holds {
     /// An integer.
     Integer,
@@ -18,7 +18,7 @@ pub enum Holds {
 }
 
 /// A field: its number, where it stands, and what stands there.
-#[derive(Clone, Copy, Debug)]
+#[derive(Clone, Copy)]
 pub struct BookField {
     /// 1 to 56.
     pub number: u16,

@@ -11,7 +11,7 @@ use crate::parts::{
 use format_table::Part;
 
 /// A kind of filing.
-#[derive(Clone, Copy, PartialEq, Eq, Debug)]
+#[derive(Clone, Copy, PartialEq, Eq)]
 pub enum Kind {
     Book,
     School,
@@ -27,7 +27,7 @@ pub enum Kind {
 }
 
 /// A kind with the number that stands for it in bytes, its name in rows and bodies, and its fields behind those of the key.
-#[derive(Clone, Copy, Debug)]
+#[derive(Clone, Copy)]
 pub struct KindRow {
     pub kind: Kind,
     pub code: u8,

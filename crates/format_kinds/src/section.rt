@@ -4,7 +4,7 @@ ghost use Rattle.std.specs.Prelude.{◌≡◌, ◌≤◌, ◌++◌, length};
 use std::marker::Model;
 
 /// The numbers that are still to be read. A contract sees the list.
-#[derive(Debug, Drop)]
+#[derive(Drop)]
 pub struct Section<'n> {
     left: &'n [i64],
 }

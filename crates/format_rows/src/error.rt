@@ -2,7 +2,7 @@
 ghost use Rattle.std.specs.Prelude.{◌≡◌};
 
 /// What is wrong with a row.
-#[derive(Clone, Copy, PartialEq, Eq, Debug)]
+#[derive(Clone, Copy, PartialEq, Eq)]
 pub enum Cause {
     /// The first field names no kind that has rows.
     UnknownKind,
@@ -32,7 +32,7 @@ impl Cause {
 
 /// Why a row is none of its form. `row` and `field` count from 1, the kind being field 1, and `field` is 0 for a wrong number
 /// of fields.
-#[derive(Clone, Copy, PartialEq, Eq, Debug)]
+#[derive(Clone, Copy, PartialEq, Eq)]
 pub struct RowError {
     pub row: u32,
     pub field: u16,

@@ -40,7 +40,7 @@ impl<M: RowReader> Model for TextRows<M> {
 }
 
 /// Why a row was not read.
-#[derive(Clone, Copy, PartialEq, Eq, Debug)]
+#[derive(Clone, Copy, PartialEq, Eq)]
 enum Fault {
     /// Memory ran out, or the reader underneath failed, which one over a vector does not do.
     Stopped,

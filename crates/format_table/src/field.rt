@@ -3,7 +3,7 @@ ghost use Rattle.std.specs.Prelude.{◌≡◌};
 ghost use Rattle.format_table.specs.Parts.{width_of};
 
 /// How a field's number is written in a row and a body, and kept in bytes.
-#[derive(Clone, Copy, PartialEq, Eq, Debug)]
+#[derive(Clone, Copy, PartialEq, Eq)]
 pub enum Form {
     /// A whole number, kept in 1, 2, 4 or 8 bytes without sign.
     U8,
@@ -39,7 +39,7 @@ impl Form {
 }
 
 /// What a field's number may be, after the numbers before it in the filing.
-#[derive(Clone, Copy, PartialEq, Eq, Debug)]
+#[derive(Clone, Copy, PartialEq, Eq)]
 pub enum Limit {
     /// From the first number to the second.
     Between(i64, i64),
@@ -54,7 +54,7 @@ pub enum Limit {
 }
 
 /// A field: its name, which is its key in a body, how its number is written and kept, and what the number may be.
-#[derive(Clone, Copy, Debug)]
+#[derive(Clone, Copy)]
 pub struct Field {
     pub name: &'static str,
     pub form: Form,
@@ -64,7 +64,7 @@ pub struct Field {
 /// A field with the rows that it counts, where its number is a count: the fields of the first row, and those of each later
 /// one. A field that counts nothing has no fields in either. The last `ends` fields of the kind stand only where the number is
 /// above 1; most fields have none.
-#[derive(Clone, Copy, Debug)]
+#[derive(Clone, Copy)]
 pub struct Part {
     pub field: Field,
     pub first: &'static [Field],

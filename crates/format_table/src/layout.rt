@@ -9,7 +9,7 @@ use std::marker::Model;
 
 // The fields of the rows that are still to come: the rest of the row at hand, and so many more rows. Where the row at
 // hand is at its end, no more come.
-#[derive(Drop, Debug)]
+#[derive(Drop)]
 struct CountedRows {
     row: &'static [Field],
     left: u64,
@@ -90,7 +90,7 @@ fn left_behind(part: &Part, rest: &'static [Part], number: i64) -> &'static [Par
 }
 
 /// The fields of the numbers that are still to come in a filing. A contract sees them as a list.
-#[derive(Drop, Debug)]
+#[derive(Drop)]
 pub struct Layout {
     rows: CountedRows,
     // The parts behind them: those of the key, which leave all that is behind them, and those of the kind.

@@ -8,7 +8,7 @@ use crate::field::Part;
 use crate::numbers::Numbers;
 
 /// A kind of a table: the number that stands for it in bytes, its name in rows, and its fields behind those of the key.
-#[derive(Clone, Copy, Debug)]
+#[derive(Clone, Copy)]
 pub struct TableRow {
     pub code: u8,
     pub name: &'static str,

@@ -2,7 +2,7 @@
 ghost use Rattle.std.specs.Prelude.{◌≡◌};
 
 /// A call that a disk in memory had.
-#[derive(Debug, Drop)]
+#[derive(Drop)]
 pub(crate) enum DiskCall {
     /// The length was asked for.
     Len,

@@ -3,7 +3,7 @@ ghost use Rattle.std.specs.Prelude.{◌≡◌, Some, None};
 ghost use Rattle.io_traits.specs.Turns.{turn_of};
 
 /// What the range of a stopped write, or the part that a stopped cut cuts off, holds afterwards.
-#[derive(Clone, Copy, Debug, PartialEq, Eq)]
+#[derive(Clone, Copy, PartialEq, Eq)]
 pub enum Fill {
     /// What stood there.
     Unwritten,
@@ -14,7 +14,7 @@ pub enum Fill {
 }
 
 /// The call at which a disk stops for good, counted from 1. From it on each call answers `Failed`.
-#[derive(Clone, Copy, Debug, PartialEq, Eq)]
+#[derive(Clone, Copy, PartialEq, Eq)]
 pub struct DiskStop {
     /// The number of the call.
     pub call: u64,
@@ -23,7 +23,7 @@ pub struct DiskStop {
 }
 
 /// What becomes of a call.
-#[derive(Clone, Copy, Debug, PartialEq, Eq)]
+#[derive(Clone, Copy, PartialEq, Eq)]
 pub(crate) enum Turn {
     /// It does its work.
     Works,

@@ -4,7 +4,7 @@ ghost use Rattle.law_funds.specs.Answers.{IsAsked};
 use aid_types::Student;
 
 /// A student with need: the Student Aid Index, the need in whole dollars, and the enrollment intensity in percent.
-#[derive(Clone, Copy, PartialEq, Eq, Debug)]
+#[derive(Clone, Copy, PartialEq, Eq)]
 pub struct Candidate {
     pub student: Student,
     pub sai: i32,

@@ -8,7 +8,7 @@ use crate::policy::{Policy, Rule};
 use std::alloc::{AllocError, Global};
 
 /// What a round awards each candidate, in the order of the candidates, and what is left of the fund, in whole dollars.
-#[derive(Drop, Debug)]
+#[derive(Drop)]
 pub struct Awarded {
     pub awards: Vec<u32>,
     pub left: u32,

@@ -46,7 +46,7 @@ pub struct Decision {
 
 /// An index at or above the year's ceiling, and the least index there: the ceiling is why there is no award. Both are 0 where it
 /// isn't.
-#[derive(Clone, Copy, PartialEq, Eq, Debug)]
+#[derive(Clone, Copy, PartialEq, Eq)]
 pub struct Ceiling {
     pub index: u32,
     pub bound: u32,

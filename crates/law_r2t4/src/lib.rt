@@ -11,7 +11,7 @@ use aid_types::{ByProgram, Program, nearest_whole};
 /// What a worksheet is worked out from: the days of the term that were completed and all its days, without breaks of
 /// at least five days; the institutional charges in cents; by program, in the order of returns, the net disbursed in
 /// the term and what else could have been, in cents.
-#[derive(Clone, Copy, PartialEq, Eq, Debug)]
+#[derive(Clone, Copy, PartialEq, Eq)]
 pub struct Inputs {
     pub completed: u32,
     pub total: u32,

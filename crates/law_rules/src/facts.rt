@@ -4,7 +4,7 @@ use aid_types::{ByProgram, Refusal, Term};
 /// What the rules read of the filings that stand. A position counts from 1, and is 0 where there is nothing; amounts are
 /// in cents, awards and costs in dollars, lifetime use in thousandths of a percent. 'The school' is that of the filing's
 /// key, and 'the term' is its term of the filing's year and number.
-#[derive(Clone, Copy, PartialEq, Eq, Debug)]
+#[derive(Clone, Copy, PartialEq, Eq)]
 pub struct Facts {
     /// The number of filings.
     pub filings: u32,

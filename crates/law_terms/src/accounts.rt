@@ -12,21 +12,21 @@ use crate::units::{MOST_UNITS, most_cents, use_of};
 use sorted_rows::Table;
 
 /// The Pell of a student in an award year: the net paid in cents, and the Scheduled Award in dollars.
-#[derive(Clone, Copy, PartialEq, Eq, Debug)]
+#[derive(Clone, Copy, PartialEq, Eq)]
 pub struct YearPell {
     pub net: u64,
     pub scheduled: u32,
 }
 
 /// A student's lifetime units: those used before this office, and all that are used.
-#[derive(Clone, Copy, PartialEq, Eq, Debug)]
+#[derive(Clone, Copy, PartialEq, Eq)]
 pub(crate) struct StudentUnits {
     pub(crate) prior: u32,
     pub(crate) used: u32,
 }
 
 /// What names a row of a student's year.
-#[derive(Clone, Copy, PartialEq, Eq, PartialOrd, Ord, Debug)]
+#[derive(Clone, Copy, PartialEq, Eq, PartialOrd, Ord)]
 pub struct StudentYear {
     pub student: u64,
     pub year: u16,

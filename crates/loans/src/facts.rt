@@ -2,7 +2,7 @@
 use crate::filing::{BorrowerFacts, LimitFacts};
 
 /// The nets of a student in cents: subsidized and unsubsidized, in a year and in all years.
-#[derive(Clone, Copy, PartialEq, Eq, Debug)]
+#[derive(Clone, Copy, PartialEq, Eq)]
 pub struct LoanNets {
     pub sub: u64,
     pub unsub: u64,
@@ -12,7 +12,7 @@ pub struct LoanNets {
 
 /// What a filing is judged on: how many filings stand, and what is on file for its student and its year. A position is 0 where
 /// nothing stands.
-#[derive(Clone, Copy, Debug)]
+#[derive(Clone, Copy)]
 pub struct LoanFacts {
     pub count: u32,
     /// The limits of the year, and their position.
@@ -43,7 +43,7 @@ pub(crate) struct Tries {
 }
 
 /// With what a loan filing is admitted.
-#[derive(Clone, Copy, PartialEq, Eq, Debug)]
+#[derive(Clone, Copy, PartialEq, Eq)]
 pub enum LoanOutcome {
     Noted,
     /// The net of the loan's year, and that of all years with what was borrowed before, in cents.

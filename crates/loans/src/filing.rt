@@ -7,7 +7,7 @@ use aid_types::{Key, Program, Student, Year};
 
 /// The loan limits of an award year, in dollars, 0 to 999,999 each (HEA 455(a), 428(b), 428H(d); 34 CFR 685.203). Level 3 is the
 /// third year of study and above, level 4 is a graduate student.
-#[derive(Clone, Copy, Debug)]
+#[derive(Clone, Copy)]
 pub struct LimitFacts {
     pub year: Year,
     /// The annual limit of subsidized loans, at levels 1 to 4.
@@ -28,7 +28,7 @@ pub struct LimitFacts {
 
 /// A borrower's record in an award year: the number of the transaction that it rests on, 1 to 99, the level of study, 1 to 4,
 /// whether the student is independent, and the need and the cost of attendance, 0 to 999,999 dollars (HEA 471, 472, 480(d)).
-#[derive(Clone, Copy, Debug)]
+#[derive(Clone, Copy)]
 pub struct BorrowerFacts {
     pub student: Student,
     pub year: Year,
@@ -41,7 +41,7 @@ pub struct BorrowerFacts {
 }
 
 /// What a student borrowed before this office, subsidized and in all, 0 to 999,999 dollars each.
-#[derive(Clone, Copy, Debug)]
+#[derive(Clone, Copy)]
 pub struct BeforeFacts {
     pub student: Student,
     pub sub: u32,
@@ -51,7 +51,7 @@ pub struct BeforeFacts {
 
 /// A loan of a program, `Unsub` or `Sub`, to a student in an award year, or a part of one that is cancelled, 0 to 99,999,999
 /// cents.
-#[derive(Clone, Copy, Debug)]
+#[derive(Clone, Copy)]
 pub struct LoanAmount {
     pub student: Student,
     pub year: Year,
@@ -61,7 +61,7 @@ pub struct LoanAmount {
 }
 
 /// What is filed, by kind.
-#[derive(Clone, Copy, Debug)]
+#[derive(Clone, Copy)]
 pub enum LoanWhat {
     /// The limits of an award year.
     Limits(LimitFacts),
@@ -76,7 +76,7 @@ pub enum LoanWhat {
 }
 
 /// A filing: its key and what is filed.
-#[derive(Clone, Copy, Debug)]
+#[derive(Clone, Copy)]
 pub struct LoanFiling {
     pub key: Key,
     pub what: LoanWhat,

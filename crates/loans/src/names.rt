@@ -6,7 +6,7 @@ use crate::LoanWhat;
 use aid_types::Student;
 
 /// What names a student's year.
-#[derive(Clone, Copy, PartialEq, Eq, PartialOrd, Ord, Debug)]
+#[derive(Clone, Copy, PartialEq, Eq, PartialOrd, Ord)]
 pub struct StudentYear {
     pub student: u64,
     pub year: u16,

@@ -5,14 +5,14 @@ ghost use Rattle.loans.specs.Rows.{limits_or, student_or, year_or};
 use crate::{BeforeFacts, BorrowerFacts, LimitFacts};
 
 /// The nets of loans by program, in cents.
-#[derive(Clone, Copy, PartialEq, Eq, Debug)]
+#[derive(Clone, Copy, PartialEq, Eq)]
 pub struct ProgramNets {
     pub sub: u64,
     pub unsub: u64,
 }
 
 /// The limits of a year, those that were filed first, and their position; 0 where there are none.
-#[derive(Clone, Copy, Debug)]
+#[derive(Clone, Copy)]
 pub struct LimitsRow {
     pub at: u32,
     pub limits: Option<LimitFacts>,
@@ -20,7 +20,7 @@ pub struct LimitsRow {
 
 /// What stands of a student: the last record, of whatever year, what was borrowed before this office and its position, the
 /// position of the first loan, and the nets of all years. A position is 0 where nothing stands.
-#[derive(Clone, Copy, Debug)]
+#[derive(Clone, Copy)]
 pub struct StudentRow {
     pub last: Option<BorrowerFacts>,
     pub before_at: u32,
@@ -30,7 +30,7 @@ pub struct StudentRow {
 }
 
 /// What stands of a student's year: the record in force and the nets.
-#[derive(Clone, Copy, Debug)]
+#[derive(Clone, Copy)]
 pub struct YearRow {
     pub in_force: Option<BorrowerFacts>,
     pub nets: ProgramNets,

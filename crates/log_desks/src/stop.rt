@@ -1,7 +1,7 @@
 // How a desk ends.
 
 /// Why a desk ended before its rows were answered to the last.
-#[derive(Clone, Copy, Debug, PartialEq, Eq)]
+#[derive(Clone, Copy, PartialEq, Eq)]
 pub enum DeskStop {
     /// The disk refused a call. One entry may be undecided, which would stand at this position.
     DiskFault { undecided: Option<u32> },
@@ -10,7 +10,7 @@ pub enum DeskStop {
 }
 
 /// How far a desk is.
-#[derive(Clone, Copy, Debug, PartialEq, Eq)]
+#[derive(Clone, Copy, PartialEq, Eq)]
 pub enum DeskEnd {
     /// It hasn't begun.
     Open,

@@ -9,7 +9,7 @@ const MOST_BYTES: usize = 512;
 const MOST_ROWS: usize = 64;
 
 /// How far a row is that wasn't served yet.
-#[derive(Clone, Copy, Debug, PartialEq, Eq)]
+#[derive(Clone, Copy, PartialEq, Eq)]
 pub enum Stage {
     /// Its desk is about to draw a number for it.
     Drawing,

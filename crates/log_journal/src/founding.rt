@@ -13,7 +13,7 @@ use crate::{Header, Journal};
 use io_traits::{Disk, Failed, sync_kept, write_kept};
 
 /// Why no journal was founded.
-#[derive(Clone, Copy, Debug, PartialEq, Eq)]
+#[derive(Clone, Copy, PartialEq, Eq)]
 pub enum FoundError {
     /// This header stands there already, or the version that it names as the one before.
     Exists,

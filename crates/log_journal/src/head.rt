@@ -10,7 +10,7 @@ use crate::Header;
 use io_traits::{Disk, Failed};
 
 /// What the front of a file says.
-#[derive(Clone, Copy, Debug, PartialEq, Eq)]
+#[derive(Clone, Copy, PartialEq, Eq)]
 pub(crate) enum FileHead {
     /// Fewer than 17 bytes: nothing was founded.
     Short,

@@ -9,7 +9,7 @@ use crate::piece::Piece;
 use io_traits::{CAPACITY, Disk, Failed, PayloadBuffer};
 
 /// What a gate and the length behind it say.
-#[derive(Clone, Copy, Debug, PartialEq, Eq)]
+#[derive(Clone, Copy, PartialEq, Eq)]
 pub(crate) enum Start {
     /// A gate that isn't open.
     Shut,
@@ -20,7 +20,7 @@ pub(crate) enum Start {
 }
 
 /// What stands at a gate.
-#[derive(Clone, Copy, Debug, PartialEq, Eq)]
+#[derive(Clone, Copy, PartialEq, Eq)]
 pub(crate) enum Record {
     /// Nothing that counts.
     Closed,

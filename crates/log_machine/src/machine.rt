@@ -27,7 +27,7 @@ pub struct Decided<E, R, V> {
 }
 
 /// Why bytes give no entry.
-#[derive(Clone, Copy, Debug, PartialEq, Eq)]
+#[derive(Clone, Copy, PartialEq, Eq)]
 pub enum DecodeError {
     /// They are no entry's spelling.
     NotEntry,

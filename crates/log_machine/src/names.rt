@@ -1,7 +1,7 @@
 // Rows and the entries that they file.
 
 /// A row of a desk: the desk's number and the row's.
-#[derive(Clone, Copy, Drop, Debug, PartialEq, Eq)]
+#[derive(Clone, Copy, Drop, PartialEq, Eq)]
 pub struct RowName {
     pub desk: u32,
     pub row: u32,

@@ -1,7 +1,7 @@
 // What a turn replies.
 
 /// What a turn of a kept list replies.
-#[derive(Clone, Copy, Debug, PartialEq, Eq, Drop)]
+#[derive(Clone, Copy, PartialEq, Eq, Drop)]
 pub enum LogReply<V> {
     /// The ask was judged on a list of `front` entries. The entry that it adds, where it adds one, stands at `front + 1`.
     Answered { response: V, front: u32 },

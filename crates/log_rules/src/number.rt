@@ -6,7 +6,7 @@ use aid_types::Key;
 
 /// What names a filing in a table of rows: its number, and then its school. Numbers rise at each school, so a new name comes last or
 /// nearly so.
-#[derive(Clone, Copy, PartialEq, Eq, PartialOrd, Ord, Debug)]
+#[derive(Clone, Copy, PartialEq, Eq, PartialOrd, Ord)]
 pub struct FilingNumber {
     pub number: u64,
     pub school: u32,

@@ -2,7 +2,7 @@
 use aid_types::Refusal;
 
 /// How a filing is judged.
-#[derive(Clone, Copy, Debug, PartialEq, Eq, Drop)]
+#[derive(Clone, Copy, PartialEq, Eq, Drop)]
 pub enum RuleResponse<O> {
     /// It stands at this position, and was admitted with this outcome.
     Again { position: u32, outcome: O },
@@ -13,7 +13,7 @@ pub enum RuleResponse<O> {
 }
 
 /// What an office of rules replies. `front` is the number of filings that stood, `position` the place of a filing from 1.
-#[derive(Clone, Copy, Debug, PartialEq, Eq, Drop)]
+#[derive(Clone, Copy, PartialEq, Eq, Drop)]
 pub enum RuledReply<O> {
     /// The filing was admitted, and stands.
     Accepted {

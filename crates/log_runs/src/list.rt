@@ -17,7 +17,7 @@ use log_session::{file, found};
 use std::alloc::Global;
 
 /// What the words of a run over a list say.
-#[derive(Clone, Copy, PartialEq, Eq, Debug)]
+#[derive(Clone, Copy, PartialEq, Eq)]
 pub enum ListCommand {
     /// A list without entries is founded in the disk's file.
     Found,

@@ -10,7 +10,7 @@ use log_machine::FoundFault;
 use log_session::{CheckStop, CheckTally, FileStop, FoundStop, ReadStop, SessionStop};
 
 /// Why a run ends before its input is answered.
-#[derive(Clone, Copy, PartialEq, Eq, Debug)]
+#[derive(Clone, Copy, PartialEq, Eq)]
 pub enum RunStop {
     /// The words are no row of the program's.
     Usage,

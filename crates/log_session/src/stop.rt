@@ -38,7 +38,7 @@ pub enum SessionStop {
 }
 
 /// Why a founding ended early.
-#[derive(Clone, Copy, Debug, PartialEq, Eq)]
+#[derive(Clone, Copy, PartialEq, Eq)]
 pub enum FoundStop {
     /// No list was founded.
     Founding(FoundFault),

@@ -10,7 +10,7 @@ use crate::words::{are_counts, are_digits, cut, is_row, student_in, year_in};
 use aid_types::{Student, Year};
 
 /// What a line tells, whether or not that is so.
-#[derive(Clone, Copy, Debug)]
+#[derive(Clone, Copy)]
 pub enum LineForm<'a> {
     /// A filing, in digits of lower case.
     Filing(&'a [u8]),

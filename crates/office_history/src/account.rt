@@ -9,7 +9,7 @@ use aid_types::{ByProgram, Program};
 /// was taken back by returns, repayments and adjustments; what withdrawals left the student to repay and what was
 /// repaid; and what was paid after a withdrawal, of each program and of all. `post` is the post-withdrawal amount
 /// (34 CFR 668.22).
-#[derive(Clone, Copy, PartialEq, Eq, Debug)]
+#[derive(Clone, Copy, PartialEq, Eq)]
 pub struct Account {
     pub paid: ByProgram,
     pub taken: ByProgram,

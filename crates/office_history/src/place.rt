@@ -6,7 +6,7 @@ use aid_filings::{Amount, Filing, What};
 use aid_types::{School, Student, Year};
 
 /// A student's term at a school.
-#[derive(Clone, Copy, PartialEq, Eq, Debug)]
+#[derive(Clone, Copy, PartialEq, Eq)]
 pub struct Place {
     pub school: School,
     pub student: Student,

@@ -5,7 +5,7 @@ use aid_types::{ByProgram, Term};
 use law_pell::Ceiling;
 
 /// A school: its position, its main terms in a year and its full-time credits.
-#[derive(Clone, Copy, PartialEq, Eq, Debug)]
+#[derive(Clone, Copy, PartialEq, Eq)]
 pub struct SchoolRow {
     pub at: u32,
     pub terms: u8,
@@ -13,7 +13,7 @@ pub struct SchoolRow {
 }
 
 /// A school's term of a year and a number.
-#[derive(Clone, Copy, PartialEq, Eq, Debug)]
+#[derive(Clone, Copy, PartialEq, Eq)]
 pub struct TermRow {
     pub at: u32,
     pub term: Option<Term>,
@@ -21,7 +21,7 @@ pub struct TermRow {
 
 /// What a school's terms say of a term that is to be filed: the position of the term of its year and number, that of the
 /// earliest which shares a day with it, and how many main terms the school has in the year.
-#[derive(Clone, Copy, PartialEq, Eq, Debug)]
+#[derive(Clone, Copy, PartialEq, Eq)]
 pub struct CalendarRow {
     pub term_at: u32,
     pub overlap_at: u32,
@@ -30,7 +30,7 @@ pub struct CalendarRow {
 
 /// A student's term at a school: the credits in force, the position of the withdrawal and what could have been disbursed
 /// by it, and what moved.
-#[derive(Clone, Copy, PartialEq, Eq, Debug)]
+#[derive(Clone, Copy, PartialEq, Eq)]
 pub struct PlaceRow {
     pub credits: u8,
     pub withdrawn_at: u32,
@@ -40,7 +40,7 @@ pub struct PlaceRow {
 
 /// A student's year at all schools: the transaction and the position of the application in force with the Scheduled Award that
 /// it gives and the ceiling that decides on it, all 0 where there is none; the nets by program, and the net Pell of the main terms.
-#[derive(Clone, Copy, PartialEq, Eq, Debug)]
+#[derive(Clone, Copy, PartialEq, Eq)]
 pub struct YearRow {
     pub transaction: u32,
     pub application_at: u32,
@@ -51,7 +51,7 @@ pub struct YearRow {
 }
 
 /// A student's year at a school: the position of the cost of attendance, the cost, and the net of all programs.
-#[derive(Clone, Copy, PartialEq, Eq, Debug)]
+#[derive(Clone, Copy, PartialEq, Eq)]
 pub struct SchoolYearRow {
     pub cost_at: u32,
     pub cost: u32,
@@ -59,7 +59,7 @@ pub struct SchoolYearRow {
 }
 
 /// A student: the positions of the use before this office and of the first Pell payment, and the lifetime units used.
-#[derive(Clone, Copy, PartialEq, Eq, Debug)]
+#[derive(Clone, Copy, PartialEq, Eq)]
 pub struct StudentRow {
     pub prior_at: u32,
     pub pell_at: u32,

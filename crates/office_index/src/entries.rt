@@ -10,21 +10,21 @@ use office_history::{Account, PlaceRow, SchoolRow, SchoolYearRow, StudentRow, Ye
 
 /// What names a filing in the index: its number, and then its school. Numbers rise at each school, so a new name comes last or
 /// nearly so.
-#[derive(Clone, Copy, PartialEq, Eq, PartialOrd, Ord, Debug)]
+#[derive(Clone, Copy, PartialEq, Eq, PartialOrd, Ord)]
 pub struct FilingNumber {
     pub number: u64,
     pub school: u32,
 }
 
 /// A school with the position of its newest term, 0 where it has none.
-#[derive(Clone, Copy, PartialEq, Eq, Debug)]
+#[derive(Clone, Copy, PartialEq, Eq)]
 pub struct SchoolEntry {
     pub row: SchoolRow,
     pub newest: u32,
 }
 
 /// A student with the position of the newest enrollment that is the first in its term at the school, 0 where there is none.
-#[derive(Clone, Copy, PartialEq, Eq, Debug)]
+#[derive(Clone, Copy, PartialEq, Eq)]
 pub struct StudentEntry {
     pub row: StudentRow,
     pub newest: u32,

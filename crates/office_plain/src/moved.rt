@@ -20,7 +20,7 @@ use office_history::{Account, HistoryView, Place};
 
 /// The cells that a net is of: a student's program in a year at all schools, a student's Pell in the main terms of a
 /// year, and all programs of a student at a school in a year.
-#[derive(Clone, Copy, Debug)]
+#[derive(Clone, Copy)]
 pub enum Cells {
     InYear(Student, Year, Program),
     InMainTerms(Student, Year),

@@ -5,7 +5,7 @@ use aid_types::{School, Year};
 
 /// A round of a fund of Federal Supplemental Educational Opportunity Grants: the school, the award year, the term, 1 to 8, the
 /// fund in whole dollars, and the number of the first award's key, 1 to 999,999,000,000.
-#[derive(Clone, Copy, PartialEq, Eq, Debug)]
+#[derive(Clone, Copy, PartialEq, Eq)]
 pub struct RoundRequest {
     pub school: School,
     pub year: Year,

@@ -12,7 +12,7 @@ use office_index::Office;
 use std::alloc::{AllocError, Global};
 
 /// What a round files, and what it leaves of the fund in whole dollars.
-#[derive(Drop, Debug)]
+#[derive(Drop)]
 pub struct PlannedRound {
     pub filings: Vec<Filing>,
     pub left: u32,

@@ -27,7 +27,7 @@ use std::sync::ledger::Ledger;
 
 /// A term that holds more net Pell in cents than an award gives it: the code of its school, its number, its net Pell and its
 /// payment.
-#[derive(Clone, Copy, PartialEq, Eq, Debug)]
+#[derive(Clone, Copy, PartialEq, Eq)]
 pub struct Over {
     pub school: u32,
     pub term: u8,

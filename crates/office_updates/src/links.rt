@@ -10,7 +10,7 @@ use aid_filings::{Filing, What};
 
 /// The link of a filing. An enrollment's tells the slot of the row of its place, and the positions of its school and of its
 /// term. What isn't told is 0.
-#[derive(Clone, Copy, PartialEq, Eq, Debug)]
+#[derive(Clone, Copy, PartialEq, Eq)]
 pub struct EnrollmentLink {
     pub slot: u32,
     pub school_at: u32,

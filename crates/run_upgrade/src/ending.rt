@@ -10,7 +10,7 @@ use log_machine::FoundFault;
 use log_runs::{WRITE_FAILED, number_line, put};
 
 /// Why the source gives no list.
-#[derive(Clone, Copy, Debug, PartialEq, Eq)]
+#[derive(Clone, Copy, PartialEq, Eq)]
 pub enum SourceFault {
     /// There is no office in it.
     NoOffice,
@@ -27,7 +27,7 @@ pub enum SourceFault {
 }
 
 /// Why the copying stopped.
-#[derive(Clone, Copy, Debug, PartialEq, Eq)]
+#[derive(Clone, Copy, PartialEq, Eq)]
 pub enum CopyFault {
     /// The target's disk refused a call.
     DiskFault,
@@ -36,7 +36,7 @@ pub enum CopyFault {
 }
 
 /// How an upgrade ended, before its last line was written.
-#[derive(Clone, Copy, Debug, PartialEq, Eq)]
+#[derive(Clone, Copy, PartialEq, Eq)]
 pub enum UpgradeEnd {
     /// The source gave no list. The target had no call.
     Source(SourceFault),

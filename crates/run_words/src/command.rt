@@ -6,14 +6,14 @@ use aid_stamps::Stamp;
 use aid_types::{School, Student, Year};
 
 /// The number that the office's desk gives to a book that it files: 1 to 999,999,999,999.
-#[derive(Clone, Copy, PartialEq, Eq, Debug)]
+#[derive(Clone, Copy, PartialEq, Eq)]
 pub struct BookNumber {
     pub number: u64,
     pub ghost in_range: { IsBetween 1 999999999999 number },
 }
 
 /// The payment that is asked about: the term is 1 to 8.
-#[derive(Clone, Copy, PartialEq, Eq, Debug)]
+#[derive(Clone, Copy, PartialEq, Eq)]
 pub struct QuoteRequest {
     pub school: School,
     pub student: Student,
@@ -24,14 +24,14 @@ pub struct QuoteRequest {
 }
 
 /// The award year that a report is of.
-#[derive(Clone, Copy, PartialEq, Eq, Debug)]
+#[derive(Clone, Copy, PartialEq, Eq)]
 pub struct ReportYear {
     pub year: Year,
     pub ghost in_range: { IsBetween 2000 2099 year },
 }
 
 /// The report that is asked for.
-#[derive(Clone, Copy, PartialEq, Eq, Debug)]
+#[derive(Clone, Copy, PartialEq, Eq)]
 pub enum ReportRequest {
     /// `standing YEAR`: where each student with an application in the year stands.
     Standing(ReportYear),
@@ -48,7 +48,7 @@ pub enum ReportRequest {
 }
 
 /// The generated year that is asked for: so many students, 1 to 20,000, drawn from a seed.
-#[derive(Clone, Copy, PartialEq, Eq, Debug)]
+#[derive(Clone, Copy, PartialEq, Eq)]
 pub struct GenerateRequest {
     pub seed: u64,
     pub students: u16,
@@ -57,7 +57,7 @@ pub struct GenerateRequest {
 
 /// The award round that is asked for: the fund in whole dollars, the place of the policy among those that are known, and the
 /// number of the first award's key.
-#[derive(Clone, Copy, PartialEq, Eq, Debug)]
+#[derive(Clone, Copy, PartialEq, Eq)]
 pub struct FundRequest {
     pub school: School,
     pub year: Year,
@@ -70,7 +70,7 @@ pub struct FundRequest {
 }
 
 /// A command of the program, by its row of words.
-#[derive(Clone, Copy, PartialEq, Eq, Debug)]
+#[derive(Clone, Copy, PartialEq, Eq)]
 pub enum Command {
     /// `found`: to found an office in the file.
     Found,
@@ -94,14 +94,14 @@ pub enum Command {
 }
 
 /// A command, and the stamp in front of its row.
-#[derive(Clone, Copy, PartialEq, Eq, Debug)]
+#[derive(Clone, Copy, PartialEq, Eq)]
 pub struct StampedCommand {
     pub stamp: Stamp,
     pub command: Command,
 }
 
 /// The call of the program that a row of words needs, with the stamp in front of the row.
-#[derive(Clone, Copy, PartialEq, Eq, Debug)]
+#[derive(Clone, Copy, PartialEq, Eq)]
 pub enum MainRow {
     /// A run over one input, or over none.
     Run,

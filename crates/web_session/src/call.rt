@@ -10,7 +10,7 @@ use std::alloc::Global;
 use std::str;
 
 /// What a request calls for.
-#[derive(Clone, Copy, Debug, PartialEq, Eq)]
+#[derive(Clone, Copy, PartialEq, Eq)]
 pub enum ApiCall {
     /// `POST /desks/{school}/filings`: to file the filing of the body under a key of this school's.
     File {
@@ -43,7 +43,7 @@ impl ApiCall {
 }
 
 /// The three patterns of targets.
-#[derive(Clone, Copy, Debug, PartialEq, Eq)]
+#[derive(Clone, Copy, PartialEq, Eq)]
 pub enum Route {
     Filings,
     Quote,

@@ -16,7 +16,7 @@ use matchit::Router;
 
 /// What the head of a request says: what it calls for, or the status of the first check that it doesn't pass, how many
 /// bytes its body has, and whether the response to it is the connection's last.
-#[derive(Clone, Copy, Debug, PartialEq, Eq)]
+#[derive(Clone, Copy, PartialEq, Eq)]
 pub struct Head {
     pub call: Result<ApiCall, Status>,
     pub length: usize,

@@ -3,7 +3,7 @@ ghost use Rattle.std.specs.Prelude.{◌≡◌, ◌≤◌, length, drop, IfSome};
 ghost use Rattle.web_session.specs.Ends.{next_state, ends_at, end_from};
 
 /// Where the next byte lies in a request's head.
-#[derive(Clone, Copy, Debug, PartialEq, Eq)]
+#[derive(Clone, Copy, PartialEq, Eq)]
 pub enum HeadState {
     /// No byte has come yet that is neither CR nor LF.
     Before,

@@ -16,7 +16,7 @@ use crate::{Connection, Status};
 use matchit::Router;
 
 /// What the link brought of the next request.
-#[derive(Clone, Copy, Debug, PartialEq, Eq)]
+#[derive(Clone, Copy, PartialEq, Eq)]
 pub enum NextRequest {
     /// The input ended before the request did.
     More,

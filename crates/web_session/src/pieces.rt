@@ -14,7 +14,7 @@ const PIECE: usize = 4096;
 pub const HEAD_LIMIT: usize = 16_384;
 
 /// What the search for a head block found.
-#[derive(Clone, Copy, Debug, PartialEq, Eq)]
+#[derive(Clone, Copy, PartialEq, Eq)]
 pub enum Found {
     /// The head block has so many bytes.
     End(usize),

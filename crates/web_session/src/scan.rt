@@ -5,7 +5,7 @@ ghost use Rattle.web_session.specs.Ends.{head_end, IsScanned};
 use crate::head_state::HeadState;
 
 /// How far the bytes held were looked at: no head block ends in the first `count` of them.
-#[derive(Clone, Copy, Debug, PartialEq, Eq)]
+#[derive(Clone, Copy, PartialEq, Eq)]
 pub struct Scan {
     state: HeadState,
     count: usize,

@@ -1,7 +1,7 @@
 // How a worker behind a port ends.
 
 /// How far a worker behind a port is.
-#[derive(Clone, Copy, Debug, PartialEq, Eq)]
+#[derive(Clone, Copy, PartialEq, Eq)]
 pub enum WebEnd {
     /// It hasn't begun.
     Open,

@@ -10,7 +10,7 @@ use log_runs::ListCommand;
 use work_study::SchoolPolicies;
 
 /// What a round is asked for: the school, the award year, and the number of the first award's key, 1 to 999,999,000,000.
-#[derive(Clone, Copy, PartialEq, Eq, Debug)]
+#[derive(Clone, Copy, PartialEq, Eq)]
 pub struct RoundRequest {
     pub school: School,
     pub year: Year,

@@ -2,7 +2,7 @@
 
 /// What a filing is judged on: how many filings stand, and what is on file for its school, its award year and its student. A
 /// position is 0 where nothing stands.
-#[derive(Clone, Copy, Debug)]
+#[derive(Clone, Copy)]
 pub struct WorkFacts {
     pub count: u32,
     /// The school's fund of the year: its position, and its dollars.
@@ -18,7 +18,7 @@ pub struct WorkFacts {
 }
 
 /// With what a filing is admitted.
-#[derive(Clone, Copy, PartialEq, Eq, Debug)]
+#[derive(Clone, Copy, PartialEq, Eq)]
 pub enum WorkOutcome {
     Noted,
     /// What the student earned there in the year, with this, and what is left of the award in force, in cents.

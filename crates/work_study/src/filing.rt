@@ -4,7 +4,7 @@ ghost use Rattle.std.specs.Prelude.{◌≤◌};
 use aid_types::{Key, Student, Year};
 
 /// What a school may award of Federal Work-Study in an award year, 0 to 9,999,999 dollars (HEA 442; 34 CFR 675.4).
-#[derive(Clone, Copy, Debug)]
+#[derive(Clone, Copy)]
 pub struct FundFacts {
     pub year: Year,
     pub dollars: u32,
@@ -13,7 +13,7 @@ pub struct FundFacts {
 
 /// An award of the school to a student in an award year, or a part of one that is released, 0 to 9,999 dollars (34 CFR 675.9,
 /// 675.10).
-#[derive(Clone, Copy, Debug)]
+#[derive(Clone, Copy)]
 pub struct DollarFacts {
     pub student: Student,
     pub year: Year,
@@ -22,7 +22,7 @@ pub struct DollarFacts {
 }
 
 /// What a student worked at the school in an award year: 0 to 60,000 minutes at 0 to 100,000 cents an hour (34 CFR 675.24).
-#[derive(Clone, Copy, Debug)]
+#[derive(Clone, Copy)]
 pub struct EarnFacts {
     pub student: Student,
     pub year: Year,
@@ -32,7 +32,7 @@ pub struct EarnFacts {
 }
 
 /// What is filed, by kind. The school is the key's.
-#[derive(Clone, Copy, Debug)]
+#[derive(Clone, Copy)]
 pub enum WorkWhat {
     /// The fund of an award year.
     Fund(FundFacts),
@@ -45,7 +45,7 @@ pub enum WorkWhat {
 }
 
 /// A filing: its key and what is filed.
-#[derive(Clone, Copy, Debug)]
+#[derive(Clone, Copy)]
 pub struct WorkFiling {
     pub key: Key,
     pub what: WorkWhat,

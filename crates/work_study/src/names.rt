@@ -6,14 +6,14 @@ ghost use Rattle.work_study.specs.Rows.{award_name, fund_name};
 use crate::{WorkFiling, WorkWhat};
 
 /// What names a fund: its school and its award year.
-#[derive(Clone, Copy, PartialEq, Eq, PartialOrd, Ord, Debug)]
+#[derive(Clone, Copy, PartialEq, Eq, PartialOrd, Ord)]
 pub struct FundName {
     pub school: u32,
     pub year: u16,
 }
 
 /// What names an award: its student, its school and its award year.
-#[derive(Clone, Copy, PartialEq, Eq, PartialOrd, Ord, Debug)]
+#[derive(Clone, Copy, PartialEq, Eq, PartialOrd, Ord)]
 pub struct AwardName {
     pub student: u64,
     pub school: u32,

@@ -7,7 +7,7 @@ ghost use Rattle.work_study.specs.Rows.{AreSmallAwards, AreSmallFunds, award_or,
 use crate::{WorkWhat, earning};
 
 /// A school's fund of an award year: its position, 0 where there is none, its dollars, and the dollars of its awards in force.
-#[derive(Clone, Copy, Debug)]
+#[derive(Clone, Copy)]
 pub struct FundRow {
     pub at: u32,
     pub dollars: u32,
@@ -15,7 +15,7 @@ pub struct FundRow {
 }
 
 /// A student's award of a fund: its position, 0 where there is none, the dollars of the award in force, and the cents that are earned.
-#[derive(Clone, Copy, Debug)]
+#[derive(Clone, Copy)]
 pub struct AwardRow {
     pub at: u32,
     pub award: u32,
