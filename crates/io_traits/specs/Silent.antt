@@ -1,5 +1,5 @@
 -- A disk that tells nothing.
-use Rattle.std.proofs.Common.{◌≡◌, [], false, IsTrue}
+use Rattle.std.proofs.Common.{[], false, IsTrue}
 use Rattle.io_traits.specs.DiskState.{DiskState}
 
 -- what a disk tells that isn't honest; none of it means anything
