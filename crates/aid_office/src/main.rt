@@ -2,15 +2,15 @@
 #![tactic(auto)]
 
 use aid_stamps::Stamp;
-use io_traits::{
-    HostDisk, HostReader, HostWriter, NoSyncPoint, Sink, fill_streams, is_born, keep_in_folder,
-    open_input, open_journal, say, words_of,
+use io_host::{
+    HostAcceptor, HostDisk, HostReader, HostWriter, fill_streams, is_born, keep_in_folder,
+    open_input, open_journal, say, take, take_to_read, words_of,
 };
+use io_traits::{NoSyncPoint, Sink};
 use law_funds::{Rule, level, quarter, standard};
 use log_journal::OpenError;
 use log_runs::{RunStop, end};
 use log_session::ReadStop;
-use page_cache::{take, take_to_read};
 use run_office::{DeskInput, run, run_desks};
 use run_server::run_web;
 use run_upgrade::upgrade;
@@ -22,7 +22,6 @@ use std::net::{Ipv4Addr, Net, TcpListener, TcpStream};
 use std::process::ExitCode;
 use std::sync::Wait;
 use std::thread::Threads;
-use web_session::HostAcceptor;
 
 // How the program is used.
 const USAGE: &str = "\

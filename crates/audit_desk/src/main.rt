@@ -2,7 +2,7 @@
 #![tactic(auto)]
 
 use audit::run_audit;
-use io_traits::{HostReader, HostWriter, say, words_of};
+use io_host::{HostReader, HostWriter, say, words_of};
 use log_runs::{RunStop, end};
 use log_session::CheckStop;
 use std::io::ErrorKind;

@@ -1,6 +1,6 @@
 // Commands on the rows of a first day, on files and texts that are none, and what each fault leaves.
 use crate::runs::{assert_run, assert_runs};
-use io_traits::MemorySource;
+use io_memory::MemorySource;
 use log_session::INPUT_LIMIT;
 use specimen::BOOK_TEXT;
 use std::test::Fail;

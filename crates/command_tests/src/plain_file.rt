@@ -26,8 +26,7 @@ impl PlainFile {
 }
 
 impl Disk for PlainFile {
-    ghost use Rattle.io_traits.specs.Silent.{silent};
-    ghost use Rattle.io_traits.specs.Laws.{not_honest};
+    ghost use Rattle.io_traits.specs.Silent.{not_honest, silent};
 
     ghost tells = { λ _. silent };
 

@@ -1,6 +1,6 @@
 // Policies whose caller names them: a word that begins with a hyphen is in no row, though a policy has that name.
 use aid_types::Name;
-use io_traits::{MemoryDisk, MemorySink, SteadySource};
+use io_memory::{MemoryDisk, MemorySink, SteadySource};
 use law_funds::{Policies, Policy, Rule, level, quarter};
 use run_office::run;
 use std::alloc::{AllocError, Global};

@@ -1,7 +1,7 @@
 // The worked year of two schools: its rows, reports and rounds, and generated years.
 use crate::plain_file::PlainFile;
 use crate::runs::{assert_runs, with_book};
-use io_traits::SteadySource;
+use io_memory::SteadySource;
 use specimen::{BOOK_TEXT, NINE_LINES, NINE_ROWS, YEAR_LINES, YEAR_ROWS};
 use std::test::Fail;
 use whole_runs::{EMPTY, Run, disk, ran, ran_over};

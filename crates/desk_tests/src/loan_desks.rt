@@ -1,6 +1,6 @@
 // Two desks that lend to one student at once, in either order.
 use crate::loan_runs::office;
-use io_traits::{HoldSyncPoint, MemoryDisk, MemorySink, SteadySource};
+use io_memory::{HoldSyncPoint, MemoryDisk, MemorySink, SteadySource};
 use loans::Loans;
 use run_rules::{RuleDeskInput, run_ruled_desks};
 use std::alloc::{AllocError, Global};

@@ -1,5 +1,5 @@
 // Runs of the loan desk over a file in memory.
-use io_traits::{MemoryDisk, MemorySink, SteadySource};
+use io_memory::{MemoryDisk, MemorySink, SteadySource};
 use loans::Loans;
 use run_rules::run_ruled;
 use std::alloc::Global;

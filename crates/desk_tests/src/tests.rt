@@ -1,7 +1,7 @@
 // Marks are filed, kept and filed again.
 use crate::{Left, Mark, MarkList, MarkOffice, MarkReply, file_marks};
 use aid_types::Refusal;
-use io_traits::{MemoryDisk, MemorySink, SteadySource};
+use io_memory::{MemoryDisk, MemorySink, SteadySource};
 use log_machine::OpenError;
 use log_session::found;
 use std::alloc::Global;

@@ -1,6 +1,6 @@
 // Runs of the work-study desk over a file in memory.
 use aid_types::School;
-use io_traits::{MemoryDisk, MemorySink, SteadySource};
+use io_memory::{MemoryDisk, MemorySink, SteadySource};
 use law_funds::{Rule, level, quarter, standard};
 use std::alloc::Global;
 use std::process::Abort;

@@ -2,10 +2,8 @@
 // those whose lines can't be written.
 use crate::desk_runs::{assert_runs, with_book};
 use aid_stamps::Stamp;
-use io_traits::{
-    HoldSyncPoint, MemoryDisk, MemorySink, MemorySource, NoSyncPoint, Source, SteadySource,
-    SyncPoint, read_to_limit,
-};
+use io_memory::{HoldSyncPoint, MemoryDisk, MemorySink, MemorySource, SteadySource};
+use io_traits::{NoSyncPoint, Source, SyncPoint, read_to_limit};
 use log_session::INPUT_LIMIT;
 use run_office::{DeskInput, run_desks};
 use std::alloc::{AllocError, Global};

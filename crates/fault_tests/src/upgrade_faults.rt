@@ -4,7 +4,7 @@ ghost use Rattle.std.specs.Prelude.{◌≤◌};
 use crate::upgrade_files::{NEW, OLD};
 use crate::upgrade_runs::{Ran, disk, stopped, upgraded};
 use aid_stamps::Stamp;
-use io_traits::{DiskStop, Fill, MemoryDisk};
+use io_memory::{DiskStop, Fill, MemoryDisk};
 use office_log::{KeptOffice, OpenError};
 use std::alloc::Global;
 use std::process::Abort;

@@ -1,5 +1,5 @@
 // One upgrade over files in memory.
-use io_traits::{DiskStop, MemoryDisk, MemorySink};
+use io_memory::{DiskStop, MemoryDisk, MemorySink};
 use run_upgrade::upgrade;
 use std::alloc::Global;
 use std::test::Fail;

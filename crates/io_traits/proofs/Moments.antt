@@ -1,6 +1,6 @@
 -- How a run of calls goes on, and what a torn write leaves alone.
 use Rattle.std.proofs.Common.{◌≡◌, inl, inr, ⊎_elim, ℕ, zero, suc, List, [], ◌∷◌, length, take, refl, ◌∙◌, ap, arith, sym, subst}
-use Rattle.io_traits.specs.DiskState.{DiskState, Torn, Cut, Elapse, EachMoment, EachImage, IsQuiet, IsRead}
+use Rattle.io_traits.specs.DiskState.{DiskState, Torn, Cut, Elapse, EachMoment, EachImage, IsQuiet, IsRead, IsWrite, IsCut, IsSync}
 
 take-length-take : (n : ℕ) (s : List ℕ) → take (length (take n s)) s ≡ take n s
 take-length-take zero s = refl
@@ -74,3 +74,20 @@ each_after_read old new P each read c now = each c (read.images c now)
 -- while a disk is only looked at, what holds of each image does at each moment
 pub each_moment_of_read : (old new : DiskState) (P : List ℕ → Type 0) → ((c : List ℕ) → old.image_since old.moment c → old.image c) → EachImage old P → IsRead old new → EachMoment old new P
 each_moment_of_read old new P only each read = weaken old new old.image P each (read_moments old new only read)
+
+-- where nothing was done no time went by
+pub no_time : (told : DiskState) → Elapse told told
+no_time told = record { later = omega arith; no_other = λ t c le left. inl left; keeps = λ t c le left. left }
+
+-- a call of which nothing is left is a look, a write, a cut and a sync
+pub looked : (told : DiskState) → IsRead told told
+looked told = record { reads = refl; images = λ c now. now; keeps = λ c now. now; time = no_time told }
+
+pub unwritten : (at n : ℕ) (told : DiskState) → IsWrite at n told told
+unwritten at n told = record { images = λ c now. (c, now, torn_none at n c); time = no_time told }
+
+pub uncut : (len : ℕ) (told : DiskState) → IsCut len told told
+uncut len told = record { images = λ c now. (c, now, cut_none len c); time = no_time told }
+
+pub unsynced : (told : DiskState) → IsSync told told
+unsynced told = record { reads = refl; images = λ c now. now; time = no_time told }

@@ -1,10 +1,5 @@
 pub mod Faults
-pub mod Kept
 pub mod Moved
 pub mod Whole
-pub mod Calls
-pub mod Laws
-pub mod Memory
 pub mod Silent
 pub mod DiskState
-pub mod Turns

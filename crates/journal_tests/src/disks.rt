@@ -1,6 +1,8 @@
 //! What no clause says of disks: which calls fail, what a stop leaves, and that a real file is read and written.
 use crate::tools::{assert_same, disk};
-use io_traits::{Disk, DiskStop, Failed, Fill, HostDisk, MemoryDisk};
+use io_host::HostDisk;
+use io_memory::{DiskStop, Fill, MemoryDisk};
+use io_traits::{Disk, Failed};
 use std::alloc::AllocError;
 use std::fs::{self, OpenOptions};
 use std::process::Abort;

@@ -1,9 +1,8 @@
 //! What no clause says of edges: a read or a write that fails in mid-stream, and edges over slices.
 use crate::tools::assert_same;
-use io_traits::{
-    Failed, HostReader, HostWriter, MemorySink, MemorySource, ReadError, Sink, Source,
-    SteadySource, read_to_limit, write_whole,
-};
+use io_host::{HostReader, HostWriter};
+use io_memory::{MemorySink, MemorySource, SteadySource};
+use io_traits::{Failed, ReadError, Sink, Source, read_to_limit, write_whole};
 use std::alloc::{AllocError, Global};
 use std::process::Abort;
 

@@ -2,7 +2,8 @@
 ghost use Rattle.std.specs.Prelude.{◌≤◌};
 
 use crate::tools::{HEADER, assert_read, assert_same, disk, read};
-use io_traits::{Disk, DiskStop, Fill, PayloadBuffer};
+use io_memory::{DiskStop, Fill};
+use io_traits::{Disk, PayloadBuffer};
 use log_journal::{OpenError, PutError, found};
 use std::alloc::{AllocError, Global};
 use std::process::Abort;

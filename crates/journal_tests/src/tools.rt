@@ -1,5 +1,6 @@
 //! What the tests share: an assertion that is proved once for all types, a disk in memory, and how a journal is read.
-use io_traits::{Disk, DiskStop, MemoryDisk, PayloadBuffer};
+use io_memory::{DiskStop, MemoryDisk};
+use io_traits::{Disk, PayloadBuffer};
 use log_journal::{Header, OpenError, Opening, recover};
 use std::alloc::{AllocError, Global};
 use std::fmt::{Debug, Display};

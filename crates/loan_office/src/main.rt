@@ -1,7 +1,7 @@
 //! The program of a Direct Loan desk.
 #![tactic(auto)]
 
-use io_traits::HostWriter;
+use io_host::HostWriter;
 use loans::Loans;
 use run_rules::{Opened, close_program, open_program, run_ruled_words};
 use std::process::ExitCode;

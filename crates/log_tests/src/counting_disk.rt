@@ -36,8 +36,7 @@ impl CountingDisk {
 }
 
 impl Disk for CountingDisk {
-    ghost use Rattle.io_traits.specs.Silent.{silent};
-    ghost use Rattle.io_traits.specs.Laws.{not_honest};
+    ghost use Rattle.io_traits.specs.Silent.{not_honest, silent};
 
     ghost tells = { λ _. silent };
 

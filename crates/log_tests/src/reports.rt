@@ -1,6 +1,6 @@
 // What stands in a file of numbers.
 use crate::{AllNumbers, Rising};
-use io_traits::{MemoryDisk, MemorySink};
+use io_memory::{MemoryDisk, MemorySink};
 use log_session::write_report;
 use std::alloc::Global;
 

@@ -4,7 +4,7 @@ ghost use Rattle.std.specs.Prelude.{◌≡◌, None};
 
 use crate::reports::reported;
 use crate::{ByteRowFormat, BytesLeft, Rising};
-use io_traits::{DiskStop, Fill, MemoryDisk, MemorySink};
+use io_memory::{DiskStop, Fill, MemoryDisk, MemorySink};
 use log_machine::{Log, OpenError, RowFormat};
 use log_session::{FileStop, SessionStop, file_planned, open};
 use std::alloc::Global;

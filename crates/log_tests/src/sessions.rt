@@ -1,7 +1,7 @@
 // Numbers are filed, kept and filed again, or only looked at.
 use crate::reports::reported;
 use crate::{ByteRowFormat, Rising, file_numbers};
-use io_traits::{MemoryDisk, MemorySink, SteadySource};
+use io_memory::{MemoryDisk, MemorySink, SteadySource};
 use log_session::{CheckTally, check, found};
 use std::alloc::{AllocError, Global};
 use std::test::Fail;

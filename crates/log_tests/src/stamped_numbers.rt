@@ -3,7 +3,7 @@ use crate::Rising;
 use crate::stamped::{answer_number, is_added, stamp_of};
 use aid_stamps::{ClerkName, Stamp};
 use aid_types::Day;
-use io_traits::MemoryDisk;
+use io_memory::MemoryDisk;
 use log_machine::{Log, LogReply, StateMachine};
 use log_stamps::StampedMachine;
 use std::alloc::Global;

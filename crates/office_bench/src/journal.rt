@@ -3,7 +3,8 @@ ghost use Rattle.std.specs.Prelude.{◌≡◌, ◌+◌, ◌<◌, ◌^◌, OnOk};
 ghost use Rattle.log_journal.specs.Journal.{IsDecided, journal_count};
 ghost use Rattle.log_journal.specs.Opening.{HasEnded};
 
-use io_traits::{HostDisk, PayloadBuffer};
+use io_host::HostDisk;
+use io_traits::PayloadBuffer;
 use log_journal::{Header, Journal, OpenError, Opening, PutError, found, recover};
 use std::fs::OpenOptions;
 use std::io;

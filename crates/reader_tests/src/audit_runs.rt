@@ -1,6 +1,6 @@
 // Runs over a source and a sink in memory.
 use audit::run_audit;
-use io_traits::{MemorySink, MemorySource};
+use io_memory::{MemorySink, MemorySource};
 use std::alloc::Global;
 use std::process::Abort;
 use std::test::Fail;

@@ -1,5 +1,5 @@
 // The sheets of the worked year, and those of students under the other formulas.
-use io_traits::{MemoryDisk, MemorySink};
+use io_memory::{MemoryDisk, MemorySink};
 use run_sheets::run_sheets;
 use specimen::{BOOK_TEXT, YEAR_LINES, YEAR_ROWS};
 use std::alloc::Global;

@@ -1,11 +1,9 @@
 // The way from a program's words to a journal that is open, and to its status.
-use io_traits::{
-    HostDisk, Sink, fill_streams, is_born, keep_in_folder, open_journal, say, words_of,
-};
+use io_host::{HostDisk, fill_streams, is_born, keep_in_folder, open_journal, say, take, words_of};
+use io_traits::Sink;
 use log_journal::OpenError;
 use log_runs::{RunStop, end};
 use log_session::ReadStop;
-use page_cache::take;
 use std::fs::File;
 use std::io::ErrorKind;
 use std::process::ExitCode;

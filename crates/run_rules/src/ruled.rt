@@ -1,6 +1,7 @@
 // The program of a list under rules.
 use crate::{RuleDeskInput, run_ruled, run_ruled_desks};
-use io_traits::{HostDisk, HostReader, NoSyncPoint, Sink, open_input};
+use io_host::{HostDisk, HostReader, open_input};
+use io_traits::{NoSyncPoint, Sink};
 use log_desk_runs::MOST_DESKS;
 use log_rules::OutcomeText;
 use log_runs::{RunStop, end};

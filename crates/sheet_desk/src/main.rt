@@ -1,7 +1,7 @@
 //! The program of sheets: texts of an aid office's list that people read. It files nothing.
 #![tactic(auto)]
 
-use io_traits::HostWriter;
+use io_host::HostWriter;
 use run_rules::{Opened, close_program, open_program};
 use run_sheets::run_sheets;
 use std::process::ExitCode;

@@ -1,5 +1,3 @@
-pub mod Handing
-pub mod PieceReads
 pub mod Sent
 pub mod Brought
 pub mod CallLemmas

@@ -1,5 +1,4 @@
 pub mod Ports
-pub mod Wires
 pub mod ConnectionState
 pub mod Asks
 pub mod Calls

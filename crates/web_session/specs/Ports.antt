@@ -1,6 +1,5 @@
 -- What connections come from, and what becomes of them.
-use Rattle.std.specs.Prelude.{◌≡◌, ◌+◌, ℕ, Bool, true, false, List, [], ◌∷◌, ◌++◌, map, IsTrue}
-use Rattle.web_session.specs.Wires.{Wire, wire_faults}
+use Rattle.std.specs.Prelude.{◌≡◌, ◌+◌, ℕ, Bool, false, List, [], ◌∷◌, ◌++◌, IsTrue}
 use Rattle.web_session.specs.ConnectionState.{ConnectionState, IsHonest}
 
 -- a connection that was taken back: what was written on it, and its count of faults
@@ -39,25 +38,3 @@ pub record TakesBack (old new : AcceptorState) (link : Closed) : Type 0 where
 -- a port that tells nothing
 abbrev pub silent_port : AcceptorState
 silent_port = record { honest = false; coming = []; out = 0; closed = [] }
-
--- ---- a port in memory
--- the connections to come, the next one first, those that were taken back, the oldest first, and how many are out; the
--- numbers of the calls of `next` that fail, and how many calls and faults there were
-pub record Held : Type 0 where
-  pub waiting : List Wire
-  pub back : List Wire
-  pub out : ℕ
-  pub failing : List ℕ
-  pub calls : ℕ
-  pub faults : ℕ
-
--- nothing was written on the connection, and no call on it has failed
-pub record IsUnused (w : Wire) : Type 0 where
-  pub empty : w.tape.text ≡ []
-  pub no_faults : wire_faults w ≡ 0
-
-abbrev pub closed_of : Wire → Closed
-closed_of w = record { text = w.tape.text; faults = wire_faults w }
-
-abbrev pub held_tells : Held → AcceptorState
-held_tells p = record { honest = true; coming = map (λ (w : Wire). w.feed.left) p.waiting; out = p.out; closed = map closed_of p.back }

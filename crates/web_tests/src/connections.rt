@@ -5,7 +5,9 @@ ghost use Rattle.io_traits.specs.Faults.{Rose};
 
 use crate::runs::{assert_runs, with_book, with_school};
 use aid_stamps::Stamp;
-use io_traits::{Failed, MemoryDisk};
+use io_host::HostConnection;
+use io_memory::{MemoryConnection, MemoryDisk};
+use io_traits::Failed;
 use log_desks::SharedList;
 use log_lock::TicketLock;
 use log_machine::{Log, RowName};
@@ -20,7 +22,7 @@ use std::process::Abort;
 use std::sync::Wait;
 use std::test::Fail;
 use std::thread::join;
-use web_session::{Connection, End, HostConnection, MemoryConnection};
+use web_session::{Connection, End};
 use web_workers::serve_desk;
 use whole_runs::disk;
 

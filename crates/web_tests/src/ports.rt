@@ -1,20 +1,22 @@
 // What the web desk writes on connections in memory: a worked row, a port that fails, and two ports in either order; and the
 // stamps in the file.
 ghost use Rattle.std.specs.Prelude.{◌≡◌, ◌<◌, IfOk};
-ghost use Rattle.web_session.specs.Ports.{IsUnused};
+ghost use Rattle.io_memory.specs.Held.{IsUnused};
 
 use crate::connections::{AGAIN, CREATED, FILING};
 use crate::runs::with_school;
 use aid_stamps::{ClerkName, Stamp};
 use aid_types::Day;
-use io_traits::{HoldSyncPoint, MemoryDisk, MemorySink};
+use io_memory::{
+    HoldSyncPoint, MemoryAcceptor, MemoryConnection, MemoryDisk, MemorySink, PacedAcceptor,
+};
 use run_server::run_web;
 use std::alloc::{AllocError, Global};
 use std::process::Abort;
 use std::sync::Wait;
 use std::test::Fail;
 use std::thread::Threads;
-use web_session::{Acceptor, MemoryAcceptor, MemoryConnection, PacedAcceptor};
+use web_session::Acceptor;
 use whole_runs::{EMPTY, disk};
 
 // The filing of a student's earlier use under another number.

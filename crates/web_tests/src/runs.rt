@@ -1,5 +1,5 @@
 // Runs one after another over a file in memory.
-use io_traits::MemoryDisk;
+use io_memory::MemoryDisk;
 use specimen::BOOK_TEXT;
 use std::alloc::Global;
 use std::process::Abort;

@@ -1,8 +1,9 @@
 //! Runs of the program, each over a file in memory.
 ghost use Rattle.std.specs.Prelude.{◌≡◌, IfOk};
-ghost use Rattle.io_traits.specs.Memory.{memory_bytes, memory_lists};
+ghost use Rattle.io_memory.specs.Memory.{memory_bytes, memory_lists};
 
-use io_traits::{Disk, DiskStop, MemoryDisk, MemorySink, Source, SteadySource};
+use io_memory::{DiskStop, MemoryDisk, MemorySink, SteadySource};
+use io_traits::{Disk, Source};
 use law_funds::{Rule, level, quarter, standard};
 use run_office::run;
 use std::alloc::{AllocError, Global};

@@ -2,7 +2,8 @@
 #![tactic(auto)]
 
 use aid_types::School;
-use io_traits::{HostDisk, HostReader, HostWriter, Sink};
+use io_host::{HostDisk, HostReader, HostWriter};
+use io_traits::Sink;
 use law_funds::{Rule, level, quarter, standard};
 use log_runs::{RunStop, end};
 use log_session::ReadStop;

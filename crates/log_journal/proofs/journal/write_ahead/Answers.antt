@@ -1,5 +1,5 @@
 use Rattle.std.proofs.Common.{◌+◌, rules}
-use Rattle.io_traits.proofs.Pushed.{unwritten}
+use Rattle.io_traits.proofs.Moments.{unwritten}
 use Rattle.log_journal.proofs.Written.{nothing, none_written}
 use Rattle.log_journal.proofs.journal.write_ahead.Goals as goal
 

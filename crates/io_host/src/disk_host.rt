@@ -1,0 +1,111 @@
+// A real file. It tells nothing of what it holds.
+ghost use Rattle.std.specs.Prelude.{◌≡◌, ◌<◌, ◌≤◌, length, IfOk};
+ghost use Rattle.io_traits.specs.Faults.{Rose};
+ghost use Rattle.io_traits.specs.Silent.{not_honest, silent};
+
+use io_traits::{Disk, Failed};
+use std::fs::File;
+use std::io;
+use std::os::unix::fs::FileExt;
+
+/// An open file of the operating system, with a count of its faults.
+#[derive(Drop)]
+pub struct HostDisk {
+    file: File,
+    faults: u64,
+}
+
+// Reads until the buffer is full or the file ends.
+fn read_all(file: &File, at: u64, buf: &mut [u8]) -> io::Result<usize>
+    ensures { IfOk result (λ n. n ≤ length buf.old) }
+{
+    let mut done = 0;
+    while done < buf.len() {
+        let n = file.read_at(&mut buf[done..], at.saturating_add(done as u64))?;
+        if n == 0 {
+            break;
+        }
+        done += n;
+    }
+    Ok(done)
+}
+
+// Writes all the bytes.
+fn write_all(file: &File, at: u64, bytes: &[u8]) -> io::Result<()> {
+    let mut done = 0;
+    while done < bytes.len() {
+        let n = file.write_at(&bytes[done..], at.saturating_add(done as u64))?;
+        if n == 0 {
+            return Err(io::ErrorKind::WriteZero.into());
+        }
+        done += n;
+    }
+    Ok(())
+}
+
+impl HostDisk {
+    /// A disk over an open file.
+    pub fn new(file: File) -> HostDisk
+        ensures no_faults { ⟦<HostDisk as Disk>⟧.faults result ≡ 0 }
+    {
+        HostDisk { file, faults: 0 }
+    }
+
+    fn fault(&mut self) -> Failed
+        ensures rose { Rose self.old.faults self.new.faults }
+        ensures later { self.old.faults ≤ self.new.faults }
+    {
+        self.faults = self.faults.saturating_add(1);
+        Failed
+    }
+}
+
+impl Disk for HostDisk {
+    ghost tells = { λ _. silent };
+
+    ghost faults = { λ d. d.faults };
+
+    fn len(&mut self) -> Result<u64, Failed> {
+        match self.file.metadata() {
+            Ok(data) => Ok(data.len()),
+            Err(_) => Err(self.fault()),
+        }
+    }
+
+    fn read_at(&mut self, at: u64, buf: &mut [u8]) -> Result<usize, Failed> {
+        match read_all(&self.file, at, buf) {
+            Ok(n) => Ok(n),
+            Err(_) => Err(self.fault()),
+        }
+    }
+
+    fn write_at(&mut self, at: u64, bytes: &[u8]) -> Result<(), Failed> {
+        match write_all(&self.file, at, bytes) {
+            Ok(()) => Ok(()),
+            Err(_) => Err(self.fault()),
+        }
+    }
+
+    fn cut(&mut self, len: u64) -> Result<(), Failed> {
+        match self.file.set_len(len) {
+            Ok(()) => Ok(()),
+            Err(_) => Err(self.fault()),
+        }
+    }
+
+    // The bytes and the length are on the device then, which is all that a read needs; the times of the file may not be.
+    fn sync(&mut self) -> Result<(), Failed> {
+        match self.file.sync_data() {
+            Ok(()) => Ok(()),
+            Err(_) => Err(self.fault()),
+        }
+    }
+
+    ghost reads_as_image = { λ d honest. not_honest honest };
+
+    ghost bounded = { λ d honest. not_honest honest };
+
+    ghost counts_now = { λ d t c honest le now. not_honest honest };
+
+    ghost only_now = { λ d c honest since. not_honest honest };
+}

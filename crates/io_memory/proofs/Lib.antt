@@ -1,0 +1,3 @@
+pub mod Pushed
+pub mod PieceReads
+pub mod Handing
