@@ -8,4 +8,4 @@ pub use filing::{
     Amount, CalendarFacts, EnrollFacts, Filing, OriginateFacts, PriorFacts, SchoolFacts, What,
     WithdrawFacts,
 };
-pub use reply::{Operation, Outcome, Reply, Response, StandingRow};
+pub use reply::{Operation, Outcome, Response, StandingRow};

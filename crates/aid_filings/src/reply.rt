@@ -68,34 +68,3 @@ pub enum Response {
     Quoted(u64),
     Standing(StandingRow),
 }
-
-/// What the office answers. `front` is the number of filings that stood, `position` the place of a filing from 1.
-#[derive(Clone, Copy, PartialEq, Eq, Debug)]
-pub enum Reply {
-    Accepted {
-        position: u32,
-        front: u32,
-        outcome: Outcome,
-    },
-    Again {
-        position: u32,
-        front: u32,
-        outcome: Outcome,
-    },
-    Refused {
-        refusal: Refusal,
-        front: u32,
-    },
-    Quoted {
-        cents: u64,
-        front: u32,
-    },
-    Standing {
-        row: StandingRow,
-        front: u32,
-    },
-    DiskFault {
-        undecided: Option<u32>,
-    },
-    NoMemory,
-}

@@ -7,8 +7,6 @@ use Rattle.format_rows.specs.Lines.{refused_text}
 use Rattle.aid_types.specs.Words.{formula_text, way_text}
 use Rattle.aid_filings.specs.declared.reply.Outcome.{Outcome}
 use Rattle.aid_filings.specs.declared.reply.Outcome.TheVariants.{Noted, Indexed, Paid, Returned}
-use Rattle.aid_filings.specs.declared.reply.Reply.{Reply}
-use Rattle.aid_filings.specs.declared.reply.Reply.TheVariants as reply
 use Rattle.aid_filings.specs.declared.reply.Response.{Response}
 use Rattle.aid_filings.specs.declared.reply.Response.TheVariants.{Again, Refused, Admit, Quoted, Standing}
 
@@ -33,16 +31,6 @@ line_of row front (Again position outcome) = standing_text row front (codes " ag
 line_of row front (Refused refusal) = refused_text row front refusal
 line_of row front (Quoted cents) = []
 line_of row front (Standing place) = []
-
--- the line of a reply to a filing that was accepted, stood already or was refused; the other replies have none
-abbrev pub reply_line : ℕ → Reply → List ℕ
-reply_line row (reply.Accepted position front outcome) = standing_text row front (codes " accepted ") position outcome
-reply_line row (reply.Again position front outcome) = standing_text row front (codes " again ") position outcome
-reply_line row (reply.Refused refusal front) = refused_text row front refusal
-reply_line row (reply.Quoted cents front) = []
-reply_line row (reply.Standing place front) = []
-reply_line row (reply.DiskFault undecided) = []
-reply_line row reply.NoMemory = []
 
 -- quote DOLLARS, of cents that are whole dollars
 abbrev pub quote_line : ℕ → List ℕ

@@ -19,6 +19,6 @@ pub use form::{FilingForm, FilingSaid};
 pub use format_rows::{put_error, put_fine, put_tally};
 pub use laws::once;
 pub use line::put_book_error;
-pub use reply::{outcome_line, put_answer, put_line, put_quote};
+pub use reply::{outcome_line, put_answer, put_quote};
 pub use written_laws::{rows_are_words, rows_read_back};
 pub use written_row::put_row;

@@ -4,9 +4,9 @@ ghost use Rattle.arrayvec.specs.ArrayString.{array_string_len};
 ghost use Rattle.aid_types.specs.Cents.{cents_text};
 ghost use Rattle.aid_types.specs.Percents.{percent_text};
 ghost use Rattle.aid_types.specs.Whole.{whole_text};
-ghost use Rattle.format_filings.specs.Replies.{line_of, outcome_text, quote_line, reply_line, standing_text};
+ghost use Rattle.format_filings.specs.Replies.{line_of, outcome_text, quote_line, standing_text};
 
-use aid_filings::{Outcome, Reply, Response};
+use aid_filings::{Outcome, Response};
 use aid_types::{Formula, Way, formula_name, way_name};
 use arrayvec::ArrayString;
 use format_rows::{push_cents, push_count, push_number, refused_line};
@@ -26,18 +26,6 @@ pub fn put_answer(
     ensures room { vec_len out.old + 160 ≤ vec_capacity out.old → IsOk result }
 {
     let line = answer_text(row, front, response);
-    out.extend_from_slice(line.as_str().as_bytes())
-}
-
-/// Appends the line that answers a row, counted from 1, by the office's reply to its filing: one that was accepted, stood
-/// already or was refused. The other replies have no line, and append nothing. Where the vector has room for 160 more bytes
-/// no memory is taken.
-pub fn put_line(row: u32, reply: &Reply, out: &mut Vec<u8>) -> Result<(), AllocError>
-    ensures ok { OnOk result (out.new.items ≡ out.old.items ++ reply_line row reply.now) }
-    ensures err { OnErr result (out.new.items ≡ out.old.items) }
-    ensures room { vec_len out.old + 160 ≤ vec_capacity out.old → IsOk result }
-{
-    let line = reply_text(row, reply);
     out.extend_from_slice(line.as_str().as_bytes())
 }
 
@@ -77,27 +65,6 @@ fn answer_text(row: u32, front: u32, response: &Response) -> ArrayString<160>
         }
         Response::Refused(refusal) => refused_line(row, front, refusal),
         Response::Quoted(_) | Response::Standing(_) => ArrayString::new(),
-    }
-}
-
-// The line of a reply.
-fn reply_text(row: u32, reply: &Reply) -> ArrayString<160>
-    ensures { result.bytes ≡ reply_line row reply.now }
-{
-    match reply {
-        Reply::Accepted {
-            position,
-            front,
-            outcome,
-        } => standing_line(row, *front, " accepted ", u64::from(*position), outcome),
-        Reply::Again {
-            position,
-            front,
-            outcome,
-        } => standing_line(row, *front, " again ", u64::from(*position), outcome),
-        Reply::Refused { refusal, front } => refused_line(row, *front, refusal),
-        Reply::Quoted { .. } | Reply::Standing { .. } | Reply::DiskFault { .. } | Reply::NoMemory =>
-            ArrayString::new(),
     }
 }
 

@@ -42,9 +42,3 @@ use_needs scheduled units (suc n) pos le =
 -- they are just those
 pub cents_are : (scheduled units cents : ℕ) → 0 < scheduled → (cents ≤ cents_within scheduled units) ↔ (use_of cents scheduled ≤ units)
 cents_are scheduled units cents pos = (λ le. use_fits scheduled units cents pos le, λ le. use_needs scheduled units cents pos le)
-
--- more cents use no fewer units
-pub use_mono : (scheduled a b : ℕ) → 0 < scheduled → a ≤ b → use_of a scheduled ≤ use_of b scheduled
-use_mono scheduled a b pos le =
-    let within : b ≤ cents_within scheduled (use_of b scheduled) = use_needs scheduled (use_of b scheduled) b pos (omega arith) in
-    use_fits scheduled (use_of b scheduled) a pos (omega arith)

@@ -2,6 +2,4 @@ pub mod CivilDays
 pub mod DayText
 pub mod Days
 pub mod Terms
-pub mod Rows
-pub mod Totals
 pub mod Used

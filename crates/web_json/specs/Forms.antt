@@ -1,14 +1,12 @@
 -- What the office is asked by a request, where a body is read for a filing alone, and how its replies are told: by a status
 -- (RFC 9110, 15; RFC 4918, 11) and a JSON body. Own format.
-use Rattle.std.specs.Prelude.{ℕ, ◌+◌, ◌-◌, ◌^◌, min, List, Option, Some, option_map, option_and_then}
+use Rattle.std.specs.Prelude.{ℕ, List, codes, Option, Some, option_map, option_and_then}
 use Rattle.aid_filings.specs.declared.reply.Operation.{Operation}
 use Rattle.aid_filings.specs.declared.reply.Operation.TheVariants as operations
-use Rattle.aid_filings.specs.declared.reply.Reply.{Reply}
-use Rattle.aid_filings.specs.declared.reply.Reply.TheVariants.{Accepted, Again, Refused, Quoted, Standing, DiskFault, NoMemory}
 use Rattle.aid_filings.specs.declared.reply.Response.{Response}
 use Rattle.aid_filings.specs.declared.reply.Response.TheVariants as responses
 use Rattle.web_json.specs.Bodies.{filing_of_body}
-use Rattle.web_json.specs.Replies.{reply_body}
+use Rattle.web_json.specs.Replies.{answer_body, fault_body}
 use Rattle.log_machine.specs.declared.reply.LogReply.{LogReply}
 use Rattle.log_machine.specs.declared.reply.LogReply.TheVariants as replies
 use Rattle.web_session.specs.declared.call.ApiCall.{ApiCall}
@@ -25,26 +23,11 @@ ask_in (calls.Quote school student year term) body = Some (operations.Quote scho
 ask_in (calls.Standing student year) body = Some (operations.Standing student year)
 
 -- ---- replies
--- the place of what is admitted behind so many filings, up to the greatest number of 32 bits
-abbrev pub place_behind : ℕ → ℕ
-place_behind front = min (front + 1) (2 ^ 32 - 1)
-
--- the reply that a verdict is, on so many filings
-abbrev pub verdict_reply : Response → ℕ → Reply
-verdict_reply (responses.Admit outcome) front = Accepted (place_behind front) front outcome
-verdict_reply (responses.Again position outcome) front = Again position front outcome
-verdict_reply (responses.Refused refusal) front = Refused refusal front
-verdict_reply (responses.Quoted cents) front = Quoted cents front
-verdict_reply (responses.Standing row) front = Standing row front
-
-abbrev pub reply_for : LogReply Response → Reply
-reply_for (replies.Answered response front) = verdict_reply response front
-reply_for (replies.DiskFault undecided) = DiskFault undecided
-reply_for replies.NoMemory = NoMemory
-
--- the body that gives it
+-- the body that gives the reply of a turn
 abbrev pub text_for : LogReply Response → List ℕ
-text_for reply = reply_body (reply_for reply)
+text_for (replies.Answered response front) = answer_body response front
+text_for (replies.DiskFault undecided) = fault_body undecided
+text_for replies.NoMemory = codes "{\"answer\":\"no memory\"}"
 
 -- 201 for what is admitted, 200 for what stood already and for what was asked, 422 for what is refused
 abbrev pub answer_status : Response → Status

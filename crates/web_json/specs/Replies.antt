@@ -1,10 +1,10 @@
 -- The bodies of replies: compact JSON (RFC 8259), the keys in the order of their bytes. Own format.
-use Rattle.std.specs.Prelude.{ℕ, List, ◌++◌, codes, decimal, Option, Some, None}
+use Rattle.std.specs.Prelude.{ℕ, ◌+◌, List, ◌++◌, codes, decimal, Option, Some, None}
 use Rattle.aid_types.specs.Whole.{whole_text}
 use Rattle.aid_types.specs.declared.award.Refusal.{Refusal}
 use Rattle.aid_filings.specs.declared.reply.Outcome.{Outcome}
-use Rattle.aid_filings.specs.declared.reply.Reply.{Reply}
-use Rattle.aid_filings.specs.declared.reply.Reply.TheVariants.{Accepted, Again, Refused, Quoted, Standing, DiskFault, NoMemory}
+use Rattle.aid_filings.specs.declared.reply.Response.{Response}
+use Rattle.aid_filings.specs.declared.reply.Response.TheVariants.{Admit, Again, Refused, Quoted, Standing}
 use Rattle.aid_filings.specs.declared.reply.StandingRow.{StandingRow}
 use Rattle.aid_types.specs.Words.{formula_text, way_text}
 use Rattle.format_filings.specs.Replies.{outcome_text}
@@ -40,12 +40,10 @@ undecided_text (Some position) = decimal position
 abbrev pub fault_body : Option ℕ → List ℕ
 fault_body undecided = codes "{\"answer\":\"disk fault\",\"undecided\":" ++ undecided_text undecided ++ codes "}"
 
--- of each reply
-abbrev pub reply_body : Reply → List ℕ
-reply_body (Accepted position front outcome) = filed_body (codes "accepted") position front outcome
-reply_body (Again position front outcome) = filed_body (codes "again") position front outcome
-reply_body (Refused refusal front) = refused_body refusal front
-reply_body (Quoted cents front) = quoted_body cents front
-reply_body (Standing row front) = standing_body row front
-reply_body (DiskFault undecided) = fault_body undecided
-reply_body NoMemory = codes "{\"answer\":\"no memory\"}"
+-- of an answer, where so many filings stood before it; what is accepted stands behind them
+abbrev pub answer_body : Response → ℕ → List ℕ
+answer_body (Admit outcome) front = filed_body (codes "accepted") (front + 1) front outcome
+answer_body (Again position outcome) front = filed_body (codes "again") position front outcome
+answer_body (Refused refusal) front = refused_body refusal front
+answer_body (Quoted cents) front = quoted_body cents front
+answer_body (Standing row) front = standing_body row front

@@ -14,7 +14,7 @@ mod value;
 
 pub use error::BodyError;
 pub use filing::filing_of;
-pub use laws::{admitted, again, disk_faults, places};
+pub use laws::{admitted, again, disk_faults};
 pub use operation::ask_of;
-pub use reply::{status_of, text_of};
-pub use reply_body::body_of;
+pub use reply::status_of;
+pub use reply_body::text_of;

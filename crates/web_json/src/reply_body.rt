@@ -2,34 +2,41 @@
 ghost use Rattle.std.specs.Prelude.{◌≡◌, ◌++◌, IfOk, OnOk, codes, decimal};
 ghost use Rattle.aid_types.specs.Whole.{whole_text};
 ghost use Rattle.aid_types.specs.Words.{way_text};
-ghost use Rattle.web_json.specs.Replies.{fault_body as fault_text, filed_body as filed_text, quoted_body as quoted_text, refused_body as refused_text, reply_body, standing_body as standing_text, undecided_text};
+ghost use Rattle.web_json.specs.Forms.{text_for};
+ghost use Rattle.web_json.specs.Replies.{answer_body as answer_text, fault_body as fault_text, filed_body as filed_text, quoted_body as quoted_text, refused_body as refused_text, standing_body as standing_text, undecided_text};
 
-use aid_filings::{Outcome, Reply, StandingRow};
+use aid_filings::{Outcome, Response, StandingRow};
 use aid_types::{Refusal, formula_name, way_name};
 use format_filings::outcome_line;
 use itoa::Buffer;
+use log_machine::LogReply;
 use std::alloc::{AllocError, Global};
 
-/// The body of a reply. An `Err` is want of memory.
-pub fn body_of(alloc: Global, reply: &Reply) -> Result<Vec<u8>, AllocError>
-    ensures { IfOk result (λ body. body.items ≡ reply_body reply.now) }
+/// The body that gives the reply of a turn. An `Err` is want of memory.
+pub fn text_of(alloc: Global, reply: &LogReply<Response>) -> Result<Vec<u8>, AllocError>
+    ensures { IfOk result (λ text. text.items ≡ text_for reply.now) }
 {
     match reply {
-        Reply::Accepted {
-            position,
-            front,
-            outcome,
-        } => filed_body(alloc, "accepted", *position, *front, outcome),
-        Reply::Again {
-            position,
-            front,
-            outcome,
-        } => filed_body(alloc, "again", *position, *front, outcome),
-        Reply::Refused { refusal, front } => refused_body(alloc, refusal, *front),
-        Reply::Quoted { cents, front } => quoted_body(alloc, *cents, *front),
-        Reply::Standing { row, front } => standing_body(alloc, row, *front),
-        Reply::DiskFault { undecided } => fault_body(alloc, *undecided),
-        Reply::NoMemory => no_memory_body(alloc),
+        LogReply::Answered { response, front } => answer_body(alloc, response, *front),
+        LogReply::DiskFault { undecided } => fault_body(alloc, *undecided),
+        LogReply::NoMemory => no_memory_body(alloc),
+    }
+}
+
+// The body of an answer, where so many filings stood before it.
+fn answer_body(alloc: Global, response: &Response, front: u32) -> Result<Vec<u8>, AllocError>
+    ensures { IfOk result (λ body. body.items ≡ answer_text response.now front) }
+{
+    match response {
+        Response::Admit(outcome) => {
+            filed_body(alloc, "accepted", u64::from(front) + 1, front, outcome)
+        }
+        Response::Again { position, outcome } => {
+            filed_body(alloc, "again", u64::from(*position), front, outcome)
+        }
+        Response::Refused(refusal) => refused_body(alloc, refusal, front),
+        Response::Quoted(cents) => quoted_body(alloc, *cents, front),
+        Response::Standing(row) => standing_body(alloc, row, front),
     }
 }
 
@@ -45,7 +52,7 @@ fn no_memory_body(alloc: Global) -> Result<Vec<u8>, AllocError>
 fn filed_body(
     alloc: Global,
     answer: &str,
-    position: u32,
+    position: u64,
     front: u32,
     outcome: &Outcome,
 ) -> Result<Vec<u8>, AllocError>
@@ -57,7 +64,7 @@ fn filed_body(
     put_number("\",\"front\":", u64::from(front), &mut body)?;
     put_text(",\"outcome\":\"", &mut body)?;
     put_text(outcome_line(outcome).as_str(), &mut body)?;
-    put_number("\",\"position\":", u64::from(position), &mut body)?;
+    put_number("\",\"position\":", position, &mut body)?;
     put_text("}", &mut body)?;
     Ok(body)
 }
