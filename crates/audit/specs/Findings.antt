@@ -10,6 +10,7 @@ use Rattle.office_export.specs.Forms.{end_form, filing_form, form_of, standing_f
 use Rattle.office_export.specs.Lines.{end_line, filing_line, standing_line}
 use Rattle.audit.specs.declared.finding.Finding.{Finding}
 use Rattle.audit.specs.declared.finding.Finding.TheVariants.{Yes, No}
+use Rattle.aid_types.specs.Limits.{most_exported}
 
 -- a student and a year
 abbrev pub Asked : Type 0
@@ -35,7 +36,7 @@ pub record AreGood (lines : List (List ℕ)) (past : List Filing) (asked : List 
   pub whole : lines ≡ map filing_line (reverse past) ++ map (right_line past) asked ++ end_lines past asked ended
   pub filings : AllByRecursion IsFiling past
   pub legal : IsLegal past
-  pub few : length past ≤ 20000
+  pub few : length past ≤ most_exported
   pub standings : AllByRecursion IsAsked asked
   pub rise : AllPairs (λ s t. s.0 < t.0) asked
 
@@ -60,12 +61,12 @@ Rises asked student = AllByRecursion (λ before. before.0 < student) asked
 -- counts; 7 no end line.
 pub data IsBad (past : List Filing) (asked : List Asked) (ended : Bool) : List (List ℕ) → ℕ → Type 0 where
   stray : (line : List ℕ) (rest : List (List ℕ)) → IsStray asked ended line → IsBad past asked ended (line ∷ rest) 1
-  full : (line : List ℕ) (rest : List (List ℕ)) → IsInPlace asked ended line → length past ≡ 20000 → IsBad past asked ended (line ∷ rest) 8
-  unspelled : (line : List ℕ) (rest : List (List ℕ)) → IsInPlace asked ended line → length past < 20000 → ((f : Filing) → IsFiling f → line ≢ filing_line f)
+  full : (line : List ℕ) (rest : List (List ℕ)) → IsInPlace asked ended line → length past ≡ most_exported → IsBad past asked ended (line ∷ rest) 8
+  unspelled : (line : List ℕ) (rest : List (List ℕ)) → IsInPlace asked ended line → length past < most_exported → ((f : Filing) → IsFiling f → line ≢ filing_line f)
       → IsBad past asked ended (line ∷ rest) 2
-  used : (f : Filing) (rest : List (List ℕ)) → IsInPlace asked ended (filing_line f) → length past < 20000 → IsFiling f → key_at f.key past ≢ 0
+  used : (f : Filing) (rest : List (List ℕ)) → IsInPlace asked ended (filing_line f) → length past < most_exported → IsFiling f → key_at f.key past ≢ 0
       → IsBad past asked ended (filing_line f ∷ rest) 3
-  broken : (f : Filing) (refusal : Refusal) (rest : List (List ℕ)) → IsInPlace asked ended (filing_line f) → length past < 20000 → IsFiling f → key_at f.key past ≡ 0
+  broken : (f : Filing) (refusal : Refusal) (rest : List (List ℕ)) → IsInPlace asked ended (filing_line f) → length past < most_exported → IsFiling f → key_at f.key past ≡ 0
       → breaks past f ≡ Some refusal → IsBad past asked ended (filing_line f ∷ rest) 4
   wrong : (student year : ℕ) (line : List ℕ) (rest : List (List ℕ)) → ended ≡ false → form_of line ≡ Some (standing_form student year)
       → (line ≢ right_line past (student, year)) ⊎ (Rises asked student → ⊥) → IsBad past asked ended (line ∷ rest) 5

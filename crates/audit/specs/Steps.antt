@@ -8,6 +8,7 @@ use Rattle.office_export.specs.Forms.{end_form, form_of, standing_form}
 use Rattle.office_export.specs.Lines.{end_line, filing_line}
 use Rattle.audit.specs.Findings.{Asked, IsAsked, IsBad, Rises, right_line}
 use Rattle.audit.specs.declared.good_lines.GoodLines.{GoodLines}
+use Rattle.aid_types.specs.Limits.{most_exported}
 
 -- what good lines told: the filings, the students and years behind them, and whether the end line was there
 pub record Told : Type 0 where
@@ -20,7 +21,7 @@ nothing = record { past = []; asked = []; ended = false }
 
 -- a line behind good lines is good too, and what they tell with it
 pub data Goes (told : Told) (line : List ℕ) : Told → Type 0 where
-  filed : (f : Filing) → told.ended ≡ false → told.asked ≡ [] → length told.past < 20000 → IsFiling f → key_at f.key told.past ≡ 0 → breaks told.past f ≡ None
+  filed : (f : Filing) → told.ended ≡ false → told.asked ≡ [] → length told.past < most_exported → IsFiling f → key_at f.key told.past ≡ 0 → breaks told.past f ≡ None
       → line ≡ filing_line f → Goes told line (record { past = f ∷ told.past; asked = []; ended = false })
   stood : (asked : Asked) → told.ended ≡ false → form_of line ≡ Some (standing_form asked.0 asked.1) → IsAsked asked → Rises told.asked asked.0
       → line ≡ right_line told.past asked → Goes told line (record { past = told.past; asked = told.asked ++ asked ∷ []; ended = false })

@@ -12,6 +12,7 @@ use Rattle.law_rules.specs.declared.facts.Facts.{Facts}
 use Rattle.aid_types.specs.declared.line.RuleLine.{RuleLine}
 use Rattle.aid_types.specs.RuleLines.{over, stands, lacks, where_true, too_early, only, first_broken, told}
 use Rattle.law_rules.specs.Rules.{rule_90, rule_21, rule_23, rule_24, rule_53, rule_62, rule_91, limit_of}
+use Rattle.aid_types.specs.Limits.{fseog_limit, is_fseog, is_pell, most_units}
 
 -- the payment of this term in cents, at the credits in force
 abbrev pub payment_here : Facts → ℕ
@@ -28,10 +29,10 @@ abbrev pub past_year : ℕ → Facts → ℕ → RuleLine
 past_year rule f cents = over rule (f.pell_year + cents) (year_limit f)
 
 abbrev pub past_fseog : ℕ → Facts → ℕ → RuleLine
-past_fseog rule f cents = over rule (f.fseog_year + cents) 400000
+past_fseog rule f cents = over rule (f.fseog_year + cents) fseog_limit
 
 abbrev pub past_lifetime : ℕ → Facts → ℕ → RuleLine
-past_lifetime rule f cents = over rule (f.used_else + use_of (f.pell_year + cents) f.scheduled) 600000
+past_lifetime rule f cents = over rule (f.used_else + use_of (f.pell_year + cents) f.scheduled) most_units
 
 abbrev pub past_cost : ℕ → Facts → ℕ → RuleLine
 past_cost rule f cents = over rule (f.net_all + cents) (100 * f.cost)
@@ -60,16 +61,16 @@ abbrev pub rule_93 : Facts → List RuleLine
 rule_93 f =
     told f.term_over
     ++ (over 93 f.pell_main (100 * f.next_scheduled) ∷ over 93 f.pell_year (150 * f.next_scheduled)
-    ∷ over 93 (f.used_else + use_of f.pell_year f.next_scheduled) 600000 ∷ [])
+    ∷ over 93 (f.used_else + use_of f.pell_year f.next_scheduled) most_units ∷ [])
 
 -- what a payment of so many cents of a program by a school tries after where the student stands and the amount alone
 abbrev pub amount_lines : Facts → ℕ → ℕ → ℕ → List RuleLine
 amount_lines f school program cents =
-    let is_pell = program == 3 in
-    only is_pell (pell_lines f school)
+    let pell = is_pell program in
+    only pell (pell_lines f school)
     ++ (rule_52 f program cents
-    ++ (only is_pell (past_payment 54 f cents ∷ past_year 55 f cents ∷ past_lifetime 56 f cents ∷ [])
-    ++ (only (program == 4) (past_fseog 55 f cents ∷ []) ++ (past_cost 57 f cents ∷ []))))
+    ++ (only pell (past_payment 54 f cents ∷ past_year 55 f cents ∷ past_lifetime 56 f cents ∷ [])
+    ++ (only (is_fseog program) (past_fseog 55 f cents ∷ []) ++ (past_cost 57 f cents ∷ []))))
 
 -- what a payment and a withdrawal begin with: the school, the term, and the student there
 abbrev pub standing_lines : Facts → ℕ → ℕ → ℕ → ℕ → List RuleLine
@@ -81,7 +82,7 @@ standing_lines f school student year term =
 abbrev pub payment_lines : Facts → ℕ → ℕ → ℕ → ℕ → ℕ → ℕ → List RuleLine
 payment_lines f school student year term program cents =
     standing_lines f school student year term
-    ++ (lacks 51 f.credits student term ∷ rule_53 (program == 3) cents ∷ amount_lines f school program cents)
+    ++ (lacks 51 f.credits student term ∷ rule_53 (is_pell program) cents ∷ amount_lines f school program cents)
 
 -- the lines of a filing by a school, in the order of its kind
 abbrev pub lines_of : Facts → ℕ → What → List RuleLine
@@ -91,7 +92,7 @@ lines_of f school (Calendar c) =
     rule_90 f.filings ∷ lacks 12 f.school_at school 0 ∷ stands 20 f.term_at c.term ∷ rule_21 (term_of c)
     ++ (rule_23 (term_of c) ++ (stands 22 f.overlap_at c.term ∷ rule_24 (term_of c) f.main_terms f.terms))
 lines_of f school (Prior p) =
-    rule_90 f.filings ∷ over 14 school 0 ∷ over 81 p.units 600000 ∷ stands 80 f.prior_at p.student ∷ stands 82 f.pell_at p.student ∷ []
+    rule_90 f.filings ∷ over 14 school 0 ∷ over 81 p.units most_units ∷ stands 80 f.prior_at p.student ∷ stands 82 f.pell_at p.student ∷ []
 lines_of f school (Apply a) =
     rule_90 f.filings ∷ only (nat_lt 0 school) (lacks 12 f.school_at school 0 ∷ [])
     ++ (lacks 10 f.book_at a.year 0 ∷ told f.unfit ++ (rule_91 a.transaction f.transaction ∷ rule_93 f))

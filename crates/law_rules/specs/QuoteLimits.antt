@@ -3,11 +3,12 @@ use Rattle.std.specs.Prelude.{◌≡◌, ◌≤◌, ◌<◌, ◌↔◌, ◌+◌,
 use Rattle.law_terms.specs.Used.{use_of}
 use Rattle.law_rules.specs.declared.facts.Facts.{Facts}
 use Rattle.law_rules.specs.Lines.{payment_here, year_limit}
+use Rattle.aid_types.specs.Limits.{most_filings, most_units}
 
 -- What a Pell payment of any amount asks: room in the office; the school, the term, an application and an origination on
 -- file; a student who is enrolled, whose index is below the ceiling, and who is awarded Pell; no Pell paid for a term of another school that shares a day.
 pub record MayBePaid (f : Facts) : Type 0 where
-  pub room : f.filings < 1000000
+  pub room : f.filings < most_filings
   pub school : 0 < f.school_at
   pub term : 0 < f.term_at
   pub application : 0 < f.transaction
@@ -21,7 +22,7 @@ pub record MayBePaid (f : Facts) : Type 0 where
 pub record IsWithinLimits (f : Facts) (cents : ℕ) : Type 0 where
   pub payment : f.pell_term + cents ≤ payment_here f
   pub year : f.pell_year + cents ≤ year_limit f
-  pub lifetime : f.used_else + use_of (f.pell_year + cents) f.scheduled ≤ 600000
+  pub lifetime : f.used_else + use_of (f.pell_year + cents) f.scheduled ≤ most_units
   pub cost : f.net_all + cents ≤ 100 * f.cost
 
 -- so many cents of Pell after a withdrawal stay within what could have been disbursed of it, and within the post-withdrawal

@@ -4,10 +4,11 @@ use Rattle.std.specs.Prelude.{ℕ, ◌+◌, ◌*◌, ◌%◌, ◌==◌, ◌&&◌
 use Rattle.aid_types.specs.declared.term.Term.{Term}
 use Rattle.aid_types.specs.RuleLines.{only, over, too_early, where_true}
 use Rattle.aid_types.specs.declared.line.RuleLine.{RuleLine}
+use Rattle.aid_types.specs.Limits.{most_filings}
 
 -- 90: the office is full
 abbrev pub rule_90 : ℕ → RuleLine
-rule_90 filings = where_true 90 (nat_le 1000000 filings) 1000000 1000000
+rule_90 filings = where_true 90 (nat_le most_filings filings) most_filings most_filings
 
 -- 21: days out of order. A break's first day comes after the last day of the break before
 abbrev pub breaks_in_order : ℕ → List (ℕ × ℕ) → List RuleLine

@@ -17,6 +17,7 @@ use Rattle.loans.specs.declared.facts.LoanNets.{LoanNets}
 use Rattle.loans.specs.declared.facts.LoanOutcome.{LoanOutcome}
 use Rattle.loans.specs.declared.facts.LoanOutcome.TheVariants.{Noted, Lent}
 use Rattle.loans.specs.declared.facts.Tries.{Tries}
+use Rattle.aid_types.specs.Limits.{most_desk_filings}
 
 -- ---- what a filing is judged on
 -- whom it is about, and which year; 0 where it is about none
@@ -131,7 +132,7 @@ kind_lines f school (Cancel a) = where_true 115 (a.cents == 0) 0 1 ∷ over 122 
 
 -- the most filings that a loan office keeps
 abbrev pub most_loan_filings : ℕ
-most_loan_filings = 200000
+most_loan_filings = most_desk_filings
 
 -- 110: the office is full
 abbrev pub rule_110 : ℕ → RuleLine

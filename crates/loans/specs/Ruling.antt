@@ -14,6 +14,7 @@ use Rattle.loans.proofs.Holding.{has_room}
 use Rattle.loans.specs.Kinds.{loan_kinds}
 use Rattle.loans.specs.Numbers.{code_of_loan, numbers_of_loan}
 use Rattle.loans.specs.Same.{same_loan}
+use Rattle.aid_types.specs.Limits.{most_desk_filings}
 
 abbrev pub loan_ruling : Ruling LoanFiling LoanOutcome
 loan_ruling = ruling_by key_slots loan_kinds code_of_loan numbers_of_loan (λ filing. filing.key) breaks outcome_of
@@ -24,7 +25,7 @@ pub spells_loans : SpellsRows loan_ruling key_slots loan_kinds code_of_loan numb
 spells_loans = rows_by key_slots loan_kinds code_of_loan numbers_of_loan (λ (filing : LoanFiling). filing.key) breaks outcome_of same_loan
 
 -- rule 110: a full list takes no more
-pub loans_have_room : (past : List LoanFiling) (filing : LoanFiling) → breaks past filing ≡ None → length past < 200000
+pub loans_have_room : (past : List LoanFiling) (filing : LoanFiling) → breaks past filing ≡ None → length past < most_desk_filings
 loans_have_room past filing h = has_room past filing h
 
 -- each filing of a legal list breaks no rule on those before it

@@ -6,6 +6,7 @@ use Rattle.log_rules.specs.Ruling.{Ruling}
 use Rattle.log_rules.specs.Ruled.{IsLegal, Standing, added_of, answer_at, answer_of, by_rules, is_admit, judged, standing_of, verdict_of}
 use Rattle.log_rules.specs.declared.response.RuleResponse.{RuleResponse}
 use Rattle.log_rules.specs.declared.response.RuleResponse.TheVariants.{Again, Refused, Admit}
+use Rattle.aid_types.specs.Limits.{most_desk_filings}
 
 -- what stands there already is not admitted
 again_or_refused : {Outcome : Type 0} (b : Bool) (position : ℕ) (outcome : Outcome) (refusal : Refusal) (o : Outcome) → (if b then Again position outcome else Refused refusal) ≡ Admit o → ⊥
@@ -61,7 +62,7 @@ added_admitted {Entry} ruling past operation f is = go (is_admit (answer_of ruli
 
 -- a full list takes no more
 abbrev pub IsFull : {Entry Outcome : Type 0} → Ruling Entry Outcome → Type 0
-IsFull {Entry} ruling = (past : List Entry) (f : Entry) → ruling.breaks past f ≡ None → length past < 200000
+IsFull {Entry} ruling = (past : List Entry) (f : Entry) → ruling.breaks past f ≡ None → length past < most_desk_filings
 
 -- so a legal list has at most 200,000 filings
 pub legal_few : {Entry Outcome : Type 0} (ruling : Ruling Entry Outcome) → IsFull ruling → (past : List Entry) → IsLegal ruling past → length past ≤ 200000

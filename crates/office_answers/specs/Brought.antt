@@ -12,6 +12,7 @@ use Rattle.law_terms.specs.Used.{use_of}
 use Rattle.office_history.specs.Answer.{indexed}
 use Rattle.office_history.specs.Award.{scheduled}
 use Rattle.office_history.specs.Net.{in_year, net, used, used_else}
+use Rattle.aid_types.specs.Limits.{is_pell}
 
 -- what an application brings: its formula, final index and award, and nothing where it is out of range for the book
 abbrev pub brought_by : Option Refusal → Option Book → Application → Outcome
@@ -34,7 +35,7 @@ IsWithPayment past a = rank a.program ≡ 3 → net_with past a ≤ 150 * schedu
 -- the lifetime use with a payment
 abbrev pub used_with : List Filing → Amount → ℕ
 used_with past a =
-    if rank a.program == 3
+    if is_pell (rank a.program)
     then used_else past a.student a.year + use_of (net_with past a) (scheduled past a.student a.year)
     else used past a.student
 

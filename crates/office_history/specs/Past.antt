@@ -15,6 +15,7 @@ use Rattle.aid_filings.specs.declared.filing.What.{What}
 use Rattle.aid_filings.specs.declared.filing.What.TheVariants.{Book as BookFiled, School, Calendar, Prior, Apply, Enroll, Originate, Pay, Withdraw}
 use Rattle.aid_filings.specs.contracts.filing.FilingPartialEq.TheImpl.{eq-value as filing_eq}
 use Rattle.aid_types.specs.contracts.number.KeyPartialEq.TheImpl.{eq-value as key_eq}
+use Rattle.aid_types.specs.Limits.{is_pell}
 
 -- the same filing, and the same key
 abbrev pub same_filing : Filing → Filing → Bool
@@ -95,7 +96,7 @@ withdrawal_in student year term (Withdraw w) = given (w.student == student && (w
 withdrawal_in student year term _ = None
 
 abbrev pub pell_payment_in : ℕ → What → Bool
-pell_payment_in student (Pay a) = a.student == student && rank a.program == 3
+pell_payment_in student (Pay a) = a.student == student && is_pell (rank a.program)
 pell_payment_in student _ = false
 
 -- the same questions of one school's filings alone

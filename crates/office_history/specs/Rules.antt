@@ -15,6 +15,7 @@ use Rattle.office_history.specs.Past.{the_book, the_school, the_term, the_withdr
 use Rattle.office_history.specs.Award.{ceiling, scheduled, unfit_under}
 use Rattle.office_history.specs.Net.{cell_of, is_cell, cell_at, net, net_at, in_year, in_term, at_school_in_year, pell_term, pell_year, pell_main, used_else, owed, repaid, post, paid_after}
 use Rattle.office_history.specs.Positions.{full_of, terms_of, book_at, school_at, term_at, prior_at, pell_at, cost_at, withdrawn_at, transaction_of, could_of, least_code, is_paid_beside, payment_for, payment_at, term_over, overlap_at, main_term_count, award_filed}
+use Rattle.aid_types.specs.Limits.{fseog_limit, is_fseog, is_pell, most_units}
 
 -- of a student's aid in a term of a school's year
 module _ (past : List Filing) (school student year term : ℕ) where
@@ -25,11 +26,11 @@ module _ (past : List Filing) (school student year term : ℕ) where
       ∷ over of_year (pell_year past student year + cents)
       (limit_of (the_term past school year term)
       (intensity_of (credits past school student year term) (full_of (the_school past school))) (scheduled past student year))
-      ∷ over of_lifetime (used_else past student year + use_of (pell_year past student year + cents) (scheduled past student year)) 600000 ∷ []
+      ∷ over of_lifetime (used_else past student year + use_of (pell_year past student year + cents) (scheduled past student year)) most_units ∷ []
 
   -- so many cents more of FSEOG: past the year's limit; of any program: past the cost of attendance
   abbrev pub past_fseog : ℕ → ℕ → RuleLine
-  past_fseog rule cents = over rule (net past (in_year student year 4) + cents) 400000
+  past_fseog rule cents = over rule (net past (in_year student year 4) + cents) fseog_limit
 
   abbrev pub past_cost : ℕ → ℕ → RuleLine
   past_cost rule cents = over rule (net past (at_school_in_year school student year) + cents) (100 * cost past school student year)
@@ -63,20 +64,20 @@ module _ (past : List Filing) (school student year term : ℕ) where
   abbrev pub payment_rules : ℕ → ℕ → List RuleLine
   payment_rules program cents =
       standing_rules
-      ++ (lacks 51 (credits past school student year term) student term ∷ rule_53 (program == 3) cents
-      ∷ only (program == 3)
+      ++ (lacks 51 (credits past school student year term) student term ∷ rule_53 (is_pell program) cents
+      ∷ only (is_pell program)
       (stands 43 (ceiling past student year).index (ceiling past student year).bound
       ∷ where_true 40 (scheduled past student year == 0) (transaction_of (application past student year)) 0 ∷ rule_58 ∷ [])
       ++ (rule_52 program cents
-      ++ (only (program == 3) (pell_limits 54 55 56 cents)
-      ++ (only (program == 4) (past_fseog 55 cents ∷ []) ++ (past_cost 57 cents ∷ [])))))
+      ++ (only (is_pell program) (pell_limits 54 55 56 cents)
+      ++ (only (is_fseog program) (past_fseog 55 cents ∷ []) ++ (past_cost 57 cents ∷ [])))))
 
 -- 93: a correction to this award would leave a limit exceeded
 abbrev pub rule_93 : List Filing → ℕ → ℕ → ℕ → List RuleLine
 rule_93 past student year award =
     told (term_over past award student year)
     ++ (over 93 (pell_main past student year) (100 * award) ∷ over 93 (pell_year past student year) (150 * award)
-    ∷ over 93 (used_else past student year + use_of (pell_year past student year) award) 600000 ∷ [])
+    ∷ over 93 (used_else past student year + use_of (pell_year past student year) award) most_units ∷ [])
 
 -- the rules on a filing, by its kind. 12, 30, 31: its school, term or application isn't on file; 14: the office's own desk alone files it;
 -- 10: no book; 11, 13, 20, 41, 61, 80: it is on file; 22: it overlaps another term of the school; 34: the student withdrew from the term;
@@ -90,7 +91,7 @@ rules_of past key (Calendar c) =
     ++ (rule_23 (term_of c)
     ++ (stands 22 (overlap_at past key.school (term_of c)) c.term ∷ rule_24 (term_of c) (main_term_count past key.school c.year) (terms_of (the_school past key.school))))
 rules_of past key (Prior p) =
-    rule_90 (length past) ∷ over 14 key.school 0 ∷ over 81 p.units 600000 ∷ stands 80 (prior_at past p.student) p.student
+    rule_90 (length past) ∷ over 14 key.school 0 ∷ over 81 p.units most_units ∷ stands 80 (prior_at past p.student) p.student
     ∷ stands 82 (pell_at past p.student) p.student ∷ []
 rules_of past key (Apply a) =
     rule_90 (length past) ∷ only (nat_lt 0 key.school) (lacks 12 (school_at past key.school) key.school 0 ∷ [])

@@ -23,6 +23,7 @@ use Rattle.office_reports.specs.declared.rows.NetOf.{NetOf}
 use Rattle.office_reports.specs.declared.rows.PaidPlace.{PaidPlace}
 use Rattle.office_reports.specs.declared.rows.ReturnOf.{ReturnOf}
 use Rattle.office_reports.specs.declared.rows.StandingOf.{StandingOf}
+use Rattle.aid_types.specs.Limits.{is_pell}
 
 -- ---- standing: the students with an application in the year, by number
 abbrev pub standing_rows : List Filing → ℕ → List StandingOf
@@ -83,7 +84,7 @@ return_rows (f ∷ past) year = return_rows past year ++ returns_in past year f 
 -- ---- lifetime: the students with a prior use or a Pell payment, by number
 abbrev pub lifetime_user : What → Option ℕ
 lifetime_user (Prior p) = Some p.student
-lifetime_user (Pay a) = given (rank a.program == 3) a.student
+lifetime_user (Pay a) = given (is_pell (rank a.program)) a.student
 lifetime_user _ = None
 
 abbrev pub lifetime_users : List Filing → List ℕ

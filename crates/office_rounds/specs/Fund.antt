@@ -7,10 +7,11 @@ use Rattle.aid_filings.specs.declared.filing.What.TheVariants.{Pay}
 use Rattle.office_history.specs.Net.{Cell, cell_of, net}
 use Rattle.office_history.specs.Past.{given}
 use Rattle.office_rounds.specs.declared.request.RoundRequest.{RoundRequest}
+use Rattle.aid_types.specs.Limits.{is_fseog}
 
 -- the cells of the fund: the program of the grants, in the school's term of the year
 abbrev pub in_fund : RoundRequest → Cell → Bool
-in_fund r c = c.school == r.school && (c.year == r.year && (c.term == r.term && c.program == 4))
+in_fund r c = c.school == r.school && (c.year == r.year && (c.term == r.term && is_fseog c.program))
 
 -- the cents that the school's students have of the program in the term: payments less what was taken back
 abbrev pub granted : List Filing → RoundRequest → ℕ

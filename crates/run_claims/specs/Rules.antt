@@ -22,6 +22,7 @@ use Rattle.office_history.specs.Award.{award_under, scheduled}
 use Rattle.office_history.specs.Net.{at_school_in_year, cell_at, cell_of, in_term, in_year, is_cell, net, net_at, owed, paid_after, pell_main, pell_term, pell_year, post, repaid, used_else}
 use Rattle.office_history.specs.Past.{application, at_school, cost, cost_in, credits, earliest, is_higher, pell_payment_in, prior_in, terms_on_file, the_book, the_school, the_term, the_withdrawal}
 use Rattle.office_history.specs.Positions.{full_of, is_over, is_paid_beside, payment_at, payment_for, terms_of}
+use Rattle.aid_types.specs.Limits.{fseog_limit, is_fseog, is_pell, most_filings, most_units}
 
 -- 21: breaks in order: each comes after a day, its last day not before its first
 abbrev pub in_order : ℕ → List (ℕ × ℕ) → Bool
@@ -49,13 +50,13 @@ module _ (past : List Filing) (school student year term : ℕ) where
   keeps_pell cents =
       nat_le (pell_term past school student year term + cents) (payment_at past (scheduled past student year) school student year term)
       && nat_le (pell_year past student year + cents) (limit_of (the_term past school year term) (intensity_of (credits past school student year term) (full_of (the_school past school))) (scheduled past student year))
-      && nat_le (used_else past student year + use_of (pell_year past student year + cents) (scheduled past student year)) 600000
+      && nat_le (used_else past student year + use_of (pell_year past student year + cents) (scheduled past student year)) most_units
 
   -- 54 to 57, 63: so many cents more of Pell, of FSEOG (34 CFR 676.20) and of all programs, which the cost of attendance bounds (HEA 401(b)(3); own for all
   -- programs together), are within their limits; no cents more are within any
   abbrev pub keeps_limits : ℕ → ℕ → ℕ → Bool
   keeps_limits pell fseog all =
-      (pell == 0 || keeps_pell pell) && (fseog == 0 || nat_le (net past (in_year student year 4) + fseog) 400000)
+      (pell == 0 || keeps_pell pell) && (fseog == 0 || nat_le (net past (in_year student year 4) + fseog) fseog_limit)
       && (all == 0 || nat_le (net past (at_school_in_year school student year) + all) (100 * cost past school student year))
 
   -- 52: after a withdrawal so many cents more are within the post-withdrawal disbursement, and within what could have been disbursed of the program (34 CFR 668.22(a)(6))
@@ -76,7 +77,7 @@ abbrev pub keeps_award : List Filing → ℕ → ℕ → ℕ → Bool
 keeps_award past student year award =
     not (list_any (is_over past award student year) (terms_on_file past))
     && nat_le (pell_main past student year) (100 * award) && nat_le (pell_year past student year) (150 * award)
-    && nat_le (used_else past student year + use_of (pell_year past student year) award) 600000
+    && nat_le (used_else past student year + use_of (pell_year past student year) award) most_units
 
 -- what may be filed, by its kind
 abbrev pub may_file : List Filing → Key → What → Bool
@@ -87,7 +88,7 @@ may_file past key (Calendar c) =
     && not (list_any (λ t. t.school == key.school && shares_day (term_of c) t.term) (terms_on_file past))
     && (c.extra || nat_lt (length (filter (λ t. t.school == key.school && (t.year == c.year && not t.term.extra)) (terms_on_file past))) (terms_of (the_school past key.school)))
 may_file past key (Prior p) =
-    key.school == 0 && nat_le p.units 600000 && is_none (earliest (λ f. prior_in p.student f.what) past) && not (list_any (λ f. pell_payment_in p.student f.what) past)
+    key.school == 0 && nat_le p.units most_units && is_none (earliest (λ f. prior_in p.student f.what) past) && not (list_any (λ f. pell_payment_in p.student f.what) past)
 may_file past key (Apply a) =
     (key.school == 0 || is_some (the_school past key.school)) && fits_book (the_book past a.year) a
     && is_higher (Some a) (application past a.student a.year) && keeps_award past a.student a.year (award_under (the_book past a.year) (Some a))
@@ -99,12 +100,12 @@ may_file past key (Originate o) =
     is_some (the_school past key.school) && is_some (application past o.student o.year)
     && is_none (earliest (at_school key.school (cost_in o.student o.year)) past) && not (o.cost == 0)
 may_file past key (Pay a) =
-    let is_pell = rank a.program == 3 in
+    let pell = is_pell (rank a.program) in
     may_be_aided past key.school a.student a.year a.term && not (a.cents == 0)
-    && (not is_pell || a.cents % 100 == 0 && not (scheduled past a.student a.year == 0)
+    && (not pell || a.cents % 100 == 0 && not (scheduled past a.student a.year == 0)
     && not (list_any (is_paid_beside past key.school a.student (the_term past key.school a.year a.term)) (terms_on_file past)))
     && keeps_post past key.school a.student a.year a.term (rank a.program) a.cents (the_withdrawal past key.school a.student a.year a.term)
-    && keeps_limits past key.school a.student a.year a.term (if is_pell then a.cents else 0) (if rank a.program == 4 then a.cents else 0) a.cents
+    && keeps_limits past key.school a.student a.year a.term (if pell then a.cents else 0) (if is_fseog (rank a.program) then a.cents else 0) a.cents
 may_file past key (Withdraw w) =
     may_be_aided past key.school w.student w.year w.term && is_none (the_withdrawal past key.school w.student w.year w.term)
     && is_in_days w.last (the_term past key.school w.year w.term) && nat_le w.last w.determined
@@ -117,7 +118,7 @@ may_file past key (Adjust a) =
 
 -- 90: the office isn't full, and what is filed may be
 abbrev pub may_follow : List Filing → Filing → Bool
-may_follow past f = nat_lt (length past) 1000000 && may_file past f.key f.what
+may_follow past f = nat_lt (length past) most_filings && may_file past f.key f.what
 
 -- each filing had a key of its own, and might follow those before it
 abbrev pub AreAdmitted : List Filing → Type 0

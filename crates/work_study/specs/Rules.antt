@@ -10,6 +10,7 @@ use Rattle.work_study.specs.Funds.{award_at, earned, earning, fund, fund_at, in_
 use Rattle.work_study.specs.declared.facts.WorkFacts.{WorkFacts}
 use Rattle.work_study.specs.declared.facts.WorkOutcome.{WorkOutcome}
 use Rattle.work_study.specs.declared.facts.WorkOutcome.TheVariants.{Noted, Earned}
+use Rattle.aid_types.specs.Limits.{most_desk_filings}
 
 -- ---- what a filing is judged on
 -- which year it is about, and whom; 0 where it is about no student
@@ -71,7 +72,7 @@ kind_lines f school (Release a) =
 
 -- the most filings that a work-study office keeps
 abbrev pub most_work_filings : ℕ
-most_work_filings = 200000
+most_work_filings = most_desk_filings
 
 -- 210: the office is full
 abbrev pub rule_210 : ℕ → RuleLine

@@ -14,6 +14,7 @@ use Rattle.work_study.proofs.Holding.{has_room}
 use Rattle.work_study.specs.Kinds.{work_kinds}
 use Rattle.work_study.specs.Numbers.{code_of_work, numbers_of_work}
 use Rattle.work_study.specs.Same.{same_work}
+use Rattle.aid_types.specs.Limits.{most_desk_filings}
 
 abbrev pub work_ruling : Ruling WorkFiling WorkOutcome
 work_ruling = ruling_by key_slots work_kinds code_of_work numbers_of_work (λ filing. filing.key) breaks outcome_of
@@ -24,7 +25,7 @@ pub spells_work : SpellsRows work_ruling key_slots work_kinds code_of_work numbe
 spells_work = rows_by key_slots work_kinds code_of_work numbers_of_work (λ (filing : WorkFiling). filing.key) breaks outcome_of same_work
 
 -- rule 210: a full list takes no more
-pub work_has_room : (past : List WorkFiling) (filing : WorkFiling) → breaks past filing ≡ None → length past < 200000
+pub work_has_room : (past : List WorkFiling) (filing : WorkFiling) → breaks past filing ≡ None → length past < most_desk_filings
 work_has_room past filing h = has_room past filing h
 
 -- each filing of a legal list breaks no rule on those before it
