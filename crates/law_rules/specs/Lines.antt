@@ -78,13 +78,16 @@ standing_lines f school student year term =
     rule_90 f.filings ∷ lacks 12 f.school_at school 0 ∷ lacks 30 f.term_at term 0 ∷ lacks 31 f.transaction student year
     ∷ lacks 50 f.cost_at student school ∷ []
 
--- a payment of so many cents of a program by a school to a student in a year's term: its lines in their order
+-- a payment of so many cents of a program by a school to a student in a year's term: its lines in their order; 51: not enrolled
 abbrev pub payment_lines : Facts → ℕ → ℕ → ℕ → ℕ → ℕ → ℕ → List RuleLine
 payment_lines f school student year term program cents =
     standing_lines f school student year term
     ++ (lacks 51 f.credits student term ∷ rule_53 (is_pell program) cents ∷ amount_lines f school program cents)
 
--- the lines of a filing by a school, in the order of its kind
+-- the lines of a filing by a school, in the order of its kind. 12, 30, 31: its school, term or application isn't on file; 14: the office's own
+-- desk alone files it; 10: no book; 11, 13, 20, 41, 61, 80: it is on file; 22: it overlaps another term of the school; 34: the student withdrew
+-- from the term; 82: a Pell payment is on file; 32: credits 0 or above 40; 33: more is paid than they give; 42, 71: the amount is 0; 60: not
+-- enrolled; 70: past what is owed; 72: past the net paid; 81: past the lifetime limit
 abbrev pub lines_of : Facts → ℕ → What → List RuleLine
 lines_of f school (BookFiled b) = rule_90 f.filings ∷ over 14 school 0 ∷ stands 11 f.book_at b.year ∷ []
 lines_of f school (School s) = rule_90 f.filings ∷ over 14 school 0 ∷ stands 13 f.code_at s.code ∷ []

@@ -3,7 +3,6 @@ use Rattle.std.proofs.Common.{◌≡◌, ℕ, refl, ap, List}
 use Rattle.aid_types.specs.declared.number.Key.{Key}
 use Rattle.aid_filings.specs.declared.filing.Filing.{Filing}
 use Rattle.aid_filings.specs.declared.filing.What.{What}
-use Rattle.aid_filings.specs.declared.filing.What.TheVariants.{Book as BookFiled, School, Calendar, Prior, Apply, Enroll, Originate, Pay, Withdraw, Repay, Adjust}
 use Rattle.law_rules.specs.Lines.{broken_of, lines_of, payment_lines}
 use Rattle.aid_types.specs.RuleLines.{first_broken}
 use Rattle.office_history.specs.FactsOf.{facts_of, payment_facts}
@@ -11,17 +10,7 @@ use Rattle.office_history.specs.Rules.{payment_rules, rules_of}
 use Rattle.office_history.specs.Answer.{breaks}
 
 pub lines_are : (past : List Filing) (key : Key) (what : What) → lines_of (facts_of past key what) key.school what ≡ rules_of past key what
-lines_are past key (BookFiled b) = refl
-lines_are past key (School s) = refl
-lines_are past key (Calendar c) = refl
-lines_are past key (Prior p) = refl
-lines_are past key (Apply a) = refl
-lines_are past key (Enroll e) = refl
-lines_are past key (Originate o) = refl
-lines_are past key (Pay a) = refl
-lines_are past key (Withdraw w) = refl
-lines_are past key (Repay a) = refl
-lines_are past key (Adjust a) = refl
+lines_are past key what = refl
 
 -- so the first that is broken is the same
 pub broken_is : (past : List Filing) (f : Filing) → broken_of (facts_of past f.key f.what) f.key f.what ≡ breaks past f

@@ -14,7 +14,9 @@ use Rattle.aid_filings.specs.declared.filing.What.{What}
 use Rattle.aid_filings.specs.declared.filing.What.TheVariants.{Book as BookFiled, School, Calendar, Prior, Apply, Enroll, Originate, Pay, Withdraw, Repay, Adjust}
 use Rattle.aid_types.specs.RuleLines.{lacks, only, told}
 use Rattle.law_rules.specs.Rules.{rule_91}
-use Rattle.office_history.specs.Rules.{rule_93, rules_of}
+use Rattle.law_rules.specs.Lines.{rule_93}
+use Rattle.office_history.specs.FactsOf.{apply_facts}
+use Rattle.office_history.specs.Rules.{rules_of}
 use Rattle.office_history.specs.Answer.{IsLegal, breaks}
 use Rattle.office_history.specs.Award.{award_under, ceiling_under, unfit_under}
 use Rattle.office_history.specs.Positions.{application_at, award_filed, book_at, school_at, transaction_of}
@@ -156,7 +158,7 @@ book_stands past key a rule =
     let k = all_hold (rules_of past key (Apply a)) rule in
     let r = hold_back (only (nat_lt 0 key.school) (lacks 12 (school_at past key.school) key.school 0 ∷ []))
     (lacks 10 (book_at past a.year) a.year 0 ∷ told (unfit_under (the_book past a.year) a)
-    ++ (rule_91 a.transaction (transaction_of (application past a.student a.year)) ∷ rule_93 past a.student a.year (award_filed past a))) k.1 in
+    ++ (rule_91 a.transaction (transaction_of (application past a.student a.year)) ∷ rule_93 (apply_facts past key.school a (award_filed past a)))) k.1 in
     some_told (λ g. book_in a.year g.what) past (lacks_holds 10 (book_at past a.year) a.year 0 r.0)
 
 -- so without a book none is in force

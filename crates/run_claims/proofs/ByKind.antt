@@ -26,7 +26,8 @@ use Rattle.office_history.specs.Award.{award_under, ceiling, ceiling_under, sche
 use Rattle.office_history.specs.Net.{at_school_in_year, in_year, net, pell_main, pell_term, pell_year, used_else, cell_at, in_term, is_cell, paid_after, post}
 use Rattle.office_history.specs.Past.{application, at_school, book_in, cost, cost_in, credits, pell_payment_in, prior_in, school_in, term_in, terms_on_file, the_book, the_school, the_term, the_withdrawal, withdrawal_in}
 use Rattle.office_history.specs.Positions.{award_filed, book_at, full_of, if_fit, is_paid_beside, payment_at, term_over, could_of, cost_at, main_term_count, overlap_at, school_at, term_at, terms_of, transaction_of, withdrawn_at}
-use Rattle.office_history.specs.Rules.{past_cost, past_fseog, rule_58, rule_63, rule_93, pell_limits, rule_52, rules_of}
+use Rattle.office_history.specs.Rules.{rules_of}
+use Rattle.run_claims.proofs.SpelledLines.{past_cost, past_fseog, rule_58, rule_63, rule_93, pell_limits, rule_52}
 use Rattle.office_history.proofs.Ceilings.{none_under}
 use Rattle.run_claims.specs.Rules.{keeps_award, keeps_limits, keeps_pell, keeps_post, may_be_aided, may_file}
 use Rattle.run_claims.proofs.Tests.{and_both, and_then, and_last, and_second, and_three, and_four, and_five, and_six, and_turn, below, within, is_nothing, limit_if, limit_or, or_then}

@@ -9,6 +9,7 @@ pub mod RowLaws
 pub mod Texts
 pub mod Admitted
 pub mod ByKind
+pub mod SpelledLines
 pub mod Facts
 pub mod Lines
 pub mod Tests
