@@ -30,13 +30,20 @@ use office_updates::{place_of, school_of, school_year_of};
 use sorted_rows::Steps;
 use std::alloc::{AllocError, Global};
 use std::marker::Model;
+use std::mem;
 use std::sync::ledger::Ledger;
 
 /// An office: the filings that were admitted, each with the outcome of its admission, and room for more. A contract sees
 /// its history, the newest filing first, and its spare room. The history of every office is legal.
-#[derive(Drop)]
 pub struct Office {
     indexed: Indexed,
+}
+
+// Written out, so that who lets an office go calls this and doesn't take its tables apart.
+impl Drop for Office {
+    fn drop(self) {
+        let Office { indexed: _indexed } = self;
+    }
 }
 
 impl Model for Office {
@@ -89,10 +96,10 @@ impl Office {
     }
 
     /// The filings alone, the oldest first. It takes no memory.
-    pub fn into_filings(self) -> Vec<Filing>
+    pub fn into_filings(mut self, alloc: Global) -> Vec<Filing>
         ensures { reverse result.items ≡ self.history }
     {
-        let Office { indexed } = self;
+        let indexed = mem::replace(&mut self.indexed, Indexed::new(alloc));
         indexed.into_filings()
     }
 

@@ -43,11 +43,11 @@ impl OfficeMachine {
     }
 
     /// The filings alone, the oldest first. It takes no memory.
-    pub fn into_filings(self) -> Vec<Filing>
+    pub fn into_filings(self, alloc: Global) -> Vec<Filing>
         ensures { reverse result.items ≡ ⟦<OfficeMachine as StateMachine>⟧.history self }
     {
         let OfficeMachine { office } = self;
-        office.into_filings()
+        office.into_filings(alloc)
     }
 }
 

@@ -31,7 +31,7 @@ fn copy<B: Disk>(alloc: Global, office: OfficeMachine, target: B) -> (UpgradeEnd
     ensures unmoved { is_target_fault result.0 ≡ false → B.faults result.1 ≡ B.faults target }
     ensures target { is_source_fault result.0 ≡ false }
 {
-    let filings = office.into_filings();
+    let filings = office.into_filings(alloc);
     let count = filings.len() as u64;
     match Log::<B, StampedOfficeMachine>::found(alloc, target) {
         Ok(mut kept) => {
