@@ -23,16 +23,10 @@ mod work_rows;
 mod work_runs;
 
 pub use index::MarkIndex;
-use log_rules::{RuleMachine, RuledOffice, RuledReply};
+use log_rules::RuleMachine;
 pub use mark::{Left, Mark};
 pub use marks::Marks;
 pub use session::file_marks;
 
 /// The list of marks.
 pub type MarkList = RuleMachine<Marks>;
-
-/// An office of marks over a journal.
-pub type MarkOffice<D> = RuledOffice<D, Marks>;
-
-/// What it replies.
-pub type MarkReply = RuledReply<Left>;

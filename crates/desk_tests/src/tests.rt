@@ -1,10 +1,12 @@
 // Marks are filed, kept and filed again.
-use crate::{Left, Mark, MarkList, MarkOffice, MarkReply, file_marks};
+use crate::{Left, Mark, MarkList, file_marks};
 use aid_types::Refusal;
 use io_memory::{MemoryDisk, MemorySink, SteadySource};
-use log_machine::OpenError;
+use log_machine::{FoundFault, Log, LogReply, OpenError, StateMachine};
+use log_rules::RuleResponse;
 use log_session::found;
 use std::alloc::Global;
+use std::process::Abort;
 use std::test::Fail;
 
 macro_rules! filed {
@@ -64,35 +66,51 @@ fn mark(number: u32, amount: u8) -> Option<Mark> {
     }
 }
 
-fn reply_of(wanted: Wanted, front: u32) -> MarkReply {
-    match wanted {
-        Wanted::Accepted(points) => MarkReply::Accepted {
-            position: front.wrapping_add(1),
-            front,
-            outcome: Left { points },
-        },
-        Wanted::Again(position, points) => MarkReply::Again {
+// An office of marks in memory, and what it replies.
+type Office = Log<MemoryDisk, MarkList>;
+
+type Reply = LogReply<RuleResponse<Left>>;
+
+fn reply_of(wanted: Wanted, front: u32) -> Reply {
+    let response = match wanted {
+        Wanted::Accepted(points) => RuleResponse::Admit(Left { points }),
+        Wanted::Again(position, points) => RuleResponse::Again {
             position,
-            front,
             outcome: Left { points },
         },
-        Wanted::Refused(rule, kept, bound) => MarkReply::Refused {
-            refusal: Refusal { rule, kept, bound },
-            front,
-        },
+        Wanted::Refused(rule, kept, bound) => RuleResponse::Refused(Refusal { rule, kept, bound }),
+    };
+    LogReply::Answered { response, front }
+}
+
+fn founded(alloc: Global, disk: MemoryDisk) -> Result<Office, FoundFault> {
+    match Office::found(alloc, disk) {
+        Ok(office) => Ok(office),
+        Err((fault, _disk)) => Err(fault),
     }
 }
 
+fn opened(alloc: Global, disk: MemoryDisk) -> Result<Office, OpenError> {
+    match Office::recover(alloc, disk) {
+        Ok(office) => Ok(office),
+        Err((error, _disk)) => Err(error),
+    }
+}
+
+fn submit(office: &mut Office, mark: Mark) -> Reply {
+    office.submit(mark)
+}
+
 // Whether a mark is answered so.
-fn is_answered(office: &mut MarkOffice<MemoryDisk>, filed: &Filed) -> bool {
+fn is_answered(office: &mut Office, filed: &Filed) -> bool {
     match mark(filed.number, filed.amount) {
-        Some(mark) => office.submit(mark) == reply_of(filed.reply, filed.front),
+        Some(mark) => submit(office, mark) == reply_of(filed.reply, filed.front),
         None => false,
     }
 }
 
 // How many marks in front are answered so.
-fn answered(office: &mut MarkOffice<MemoryDisk>, table: &[Filed]) -> usize {
+fn answered(office: &mut Office, table: &[Filed]) -> usize {
     for (i, filed) in table.iter().enumerate() {
         if !is_answered(office, filed) {
             return i;
@@ -101,8 +119,8 @@ fn answered(office: &mut MarkOffice<MemoryDisk>, table: &[Filed]) -> usize {
     table.len()
 }
 
-fn amount_at(office: &MarkOffice<MemoryDisk>, position: u32) -> Option<u8> {
-    let mark = office.filing(position)?;
+fn amount_at(marks: &MarkList, position: u32) -> Option<u8> {
+    let mark = marks.filing(position)?;
     Some(mark.amount)
 }
 
@@ -113,25 +131,24 @@ fn empty_disk(alloc: Global) -> Result<MemoryDisk, Fail> {
 #[test]
 fn marks_are_kept(rt: HostRuntime) -> Result<(), Fail> {
     let alloc = rt.alloc();
-    let disk = empty_disk(alloc)?;
-    let Ok(mut office) = MarkOffice::<MemoryDisk>::found(alloc, disk) else {
-        return Err(Fail::new("no office"));
-    };
+    let mut office = founded(alloc, empty_disk(alloc)?)?;
     assert!(rt; office.reserve(2).is_ok());
     assert_eq!(rt; answered(&mut office, &FIRST), 4);
-    let Ok(mut office) = MarkOffice::<MemoryDisk>::recover(alloc, office.into_disk()) else {
-        return Err(Fail::new("no office"));
-    };
-    assert_eq!(rt; office.front(), 2);
+    let mut office = opened(alloc, office.into_disk())?;
+    assert_eq!(rt; office.machine().front(), 2);
     assert_eq!(rt; answered(&mut office, &LATER), 8);
-    assert_eq!(rt; office.front(), 6);
-    assert_eq!(rt; amount_at(&office, 0), None);
-    assert_eq!(rt; amount_at(&office, 2), Some(199));
-    assert_eq!(rt; amount_at(&office, 6), Some(96));
-    assert_eq!(rt; amount_at(&office, 7), None);
-    assert_eq!(rt; office.list().index().total(), 1000);
-    assert_eq!(rt; office.list().filings().len(), 6);
+    assert_marks(&rt, office.machine());
     Ok(())
+}
+
+// Six marks stand.
+fn assert_marks(rt: &impl Abort, marks: &MarkList) {
+    assert_eq!(rt; marks.front(), 6);
+    for (position, amount) in [(0, None), (2, Some(199)), (6, Some(96)), (7, None)] {
+        assert_eq!(rt; amount_at(marks, position), amount);
+    }
+    assert_eq!(rt; marks.index().total(), 1000);
+    assert_eq!(rt; marks.filings().len(), 6);
 }
 
 #[test]
@@ -172,11 +189,6 @@ fn the_version_before_is_told_apart(rt: HostRuntime) -> Result<(), Fail> {
     let alloc = rt.alloc();
     let bytes = b"\x01AIDPELL1\x01\0\0\0\0\0\0\0".to_vec(alloc)?;
     let disk = MemoryDisk::new(alloc, bytes, Vec::new(alloc), None)?;
-    match MarkOffice::<MemoryDisk>::recover(alloc, disk) {
-        Ok(_) => Err(Fail::new("an office")),
-        Err((error, _disk)) => {
-            assert_eq!(rt; error, OpenError::OldVersion);
-            Ok(())
-        }
-    }
+    assert_eq!(rt; opened(alloc, disk).err(), Some(OpenError::OldVersion));
+    Ok(())
 }

@@ -1,26 +1,23 @@
-// Offices whose disk stops or fails in the middle of a turn, what they answer then, that room is kept for a turn, and an office
-// under a lock.
-use aid_filings::{Filing, Operation, Outcome, PriorFacts, Reply, SchoolFacts, What};
+// Offices whose disk stops or fails in the middle of a turn, what they answer then, that room is kept for a turn, and the lines of
+// their replies.
+use aid_filings::{Filing, Operation, Outcome, PriorFacts, Response, SchoolFacts, What};
 use aid_stamps::{ClerkName, Stamp};
 use aid_types::{Day, Key, School, Student};
 use format_bytes::{PayloadBuffer, TakeError, put, take};
-use format_filings::put_line;
+use format_filings::put_answer;
 use io_memory::{DiskStop, Fill, MemoryDisk};
 use io_traits::Disk;
-use log_lock::TicketLock;
+use log_machine::{FoundFault, Log, LogReply, OpenError, StateMachine};
 use log_stamps::StampedOperation;
-use office_log::{FoundFault, KeptOffice, OpenError, Stamped};
-use std::alloc::Global;
+use office_log::{Stamped, StampedOfficeMachine};
+use std::alloc::{AllocError, Global};
 use std::process::Abort;
 use std::test::Fail;
+use whole_runs::{OLD, disk};
 
 // The file of the two worked filings under the plain stamp.
 const BOTH: [u8; 81] =
     *b"\x01AIDPELL1\x02\0\0\0\0\0\0\x01\x18\0\0\0\0\0\0\0\0\x02\0\0\0\0\x01\0\0\0\0\0\0\0\x6e\0\0\0\x02\x0c\x01\x1e\0\0\0\0\0\0\0\0\x04\0\0\0\0\x02\0\0\0\0\0\0\0\x89\x13\0\0\0\0\0\0\x70\x64\x08\0\0";
-
-// The same of the version 1, whose filings have no stamps.
-const OLD: [u8; 71] =
-    *b"\x01AIDPELL1\x01\0\0\0\0\0\0\x01\x13\0\0\0\x02\0\0\0\0\x01\0\0\0\0\0\0\0\x6e\0\0\0\x02\x0c\x01\x19\0\0\0\x04\0\0\0\0\x02\0\0\0\0\0\0\0\x89\x13\0\0\0\0\0\0\x70\x64\x08\0\0";
 
 // What the office's desk files: the school 110, or the units that a student used before this office.
 #[derive(Clone, Copy)]
@@ -87,139 +84,157 @@ fn known(rt: &impl Abort, student: u16) -> Student {
     Student(u64::from(student))
 }
 
-fn disk(
-    alloc: Global,
-    bytes: &[u8],
-    failing: &[u64],
-    stop: Option<DiskStop>,
-) -> Result<MemoryDisk, Fail> {
-    Ok(MemoryDisk::new(alloc, bytes.to_vec(alloc)?, failing.to_vec(alloc)?, stop)?)
-}
+// An office in a journal, and what it replies.
+type Office<D> = Log<D, StampedOfficeMachine>;
 
-fn founded<D: Disk + Drop>(alloc: Global, disk: D) -> Result<KeptOffice<D>, FoundFault> {
-    match KeptOffice::found(alloc, disk) {
-        Ok(kept) => Ok(kept),
+type Reply = LogReply<Response>;
+
+fn founded<D: Disk + Drop>(alloc: Global, disk: D) -> Result<Office<D>, FoundFault> {
+    match Log::found(alloc, disk) {
+        Ok(office) => Ok(office),
         Err((fault, _disk)) => Err(fault),
     }
 }
 
-fn opened<D: Disk + Drop>(alloc: Global, disk: D) -> Result<KeptOffice<D>, OpenError> {
-    match KeptOffice::recover(alloc, disk) {
-        Ok(kept) => Ok(kept),
+fn opened<D: Disk + Drop>(alloc: Global, disk: D) -> Result<Office<D>, OpenError> {
+    match Log::recover(alloc, disk) {
+        Ok(office) => Ok(office),
         Err((error, _disk)) => Err(error),
     }
 }
 
-// Opens an office of so many filings, and files two rows, which are answered so.
+// An office over a file of these bytes.
+fn office_of(alloc: Global, bytes: &[u8]) -> Result<Office<MemoryDisk>, Fail> {
+    Ok(opened(alloc, disk(alloc, bytes, &[], None)?)?)
+}
+
+// A new office, in an empty file.
+fn new_office(alloc: Global) -> Result<Office<MemoryDisk>, Fail> {
+    Ok(founded(alloc, disk(alloc, b"", &[], None)?)?)
+}
+
+fn submit<D: Disk>(office: &mut Office<D>, operation: Stamped) -> Reply {
+    office.submit(operation)
+}
+
+fn front_of<D: Disk>(office: &Office<D>) -> u32 {
+    office.machine().front()
+}
+
+fn stamp_at<D: Disk>(office: &Office<D>, position: u32) -> Option<Stamp> {
+    office.machine().stamp(position)
+}
+
+fn disk_of<D: Disk>(office: Office<D>) -> D {
+    office.into_disk()
+}
+
+// A row under the plain stamp is answered so.
+fn assert_reply<D: Disk>(rt: &impl Abort, office: &mut Office<D>, row: (u32, Filed), reply: Reply) {
+    assert_eq!(rt; submit(office, operation(rt, row)), reply);
+}
+
+// The third row is answered so, one time after the other.
+fn assert_third<D: Disk>(rt: &impl Abort, office: &mut Office<D>, replies: &[Reply]) {
+    for reply in replies {
+        assert_reply(rt, office, THIRD, *reply);
+    }
+}
+
+// Opens an office of so many filings, and files the third row, which is answered so. Gives the disk.
 fn open_and_file<D: Disk + Drop>(
     rt: &impl Abort,
     alloc: Global,
     disk: D,
     front: u32,
-    rows: [(u32, Filed); 2],
-    replies: [Reply; 2],
+    replies: &[Reply],
 ) -> Result<D, OpenError> {
-    let mut kept = opened(alloc, disk)?;
-    assert_eq!(rt; kept.office().front(), front);
-    let first = kept.submit(operation(rt, rows[0]));
-    let second = kept.submit(operation(rt, rows[1]));
-    assert_eq!(rt; [first, second], replies);
-    Ok(kept.into_disk())
+    let mut office = opened(alloc, disk)?;
+    assert_eq!(rt; front_of(&office), front);
+    assert_third(rt, &mut office, replies);
+    Ok(disk_of(office))
 }
 
-const FIRST: Reply = Reply::Accepted {
-    position: 1,
+// What answers a filing without figures that is admitted behind so many.
+const FIRST: Reply = LogReply::Answered {
+    response: Response::Admit(Outcome::Noted),
     front: 0,
-    outcome: Outcome::Noted,
 };
 
-const SCHOOL_AGAIN: Reply = Reply::Again {
-    position: 1,
+const THIRD_ACCEPTED: Reply = LogReply::Answered {
+    response: Response::Admit(Outcome::Noted),
     front: 2,
-    outcome: Outcome::Noted,
 };
 
-const THIRD_ACCEPTED: Reply = Reply::Accepted {
-    position: 3,
+// What answers one that stands at a position among so many.
+const SCHOOL_AGAIN: Reply = LogReply::Answered {
+    response: Response::Again {
+        position: 1,
+        outcome: Outcome::Noted,
+    },
     front: 2,
-    outcome: Outcome::Noted,
 };
 
-const THIRD_AGAIN: Reply = Reply::Again {
-    position: 3,
+const THIRD_AGAIN: Reply = LogReply::Answered {
+    response: Response::Again {
+        position: 3,
+        outcome: Outcome::Noted,
+    },
     front: 3,
-    outcome: Outcome::Noted,
 };
 
-const UNDECIDED: Reply = Reply::DiskFault { undecided: Some(3) };
+const UNDECIDED: Reply = LogReply::DiskFault { undecided: Some(3) };
+
+// The byte that a stop leaves in the third gate, how many filings an office then has, and what it answers to the third.
+const STOPS: [(u8, u32, Reply); 3] = [
+    (0, 2, THIRD_ACCEPTED),
+    (1, 3, THIRD_AGAIN),
+    (7, 2, THIRD_ACCEPTED),
+];
 
 #[test]
 fn stops_in_the_gate_write(rt: HostRuntime) -> Result<(), Fail> {
-    assert_stop(&rt, rt.alloc(), 0, 2, THIRD_ACCEPTED)?;
-    assert_stop(&rt, rt.alloc(), 1, 3, THIRD_AGAIN)?;
-    assert_stop(&rt, rt.alloc(), 7, 2, THIRD_ACCEPTED)?;
-    let failing = disk(rt.alloc(), &BOTH, &[8], None)?;
-    open_and_file(
-        &rt,
-        rt.alloc(),
-        failing,
-        2,
-        [THIRD, THIRD],
-        [UNDECIDED, THIRD_AGAIN],
-    )?;
+    for (left, front, reply) in STOPS {
+        let stopped = stopped(&rt, rt.alloc(), left)?;
+        let after = disk(rt.alloc(), stopped.image(), &[], None)?;
+        open_and_file(&rt, rt.alloc(), after, front, &[reply, THIRD_AGAIN])?;
+    }
     Ok(())
 }
 
-// A stop in the write of the third gate, which leaves that byte, and what an office then has and answers.
-fn assert_stop(
-    rt: &impl Abort,
-    alloc: Global,
-    left: u8,
-    front: u32,
-    reply: Reply,
-) -> Result<(), Fail> {
+// A disk that stopped in the write of the third gate, which leaves that byte.
+fn stopped(rt: &impl Abort, alloc: Global, left: u8) -> Result<MemoryDisk, Fail> {
     let stop = Some(DiskStop {
         call: 7,
         fill: Fill::With(left),
     });
     let stopping = disk(alloc, &BOTH, &[], stop)?;
-    let stopped = open_and_file(
-        rt,
-        alloc,
-        stopping,
-        2,
-        [THIRD, THIRD],
-        [UNDECIDED, UNDECIDED],
-    )?;
-    let after = disk(alloc, stopped.image(), &[], None)?;
+    Ok(open_and_file(rt, alloc, stopping, 2, &[UNDECIDED, UNDECIDED])?)
+}
+
+// The calls of the disk that fail, and what answers the third row each time: the sync behind the gate fails, and then the write
+// of the gate when it is settled.
+#[test]
+fn settles_at_last(rt: HostRuntime) -> Result<(), Fail> {
+    let failing = disk(rt.alloc(), &BOTH, &[8], None)?;
+    open_and_file(&rt, rt.alloc(), failing, 2, &[UNDECIDED, THIRD_AGAIN])?;
+    let failing = disk(rt.alloc(), &BOTH, &[8, 9], None)?;
     open_and_file(
-        rt,
-        alloc,
-        after,
-        front,
-        [THIRD, THIRD],
-        [reply, THIRD_AGAIN],
+        &rt,
+        rt.alloc(),
+        failing,
+        2,
+        &[UNDECIDED, UNDECIDED, THIRD_AGAIN],
     )?;
     Ok(())
 }
 
 #[test]
 fn reserves(rt: HostRuntime) -> Result<(), Fail> {
-    let mut kept = founded(rt.alloc(), disk(rt.alloc(), b"", &[], None)?)?;
-    kept.reserve(2)?;
-    assert_eq!(rt; kept.submit(operation(&rt, SCHOOL)), FIRST);
-    assert_eq!(rt; kept.into_disk().image().len(), 46);
-    Ok(())
-}
-
-#[test]
-fn settles_at_last(rt: HostRuntime) -> Result<(), Fail> {
-    // The sync behind the gate fails, and then the write of the gate when it is settled.
-    let failing = disk(rt.alloc(), &BOTH, &[8, 9], None)?;
-    let mut kept = opened(rt.alloc(), failing)?;
-    assert_eq!(rt; kept.submit(operation(&rt, THIRD)), UNDECIDED);
-    assert_eq!(rt; kept.submit(operation(&rt, THIRD)), UNDECIDED);
-    assert_eq!(rt; kept.submit(operation(&rt, THIRD)), THIRD_AGAIN);
+    let mut office = new_office(rt.alloc())?;
+    office.reserve(2)?;
+    assert_reply(&rt, &mut office, SCHOOL, FIRST);
+    assert_eq!(rt; disk_of(office).image().len(), 46);
     Ok(())
 }
 
@@ -239,27 +254,25 @@ fn a_filing_is_spelled(rt: HostRuntime) -> Result<(), Fail> {
     Ok(())
 }
 
-// An office under a lock, and the lines of its replies.
+// Appends the line of a reply to the row of this number, where it has one.
+fn put_line(number: u32, reply: &Reply, out: &mut Vec<u8>) -> Result<(), AllocError> {
+    match reply {
+        LogReply::Answered { response, front } => put_answer(number, *front, response, out),
+        _ => Ok(()),
+    }
+}
+
+// The lines of an office's replies, and the file that it leaves.
 #[test]
-fn an_office_takes_turns(rt: HostRuntime) -> Result<(), Fail> {
-    let empty = disk(rt.alloc(), b"", &[], None)?;
-    let Ok(kept) = KeptOffice::found(rt.alloc(), empty) else {
-        return Err(Fail::new("no office"));
-    };
-    let Ok((turns, mut handle)) = TicketLock::new(rt.alloc(), kept, 1) else {
-        return Err(Fail::new("no memory"));
-    };
-    let one = turns.submit(&rt, &mut handle, operation(&rt, SCHOOL));
-    let two = turns.submit(&rt, &mut handle, operation(&rt, SECOND));
-    let three = turns.submit(&rt, &mut handle, operation(&rt, SCHOOL));
-    let four = turns.submit(&rt, &mut handle, operation(&rt, SCHOOL_ANEW));
-    let disk = turns.close(handle).into_disk();
+fn an_office_answers(rt: HostRuntime) -> Result<(), Fail> {
+    let mut office = new_office(rt.alloc())?;
     let mut text = Vec::new(rt.alloc());
-    for (number, reply) in [(1, one), (2, two), (3, three), (4, four)] {
+    for (number, row) in [(1, SCHOOL), (2, SECOND), (3, SCHOOL), (4, SCHOOL_ANEW)] {
+        let reply = submit(&mut office, operation(&rt, row));
         put_line(number, &reply, &mut text)?;
     }
     assert_eq!(rt; text.as_slice(), LINES);
-    assert_eq!(rt; disk.image(), BOTH.as_slice());
+    assert_eq!(rt; disk_of(office).image(), BOTH.as_slice());
     Ok(())
 }
 
@@ -267,37 +280,48 @@ fn an_office_takes_turns(rt: HostRuntime) -> Result<(), Fail> {
 const BY_BROWN: [u8; 86] =
     *b"\x01AIDPELL1\x02\0\0\0\0\0\0\x01\x18\0\0\0\0\0\0\0\0\x02\0\0\0\0\x01\0\0\0\0\0\0\0\x6e\0\0\0\x02\x0c\x01\x23\0\0\0\x6c\x4f\0\0\x05brown\x04\0\0\0\0\x02\0\0\0\0\0\0\0\x89\x13\0\0\0\0\0\0\x70\x64\x08\0\0";
 
+// The stamp of a clerk.
+fn brown() -> Result<Stamp, Fail> {
+    Ok(Stamp {
+        day: Day(20_332),
+        clerk: ClerkName::new(b"brown").ok_or("a clerk")?,
+    })
+}
+
 // Filings under the plain stamp, and under that of a clerk. One that is filed again under another stamp keeps its first.
 #[test]
 fn stamps_are_kept(rt: HostRuntime) -> Result<(), Fail> {
-    let Some(clerk) = ClerkName::new(b"brown") else {
-        return Err(Fail::new("no clerk"));
-    };
-    let brown = Stamp {
-        day: Day(20_332),
-        clerk,
-    };
-    let mut kept = founded(rt.alloc(), disk(rt.alloc(), b"", &[], None)?)?;
-    kept.submit(operation(&rt, SCHOOL));
-    kept.submit(ask_under(&rt, brown, SECOND));
-    let again = kept.submit(ask_under(&rt, brown, SCHOOL));
+    let brown = brown()?;
+    let mut office = new_office(rt.alloc())?;
+    submit(&mut office, operation(&rt, SCHOOL));
+    submit(&mut office, ask_under(&rt, brown, SECOND));
+    let again = submit(&mut office, ask_under(&rt, brown, SCHOOL));
     assert_eq!(rt; again, SCHOOL_AGAIN);
-    let kept = opened(rt.alloc(), kept.into_disk())?;
-    assert_eq!(rt; kept.stamp(0), None);
-    assert_eq!(rt; kept.stamp(1), Some(Stamp::plain()));
-    assert_eq!(rt; kept.stamp(2), Some(brown));
-    assert_eq!(rt; kept.stamp(3), None);
-    let file = kept.into_disk();
-    assert_eq!(rt; file.image(), BY_BROWN.as_slice());
+    let left = disk_of(office);
+    assert_eq!(rt; left.image(), BY_BROWN.as_slice());
+    assert_stamps(&rt, &office_of(rt.alloc(), left.image())?, brown);
     Ok(())
+}
+
+// Two filings stand, the first under the plain stamp and the second under this one.
+fn assert_stamps(rt: &impl Abort, office: &Office<MemoryDisk>, second: Stamp) {
+    let stamps = [
+        (0, None),
+        (1, Some(Stamp::plain())),
+        (2, Some(second)),
+        (3, None),
+    ];
+    for (position, stamp) in stamps {
+        assert_eq!(rt; stamp_at(office, position), stamp);
+    }
 }
 
 // A file of the version 1 is told apart, and no office is founded on it.
 #[test]
 fn an_old_version(rt: HostRuntime) -> Result<(), Fail> {
-    let error = opened(rt.alloc(), disk(rt.alloc(), &OLD, &[], None)?).err();
+    let error = opened(rt.alloc(), disk(rt.alloc(), OLD, &[], None)?).err();
     assert_eq!(rt; error, Some(OpenError::OldVersion));
-    let fault = founded(rt.alloc(), disk(rt.alloc(), &OLD, &[], None)?).err();
+    let fault = founded(rt.alloc(), disk(rt.alloc(), OLD, &[], None)?).err();
     assert_eq!(rt; fault, Some(FoundFault::Exists));
     Ok(())
 }

@@ -5,7 +5,8 @@ use crate::upgrade_files::{NEW, OLD};
 use crate::upgrade_runs::{Ran, disk, stopped, upgraded};
 use aid_stamps::Stamp;
 use io_memory::{DiskStop, Fill, MemoryDisk};
-use office_log::{KeptOffice, OpenError};
+use log_machine::{Log, OpenError, StateMachine};
+use office_log::StampedOfficeMachine;
 use std::alloc::Global;
 use std::process::Abort;
 use std::test::Fail;
@@ -16,21 +17,32 @@ const CALLS: u64 = 60;
 // The file is unborn, or that of 0, 1 or 2 filings under the plain stamp.
 fn assert_front(rt: &impl Abort, alloc: Global, left: MemoryDisk) -> Result<(), Fail> {
     let again = disk(alloc, (left.image(), &[]), None)?;
-    match KeptOffice::recover(alloc, again) {
-        Ok(kept) => assert_plain(rt, kept),
-        Err((error, _disk)) => assert_eq!(rt; error, OpenError::NoOffice),
+    match opened(alloc, again) {
+        Ok(office) => assert_plain(rt, office),
+        Err(error) => assert_eq!(rt; error, OpenError::NoOffice),
     }
     Ok(())
 }
 
+// The office that a disk's file leaves.
+fn opened(
+    alloc: Global,
+    disk: MemoryDisk,
+) -> Result<Log<MemoryDisk, StampedOfficeMachine>, OpenError> {
+    match Log::recover(alloc, disk) {
+        Ok(office) => Ok(office),
+        Err((error, _disk)) => Err(error),
+    }
+}
+
 // At most two filings stand, each under the plain stamp, and the file is a front of the whole.
-fn assert_plain(rt: &impl Abort, kept: KeptOffice<MemoryDisk>) {
-    let front = kept.office().front();
+fn assert_plain(rt: &impl Abort, office: Log<MemoryDisk, StampedOfficeMachine>) {
+    let front = office.machine().front();
     assert!(rt; front <= 2);
     for position in 1..=front {
-        assert_eq!(rt; kept.stamp(position), Some(Stamp::plain()));
+        assert_eq!(rt; office.machine().stamp(position), Some(Stamp::plain()));
     }
-    assert_bytes(rt, kept.into_disk().image(), gate_of(front));
+    assert_bytes(rt, office.into_disk().image(), gate_of(front));
 }
 
 // Where the gate stands behind so many filings.

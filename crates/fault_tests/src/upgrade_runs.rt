@@ -1,7 +1,7 @@
 // One upgrade over files in memory.
 use io_memory::{DiskStop, MemoryDisk, MemorySink};
 use run_upgrade::upgrade;
-use std::alloc::Global;
+use std::alloc::{AllocError, Global};
 use std::test::Fail;
 
 /// A file, and the numbers of the calls that fail.
@@ -21,11 +21,9 @@ pub(crate) fn disk(
     alloc: Global,
     file: File<'_>,
     stop: Option<DiskStop>,
-) -> Result<MemoryDisk, Fail> {
+) -> Result<MemoryDisk, AllocError> {
     let (bytes, failing) = file;
-    let bytes = bytes.to_vec(alloc)?;
-    let failing = failing.to_vec(alloc)?;
-    Ok(MemoryDisk::new(alloc, bytes, failing, stop)?)
+    whole_runs::disk(alloc, bytes, failing, stop)
 }
 
 /// An upgrade of one file into another, the writes with these numbers failing.

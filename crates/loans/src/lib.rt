@@ -30,17 +30,7 @@ pub use facts::{LoanFacts, LoanNets, LoanOutcome};
 pub use filing::{BeforeFacts, BorrowerFacts, LimitFacts, LoanAmount, LoanFiling, LoanWhat};
 pub use index::LoanIndex;
 pub use laws::{allowed_amounts, allowed_length, allowed_within, room_left};
-use log_rules::{RuleMachine, RuledOffice, RuledReply};
 pub use names::StudentYear;
 pub use rows::{LimitsRow, ProgramNets, StudentRow, YearRow};
 pub use rules::{MOST_LOAN_FILINGS, broken, outcome};
 pub use table::Loans;
-
-/// A list of loan filings, each of which breaks no rule on those before it.
-pub type LoanList = RuleMachine<Loans>;
-
-/// A loan office over a journal.
-pub type LoanOffice<D> = RuledOffice<D, Loans>;
-
-/// What a loan office replies to a filing.
-pub type LoanReply = RuledReply<LoanOutcome>;

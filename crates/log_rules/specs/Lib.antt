@@ -1,7 +1,6 @@
 pub mod Kept
 pub mod Lines
 pub mod Names
-pub mod Reply
 pub mod RowLaws
 pub mod Rows
 pub mod Ruled

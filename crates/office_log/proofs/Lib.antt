@@ -1,5 +1,2 @@
-pub mod Legality
-pub mod Replies
-mod Going
 mod Rulings
 pub mod Oldest

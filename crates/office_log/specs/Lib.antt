@@ -3,12 +3,9 @@ pub mod Recovers
 pub mod Faulty
 pub mod Openable
 pub mod Submits
-pub mod LockedState
-pub mod Kept
 pub mod Lives
 pub mod OfficeLaws
 pub mod OwnLaws
-pub use Rattle.log_journal.specs.Founded
 pub use Rattle.log_journal.specs.Stands
 pub use Rattle.log_journal.specs.DiskState
 pub use Rattle.office_index.specs.Register

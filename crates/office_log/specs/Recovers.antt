@@ -8,7 +8,3 @@ use Rattle.log_stamps.specs.declared.entry.StampedEntry.{StampedEntry}
 -- the file stands for the spellings of this history, and the history is legal
 abbrev pub Recovers : List ℕ → List (StampedEntry Filing) → Type 0
 Recovers = list.Recovers office_scheme
-
--- the file recovers one history or the other
-abbrev pub RecoversEither : List (StampedEntry Filing) → List (StampedEntry Filing) → List ℕ → Type 0
-RecoversEither = list.RecoversEither office_scheme

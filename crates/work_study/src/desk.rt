@@ -5,8 +5,7 @@ ghost use Rattle.work_study.specs.Funds.{award_at, rest as rest_of};
 
 use crate::table::WorkStudy;
 use aid_types::{School, Student, Year};
-use io_traits::Disk;
-use log_rules::{RuleMachine, RuledOffice};
+use log_rules::RuleMachine;
 
 /// A desk whose funds are awarded of.
 pub trait FundBalances {
@@ -31,17 +30,5 @@ impl FundBalances for RuleMachine<WorkStudy> {
 
     fn has_award(&self, school: School, student: Student, year: Year) -> bool {
         self.index().has_award(school, student, year)
-    }
-}
-
-impl<D: Disk> FundBalances for RuledOffice<D, WorkStudy> {
-    ghost history = { λ office. office.list.history };
-
-    fn rest(&self, school: School, year: Year) -> u32 {
-        self.list().rest(school, year)
-    }
-
-    fn has_award(&self, school: School, student: Student, year: Year) -> bool {
-        self.list().has_award(school, student, year)
     }
 }

@@ -24,18 +24,8 @@ pub use facts::{WorkFacts, WorkOutcome};
 pub use filing::{DollarFacts, EarnFacts, FundFacts, WorkFiling, WorkWhat};
 pub use index::WorkIndex;
 pub use laws::{allowed_adds_up, allowed_length, allowed_small, room_left};
-use log_rules::{RuleMachine, RuledOffice, RuledReply};
 pub use names::{AwardName, FundName};
 pub use policies::SchoolPolicies;
 pub use rows::{AwardRow, FundRow};
 pub use rules::{MOST_WORK_FILINGS, broken, earning, outcome};
 pub use table::WorkStudy;
-
-/// A list of work-study filings, each of which breaks no rule on those before it.
-pub type WorkList = RuleMachine<WorkStudy>;
-
-/// A work-study office over a journal.
-pub type WorkOffice<D> = RuledOffice<D, WorkStudy>;
-
-/// What a work-study office replies to a filing.
-pub type WorkReply = RuledReply<WorkOutcome>;
