@@ -29,7 +29,7 @@ pub fn web_causes<D: Disk, P: Acceptor, K: Sink>()
 {}
 
 /// Unless the ports stayed as they were, they were served: over honest ports the disk's count of faults rose by at least the number
-/// of all 503 that were answered, or stands at its last value.
+/// of all 503 that were answered, or stands at its last value; and where none was it stood still.
 pub fn faults_are_counted<D: Disk, P: Acceptor, K: Sink>()
     ensures { (sessions : ℕ) (stamp : Stamp) (old new : D) (before after : List P) (out out' : K) (status : ℕ) → RanWeb D.Disk K.Sink P.tells P.faults sessions stamp old new before after out out' status
         → (after ≡ before) ⊎ CountsFaults D.Disk P.tells P.faults sessions stamp old new before after }

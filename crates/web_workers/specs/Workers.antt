@@ -106,6 +106,8 @@ pub record Ran {Entry P : Type 0} (opening closed : Snapshot (Filed Entry)) (wor
   -- the list that a worker saw last is the older part of the closed one
   pub seen : All (λ (d : WorkerView Entry P). IsOlder (seen_in d.handle) closed.list) workers
   pub faults : RoseBy (sum_by (λ (d : WorkerView Entry P). faults_in d.handle) workers) opening.faults closed.faults
+  -- where no worker was told of a fault there was none
+  pub still : sum_by (λ (d : WorkerView Entry P). faults_in d.handle) workers ≡ 0 → closed.faults ≡ opening.faults
   pub fixed : closed.fixed ≡ opening.fixed
 
 -- What a worker did, with a pass that knew nothing but the opening list.
