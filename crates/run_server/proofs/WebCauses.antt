@@ -92,8 +92,13 @@ failed_rose ended.AcceptorFault n limit old new is ended_so = ended_so.1
 
 done_served : (e : WebEnd) (n limit old new : ℕ) → has_failed e ≡ false → HasStopped e n limit old new → n ≡ limit
 done_served ended.Open n limit old new is ended_so = absurd ended_so
-done_served ended.Done n limit old new is ended_so = ended_so
+done_served ended.Done n limit old new is ended_so = ended_so.0
 done_served ended.AcceptorFault n limit old new is ended_so = absurd (let bad : ⊥ = cc in bad)
+
+done_still : (e : WebEnd) (n limit old new : ℕ) → has_failed e ≡ false → HasStopped e n limit old new → new ≡ old
+done_still ended.Open n limit old new is ended_so = absurd ended_so
+done_still ended.Done n limit old new is ended_so = ended_so.1
+done_still ended.AcceptorFault n limit old new is ended_so = absurd (let bad : ⊥ = cc in bad)
 
 size_map : {A B : Type 0} (f : A → B) (xs : List A) → length (map f xs) ≡ length xs
 size_map f [] = refl
@@ -147,6 +152,19 @@ module _ {P : Type 0} (tells : P → AcceptorState) (faults : P → ℕ) (sessio
         closed = subst (λ old. IsTrue (tells old).honest → (tells (get_or after k p)).closed ≡ (tells old).closed ++ map closed_as one.served.sessions) (before_at k d)
             (subst (λ new. IsTrue (tells (get_or were k d).port).honest → (tells new).closed ≡ (tells (get_or were k d).port).closed ++ map closed_as one.served.sessions) (sym port_is ∙ after_at k d) one.served.closed);
       }
+
+  all_still : list_any (λ (d : WorkerView (StampedEntry Filing) P). has_failed d.ended) workers ≡ false → (k : ℕ) (p : P) → k < length before → faults (get_or after k p) ≡ faults (get_or before k p)
+  all_still none k p below =
+      let d : WorkerView (StampedEntry Filing) P = worker_of p in
+      let inside : k < length were = subst (λ n. k < n) (sym (size_map worker_of before)) below in
+      let size = shown_size workers has.workers has.shown in
+      let lt : k < length has.workers = omega (arith, inside, has.count) in
+      let shown = shown_at workers has.workers has.shown k d lt in
+      let one = has.each k d inside in
+      let ended_is : (get_or workers k d).ended ≡ (get_or has.workers k d).ended = ap (λ s. s.4) shown in
+      let port_is : (get_or workers k d).port ≡ (get_or has.workers k d).port = ap (λ s. s.1) shown in
+      let same : faults (get_or has.workers k d).port ≡ faults (get_or were k d).port = done_still (get_or has.workers k d).ended _ _ _ _ (ap has_failed (sym ended_is) ∙ any_none (λ (d : WorkerView (StampedEntry Filing) P). has_failed d.ended) workers none k d (omega (arith, lt, size))) one.stopped in
+      subst (λ old. faults (get_or after k p) ≡ faults old) (before_at k d) (subst (λ new. faults new ≡ faults (get_or were k d).port) (sym port_is ∙ after_at k d) same)
 
 -- ---- statuses
 -- the status of a run that ended by a stop is that of the stop, or a write failed
@@ -235,6 +253,12 @@ module _ {D K P : Type 0} (disk : Ghosts D) (sink : SinkGhosts K) (tells : P →
   all (unopened error _ could u cause still_disk same_ports e) is = absurd (not_by status 0 (open_status error) is (early sink (File (session.Opening error)) out out' status e) (λ n. (open_status_is error).1.1 (sym n)) (λ n. omega (arith, n)))
   all (starved past _ could opened still_disk same_ports e) is = absurd (not_by status 0 9 is (early sink (File (session.Filing filing.NoMemory)) out out' status e) (λ n. omega (arith, n)) (λ n. omega (arith, n)))
   all (served past history pending log waiting at workers _ could opened has ports sound moments e) is = all_back tells faults sessions stamp _ _ before after workers has ports (zero_by sink out out' status (any_starved workers) (any_failed workers) e is)
+
+  pub still : RanWeb disk sink tells faults sessions stamp old new before after out out' status → status ≡ 0 → (k : ℕ) (p : P) → k < length before → faults (get_or after k p) ≡ faults (get_or before k p)
+  still (unasked _ cannot same still_ports e) is k p lt = ap (λ l. faults (get_or l k p)) still_ports
+  still (unopened error _ could u cause still_disk same_ports e) is k p lt = ap (λ l. faults (get_or l k p)) same_ports
+  still (starved past _ could opened still_disk same_ports e) is k p lt = ap (λ l. faults (get_or l k p)) same_ports
+  still (served past history pending log waiting at workers _ could opened has ports sound moments e) is = all_still tells faults sessions stamp _ _ before after workers has ports (zero_by sink out out' status (any_starved workers) (any_failed workers) e is)
 
   pub complete : RanWeb disk sink tells faults sessions stamp old new before after out out' status → CanServe (length before) sessions → IsHonest (disk.tells old) → (past : List (StampedEntry Filing)) → Recovers office_scheme (disk.tells old).reads past
       → IsUnrisen (disk.faults old) (disk.faults new) → IsUnrisen (sink.faults out) (sink.faults out') → (HasAcceptorFault faults before after → ⊥) → (status ≡ 0) ⊎ (status ≡ 9)

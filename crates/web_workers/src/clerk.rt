@@ -1,5 +1,5 @@
 //! One connection is served by the turns of one pass.
-ghost use Rattle.std.specs.Prelude.{◌≡◌, ◌≤◌};
+ghost use Rattle.std.specs.Prelude.{◌≡◌, ◌≢◌, ◌≤◌};
 ghost use Rattle.io_traits.specs.Faults.{Rose};
 ghost use Rattle.web_session.specs.Exchange.{ServesNear};
 ghost use Rattle.web_session.specs.ConnectionState.{IsHonest};
@@ -120,6 +120,7 @@ pub fn serve_desk<
     ensures reached { HandleReaches (semantics_under stamp R.semantics) (own_under stamp R.own) T.scheme (record { by = by; handle = handle }) (record { by = by; handle = result.0 }) }
     ensures later { L.faults link.old ≤ L.faults link.new }
     ensures cause { result.1 ≡ End.ConnectionFault → Rose (L.faults link.old) (L.faults link.new) }
+    ensures unmoved { result.1 ≢ End.ConnectionFault → L.faults link.new ≡ L.faults link.old }
     ensures lock { result.0.lock ≡ handle.lock }
     ensures share { result.0.allowance ≡ handle.allowance }
     ensures opening { result.0.opening ≡ handle.opening }

@@ -52,6 +52,7 @@ fn serve_next<
     ensures served { IfSome result.1 (λ end. ServesNext (semantics_under stamp R.semantics) (own_under stamp R.own) T.scheme by handle result.0 (P.tells port.old) (P.tells port.new) end) }
     ensures failed { IfNone result.1 (FailsNext handle result.0 (P.tells port.old) (P.tells port.new)) }
     ensures cause { IfNone result.1 (Rose (P.faults port.old) (P.faults port.new)) }
+    ensures unmoved { IfSome result.1 (λ end. P.faults port.new ≡ P.faults port.old) }
     ensures later { P.faults port.old ≤ P.faults port.new }
     ensures lock { result.0.lock ≡ handle.lock }
     ensures share { result.0.allowance ≡ handle.allowance }
