@@ -254,11 +254,11 @@ module _ {D K P : Type 0} (disk : Ghosts D) (sink : SinkGhosts K) (tells : P →
   all (starved past _ could opened still_disk same_ports e) is = absurd (not_by status 0 9 is (early sink (File (session.Filing filing.NoMemory)) out out' status e) (λ n. omega (arith, n)) (λ n. omega (arith, n)))
   all (served past history pending log waiting at workers _ could opened has ports sound moments e) is = all_back tells faults sessions stamp _ _ before after workers has ports (zero_by sink out out' status (any_starved workers) (any_failed workers) e is)
 
-  pub still : RanWeb disk sink tells faults sessions stamp old new before after out out' status → status ≡ 0 → (k : ℕ) (p : P) → k < length before → faults (get_or after k p) ≡ faults (get_or before k p)
-  still (unasked _ cannot same still_ports e) is k p lt = ap (λ l. faults (get_or l k p)) still_ports
-  still (unopened error _ could u cause still_disk same_ports e) is k p lt = ap (λ l. faults (get_or l k p)) same_ports
-  still (starved past _ could opened still_disk same_ports e) is k p lt = ap (λ l. faults (get_or l k p)) same_ports
-  still (served past history pending log waiting at workers _ could opened has ports sound moments e) is = all_still tells faults sessions stamp _ _ before after workers has ports (zero_by sink out out' status (any_starved workers) (any_failed workers) e is)
+  pub ports_still : RanWeb disk sink tells faults sessions stamp old new before after out out' status → status ≡ 0 → (k : ℕ) (p : P) → k < length before → faults (get_or after k p) ≡ faults (get_or before k p)
+  ports_still (unasked _ cannot same still_ports e) is k p lt = ap (λ l. faults (get_or l k p)) still_ports
+  ports_still (unopened error _ could u cause still_disk same_ports e) is k p lt = ap (λ l. faults (get_or l k p)) same_ports
+  ports_still (starved past _ could opened still_disk same_ports e) is k p lt = ap (λ l. faults (get_or l k p)) same_ports
+  ports_still (served past history pending log waiting at workers _ could opened has ports sound moments e) is = all_still tells faults sessions stamp _ _ before after workers has ports (zero_by sink out out' status (any_starved workers) (any_failed workers) e is)
 
   pub complete : RanWeb disk sink tells faults sessions stamp old new before after out out' status → CanServe (length before) sessions → IsHonest (disk.tells old) → (past : List (StampedEntry Filing)) → Recovers office_scheme (disk.tells old).reads past
       → IsUnrisen (disk.faults old) (disk.faults new) → IsUnrisen (sink.faults out) (sink.faults out') → (HasAcceptorFault faults before after → ⊥) → (status ≡ 0) ⊎ (status ≡ 9)
