@@ -12,13 +12,13 @@ use Rattle.web_json.specs.Forms.{status_for}
 use Rattle.run_server.specs.OfficeApi.{office_web}
 
 pub unavailable : TellsFaults office_web
-unavailable (Answered (Admit outcome) front) = (λ is. let bad : ⊥ = cc in absurd bad, λ is. let bad : ⊥ = cc in absurd bad)
-unavailable (Answered (Again position outcome) front) = (λ is. let bad : ⊥ = cc in absurd bad, λ is. let bad : ⊥ = cc in absurd bad)
-unavailable (Answered (Refused refusal) front) = (λ is. let bad : ⊥ = cc in absurd bad, λ is. let bad : ⊥ = cc in absurd bad)
-unavailable (Answered (Quoted cents) front) = (λ is. let bad : ⊥ = cc in absurd bad, λ is. let bad : ⊥ = cc in absurd bad)
-unavailable (Answered (Standing row) front) = (λ is. let bad : ⊥ = cc in absurd bad, λ is. let bad : ⊥ = cc in absurd bad)
-unavailable (DiskFault undecided) = (λ is. refl, λ is. refl)
-unavailable NoMemory = (λ is. let bad : ⊥ = cc in absurd bad, λ is. let bad : ⊥ = cc in absurd bad)
+unavailable (Answered (Admit outcome) front) = ((λ is. absurd (let bad : ⊥ = cc in bad)), (λ is. absurd (let bad : ⊥ = cc in bad)))
+unavailable (Answered (Again position outcome) front) = ((λ is. absurd (let bad : ⊥ = cc in bad)), (λ is. absurd (let bad : ⊥ = cc in bad)))
+unavailable (Answered (Refused refusal) front) = ((λ is. absurd (let bad : ⊥ = cc in bad)), (λ is. absurd (let bad : ⊥ = cc in bad)))
+unavailable (Answered (Quoted cents) front) = ((λ is. absurd (let bad : ⊥ = cc in bad)), (λ is. absurd (let bad : ⊥ = cc in bad)))
+unavailable (Answered (Standing row) front) = ((λ is. absurd (let bad : ⊥ = cc in bad)), (λ is. absurd (let bad : ⊥ = cc in bad)))
+unavailable (DiskFault undecided) = ((λ is. refl), (λ is. refl))
+unavailable NoMemory = ((λ is. absurd (let bad : ⊥ = cc in bad)), (λ is. absurd (let bad : ⊥ = cc in bad)))
 
 pub created : (reply : LogReply Response) → status_for reply ≡ Created → IsTrue (is_added is_admit reply)
 created (Answered (Admit outcome) front) is = refl

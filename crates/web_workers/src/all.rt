@@ -2,7 +2,7 @@
 ghost use Rattle.std.specs.Prelude.{◌≡◌, ◌≤◌, ◌<◌, ℕ, [], None, Option, IfOk, IfErr, reverse, slice_index_or, length};
 ghost use Rattle.io_traits.specs.DiskState.{IsHonest};
 ghost use Rattle.log_machine.specs.Kept.{IsSound};
-ghost use Rattle.log_machine.specs.declared.names.RowName.{RowName as Name};
+ghost use Rattle.log_machine.specs.declared.names.RowName.{RowName};
 ghost use Rattle.log_stamps.specs.Stamped.{stamped_scheme};
 ghost use Rattle.log_stamps.specs.Rows.{semantics_under, own_under};
 ghost use Rattle.web_workers.specs.Workers.{WorkerView, HasServed, HoldsHandle, Works};
@@ -85,7 +85,7 @@ where
     requires few { length workers.old < 64 }
     requires decided { kept.pending ≡ None }
     requires begun { IsBegun D.Disk M.moment M.already kept.disk }
-    ensures served { IfOk result (λ closed. (waiting : Option Name) × HasServed (semantics_under stamp R.semantics) (own_under stamp R.own) T.scheme P.tells P.faults sessions (stand_of kept.history None [] None (D.faults kept.disk) (D.tells kept.disk).honest)
+    ensures served { IfOk result (λ closed. (waiting : Option RowName) × HasServed (semantics_under stamp R.semantics) (own_under stamp R.own) T.scheme P.tells P.faults sessions (stand_of kept.history None [] None (D.faults kept.disk) (D.tells kept.disk).honest)
         (stand_of closed.0.history closed.0.pending (reverse closed.1.items) waiting (D.faults closed.0.disk) (D.tells closed.0.disk).honest) workers.old workers.new) }
     ensures reached { IfOk result (λ closed. IsReached D.Disk (stamped_scheme R.stamped R.scheme) M.moment M.already (stand_of kept.history None [] None (D.faults kept.disk) (D.tells kept.disk).honest) closed.0.disk closed.0.history closed.0.pending) }
     ensures sound { IfOk result (λ closed. IsHonest (D.tells closed.0.disk) → IsSound (stamped_scheme R.stamped R.scheme) (D.tells closed.0.disk) closed.0.history closed.0.pending) }

@@ -30,3 +30,6 @@ loop-served-preserved g c = record {
   share = search rules;
   opening = search rules;
 }
+
+pub returns-clause-stopped : goal.returns-clause-stopped
+returns-clause-stopped g c = ((let t = c.loop-served-test.false in let most = c.loop-served.invariant.most in omega (arith, t, most)), c.loop-served.invariant.still)
