@@ -3,7 +3,7 @@ use crate::Filing;
 use aid_types::{Formula, Refusal, School, Student, Way, Year};
 
 /// What a desk asks: to file, the greatest Pell payment that the office would take, or where a student stands in a year.
-#[derive(Drop, PartialEq, Eq, Debug)]
+#[derive(Drop, PartialEq, Eq)]
 pub enum Operation {
     File(Filing),
     Quote {

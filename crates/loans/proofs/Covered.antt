@@ -10,7 +10,7 @@ use Rattle.loans.specs.declared.filing.LoanAmount.{LoanAmount}
 use Rattle.loans.specs.declared.filing.LoanFiling.{LoanFiling}
 use Rattle.loans.specs.declared.filing.LoanWhat.{LoanWhat}
 use Rattle.loans.specs.declared.filing.LoanWhat.TheVariants.{Limits, Borrower, Before, Lend, Cancel}
-use Rattle.loans.specs.Loans.{cancelled, cancelled_in, if_passes, in_all, in_year, is_sub, lent, lent_in, net, of_cells, same_program}
+use Rattle.loans.specs.Loans.{cancelled, cancelled_in, if_passes, is_sub, lent, lent_in, net, of_cells, same_program}
 use Rattle.loans.specs.Rules.{AreAllowed, breaks}
 use Rattle.loans.proofs.Holding.{cancel_holds}
 use Rattle.loans.proofs.NetSteps.{after}
@@ -140,18 +140,3 @@ step past key (Before b) ih h = λ cells. still (cancelled past (of_cells cells)
 pub covered : (past : List LoanFiling) → AreAllowed past → Covered past
 covered [] h = λ cells. zero-le
 covered (f ∷ past) h = step past f.key f.what (covered past h.0) h.1
-
--- at a student's program in a year and in all years, what was lent is the net and what was cancelled
-sum_of : (l c : ℕ) → c ≤ l → l ≡ (l - c) + c
-sum_of l c h = omega arith
-
-pub lent_in_year : (past : List LoanFiling) → AreAllowed past → (student year : ℕ) (sub : Bool) →
-    lent past (in_year student year sub) ≡ net past (in_year student year sub) + cancelled past (in_year student year sub)
-lent_in_year past h student year sub =
-    sum_of (lent past (in_year student year sub)) (cancelled past (in_year student year sub))
-    (covered past h (λ s y p. (s == student) && ((y == year) && same_program sub p)))
-
-pub lent_in_all : (past : List LoanFiling) → AreAllowed past → (student : ℕ) (sub : Bool) →
-    lent past (in_all student sub) ≡ net past (in_all student sub) + cancelled past (in_all student sub)
-lent_in_all past h student sub =
-    sum_of (lent past (in_all student sub)) (cancelled past (in_all student sub)) (covered past h (λ s y p. (s == student) && same_program sub p))

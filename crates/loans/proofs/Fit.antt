@@ -1,12 +1,10 @@
 -- Numbers of the fields of loan filings: those that stand first, and those behind them.
-use Rattle.std.proofs.Common.{◌≡◌, ℕ, zero, suc, ◌≤◌, ℤ, pos, List, [], ◌∷◌, ◌++◌, true, length, take, drop, refl, sym, ap, subst, ◌∙◌, append_assoc, length-append, arith}
+use Rattle.std.proofs.Common.{◌≡◌, ℕ, zero, suc, ◌≤◌, ℤ, pos, List, [], ◌∷◌, ◌++◌, true, length, take, drop, refl, sym, ap, subst, length-append, arith}
 use Rattle.std.specs.Prelude.{IsSome, IsTrue, Option, Some, None, int_le, map, replicate}
 use Rattle.std.specs.List.{list_all}
 use Rattle.std.proofs.lemmas.Bool.{and_from, and_parts}
 use Rattle.std.proofs.lemmas.Bool.Decides.{nat_tests}
 use Rattle.std.proofs.lemmas.Int.{ints}
-use Rattle.std.proofs.lemmas.List.{map-append, take-append-drop}
-use Rattle.std.proofs.lemmas.List.Folds.{list_all-append}
 use Rattle.aid_types.proofs.SignedLemmas.{int_le-true}
 use Rattle.aid_types.specs.Programs.{rank}
 use Rattle.aid_types.specs.declared.number.Key.{Key}
@@ -65,12 +63,6 @@ pub limits_fit : (x : LimitFacts) → IsTrue (is_between (pos 2000) (pos 2099) (
 limits_fit x year earlier =
     (year, dollars_fit limit_words (limits_in x) (pos x.year ∷ earlier) (levels_count x.sub x.dependent x.independent x.graduate x.aggregate_sub x.aggregate x.levels) x.in_range)
 
--- the lists of a year's limits put behind one another
-pub limits_added : (old : List ℤ) (year : ℤ) (a b c : List ℕ) (d : ℕ) (e f : List ℕ) →
-    old ++ (year ∷ []) ++ dollar_numbers a ++ dollar_numbers b ++ dollar_numbers c ++ dollar_numbers (d ∷ []) ++ dollar_numbers e ++ dollar_numbers f
-    ≡ old ++ (year ∷ dollar_numbers (a ++ b ++ c ++ d ∷ e ++ f))
-limits_added old year a b c d e f = simp (append_assoc, map-append)
-
 -- ---- the first numbers, and those behind them
 parted : (n : ℕ) (lines : List Line) (earlier zs : List ℤ) → AreNumbers (map plain lines) earlier zs
     → AreNumbers (map plain (take n lines)) earlier (take n zs) × FitSomewhere (map plain (drop n lines)) (drop n zs)
@@ -121,26 +113,6 @@ limits_parted zs h =
     let first = fit_parted 5 limits_lines zs fit in
     let second = fit_parted 7 (drop 5 limits_lines) (drop 5 zs) first.1 in
     record { many = as_many limits_lines fit.0 zs fit.1; front = first.0; middle = second.0; last = second.1 }
-
--- the limits that were read in three parts
-pub limits_joined : (zs : List ℤ) (year : ℕ) (a b c : List ℕ) (d : ℕ) (e f : List ℕ) → (pos year ∷ dollar_numbers a) ≡ take 5 zs
-    → dollar_numbers (b ++ c ++ d ∷ []) ≡ take 7 (drop 5 zs) → dollar_numbers (e ++ f) ≡ drop 7 (drop 5 zs)
-    → (pos year ∷ dollar_numbers (a ++ b ++ c ++ d ∷ e ++ f)) ≡ zs
-limits_joined zs year a b c d e f p q r =
-    let regrouped : dollar_numbers (a ++ b ++ c ++ d ∷ e ++ f) ≡ dollar_numbers a ++ (dollar_numbers (b ++ c ++ d ∷ []) ++ dollar_numbers (e ++ f)) = simp (append_assoc, map-append) in
-    ap (λ (ys : List ℤ). pos year ∷ ys) regrouped
-    ∙ (λ i. p i ++ (q i ++ r i))
-    ∙ ap (λ (ys : List ℤ). take 5 zs ++ ys) (take-append-drop 7 (drop 5 zs))
-    ∙ take-append-drop 5 zs
-
-each_append : (xs ys : List ℕ) → EachIsDollars xs → EachIsDollars ys → EachIsDollars (xs ++ ys)
-each_append xs ys h k = list_all-append is_dollars xs ys ∙ and_from (list_all is_dollars xs) (list_all is_dollars ys) h k
-
-pub dollars_joined : (a b c : List ℕ) (d : ℕ) (e f : List ℕ) → EachIsDollars a → EachIsDollars (b ++ c ++ d ∷ []) → EachIsDollars (e ++ f)
-    → EachIsDollars (a ++ b ++ c ++ d ∷ e ++ f)
-dollars_joined a b c d e f h k l =
-    let regrouped : a ++ b ++ c ++ d ∷ e ++ f ≡ a ++ ((b ++ c ++ d ∷ []) ++ (e ++ f)) = simp append_assoc in
-    subst EachIsDollars (sym regrouped) (each_append a ((b ++ c ++ d ∷ []) ++ (e ++ f)) h (each_append (b ++ c ++ d ∷ []) (e ++ f) k l))
 
 -- ---- the numbers of a filing, by those of its key and of what is filed
 pub what_fits : (x y : LoanWhat) → x ≡ y → FitAnywhere (slots_of_what y) (what_numbers y) → FitAnywhere (slots_of_what x) (what_numbers x)

@@ -1,5 +1,5 @@
--- The rows of an index with no filing, and with one more.
-use Rattle.std.proofs.Common.{◌≡◌, ℕ, ◌+◌, ◌-◌, ◌<◌, ◌≤◌, List, [], ◌∷◌, length, reverse, refl, subst, sym, arith}
+-- The rows of an index with one filing more.
+use Rattle.std.proofs.Common.{◌≡◌, ℕ, ◌+◌, ◌-◌, ◌<◌, ◌≤◌, List, ◌∷◌, length, subst, sym, arith}
 use Rattle.loans.specs.declared.filing.LoanFiling.{LoanFiling}
 use Rattle.loans.specs.Rules.{most_loan_filings}
 use Rattle.loans.specs.Rows.{AreIndexed, AreLimits, AreStudents, AreYears}
@@ -7,16 +7,6 @@ use Rattle.loans.specs.declared.names.StudentYear.{StudentYear}
 use Rattle.loans.specs.declared.rows.LimitsRow.{LimitsRow}
 use Rattle.loans.specs.declared.rows.StudentRow.{StudentRow}
 use Rattle.loans.specs.declared.rows.YearRow.{YearRow}
-
-none_indexed : AreIndexed [] [] [] []
-none_indexed = record { few = omega arith; limits_told = λ year. refl; students_told = λ student. refl; years_told = λ name. refl }
-
-pub empty_indexed : (h : List LoanFiling) (limits : List (ℕ × LimitsRow)) (students : List (ℕ × StudentRow)) (years : List (StudentYear × YearRow)) →
-    h ≡ [] → limits ≡ [] → students ≡ [] → years ≡ [] → AreIndexed (reverse h) limits students years
-empty_indexed h limits students years p q r s =
-    subst (λ (l : List LoanFiling). AreIndexed (reverse l) limits students years) (sym p)
-    (subst (λ (l : List (ℕ × LimitsRow)). AreIndexed [] l students years) (sym q)
-    (subst (λ (l : List (ℕ × StudentRow)). AreIndexed [] [] l years) (sym r) (subst (λ (l : List (StudentYear × YearRow)). AreIndexed [] [] [] l) (sym s) none_indexed)))
 
 pub index_grown : (past h : List LoanFiling) (f : LoanFiling) (limits : List (ℕ × LimitsRow)) (students : List (ℕ × StudentRow)) (years : List (StudentYear × YearRow)) →
     h ≡ f ∷ past → length past < most_loan_filings → AreLimits (f ∷ past) limits → AreStudents (f ∷ past) students → AreYears (f ∷ past) years → AreIndexed h limits students years

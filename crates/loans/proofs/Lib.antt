@@ -5,7 +5,6 @@ pub mod Earlier
 pub mod Grown
 pub mod Holding
 pub mod Lending
-pub mod NetAfter
 pub mod NetSteps
 pub mod NoRecord
 pub mod OnFile

@@ -5,16 +5,14 @@ use Rattle.std.proofs.lemmas.Bool.{eqb-true}
 use Rattle.aid_types.specs.declared.number.Key.{Key}
 use Rattle.loans.specs.declared.filing.BeforeFacts.{BeforeFacts}
 use Rattle.loans.specs.declared.filing.BorrowerFacts.{BorrowerFacts}
-use Rattle.loans.specs.declared.filing.LimitFacts.{LimitFacts}
 use Rattle.loans.specs.declared.filing.LoanFiling.{LoanFiling}
 use Rattle.loans.specs.declared.filing.LoanWhat.{LoanWhat}
 use Rattle.loans.specs.declared.filing.LoanWhat.TheVariants.{Limits, Borrower, Before, Lend, Cancel}
-use Rattle.loans.specs.Loans.{before, before_at, cancelled, earlier, earlier_or, higher, if_passes, in_all, in_year, is_sub, last_record, lent, limits, limits_at, limits_of, loan_at, record_in, same_program}
+use Rattle.loans.specs.Loans.{before, before_at, cancelled, earlier, earlier_or, higher, if_passes, in_all, in_year, is_sub, last_record, lent, loan_at, record_in, same_program}
 use Rattle.loans.specs.Rules.{student_of, year_of}
-use Rattle.loans.specs.Changes.{AreCovered, limits_after, nets_with, nets_without, student_after, year_after}
-use Rattle.loans.specs.Rows.{limits_row, nets_of_all, nets_of_year, student_row, year_row}
+use Rattle.loans.specs.Changes.{AreCovered, nets_with, nets_without, student_after, year_after}
+use Rattle.loans.specs.Rows.{nets_of_all, nets_of_year, student_row, year_row}
 use Rattle.loans.specs.declared.names.StudentYear.{StudentYear}
-use Rattle.loans.specs.declared.rows.LimitsRow.{LimitsRow}
 use Rattle.loans.specs.declared.rows.ProgramNets.{ProgramNets}
 use Rattle.loans.specs.declared.rows.StudentRow.{StudentRow}
 use Rattle.loans.specs.declared.rows.YearRow.{YearRow}
@@ -94,26 +92,6 @@ cancelled_nets : (b sub : Bool) (cents s t u v : ℕ) →
 cancelled_nets b sub cents s t u v =
     (λ i. nets_by (cancelled_net (b && sub) cents s t i) (cancelled_net (b && (if sub then false else true)) cents u v i))
     ∙ without_passing b sub cents (s - t) (u - v)
-
--- ---- the limits of a year
-abbrev limits_by : ℕ → Option LimitFacts → LimitsRow
-limits_by at limits = record { at = at; limits = limits }
-
-pub limits_filed : (past : List LoanFiling) (key : Key) (l : LimitFacts) (year : ℕ) →
-    limits_row (filed key (Limits l) ∷ past) year ≡ (if l.year == year then limits_after (length past + 1) l (limits_row past year) else limits_row past year)
-limits_filed past key l year = go (l.year == year)
-  where
-    go : (b : Bool) →
-        limits_by (earlier_or (limits_at past year) (if is_some (if b then Some l else None) then length past + 1 else 0)) (earlier (limits past year) (if b then Some l else None))
-        ≡ (if b then limits_after (length past + 1) l (limits_row past year) else limits_row past year)
-    go true = refl
-    go false = λ i. limits_by (kept_at (limits_at past year) i) (kept_option (limits past year) i)
-
--- no other filing changes them
-pub limits_kept : (past : List LoanFiling) (f : LoanFiling) → ((year : ℕ) → limits_of year f.what ≡ None) → (year : ℕ) → limits_row (f ∷ past) year ≡ limits_row past year
-limits_kept past f none year =
-    (λ i. limits_by (earlier_or (limits_at past year) (if is_some (none year i) then length past + 1 else 0)) (earlier (limits past year) (none year i)))
-    ∙ (λ i. limits_by (kept_at (limits_at past year) i) (kept_option (limits past year) i))
 
 -- ---- a student
 abbrev student_by : Option BorrowerFacts → ℕ → Option BeforeFacts → ℕ → ProgramNets → StudentRow

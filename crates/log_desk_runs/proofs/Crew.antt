@@ -8,19 +8,7 @@ use Rattle.log_machine.specs.declared.names.Filed.{Filed}
 use Rattle.log_desks.specs.Answered.{Files}
 use Rattle.log_desks.specs.Desks.{DeskView, IsReady, Ran, Works, all_shown, shown_of}
 use Rattle.log_lock.specs.declared.turned.Snapshot.{Snapshot}
-use Rattle.io_traits.specs.declared.disk.Disk.{Ghosts}
-use Rattle.log_desks.specs.Shares.{stand_of}
-use Rattle.log_machine.specs.declared.names.RowName.{RowName}
 use Rattle.log_desk_runs.specs.RanDesksOn.{FilesOwn, HasFiled}
-
--- a list whose parts are the same stands the same
-pub stand_same : {D Entry : Type 0} (disk : Ghosts D) (h h' : List Entry) (p p' : Option Entry) (l l' : List RowName) (w : Option RowName) (d d' : D) → h' ≡ h → p' ≡ p → l' ≡ l → d' ≡ d
-    → stand_of h' p' l' w (disk.faults d') (disk.tells d').honest ≡ stand_of h p l w (disk.faults d) (disk.tells d).honest
-stand_same {D} {Entry} disk h h' p p' l l' w d d' same_h same_p same_l same_d =
-    ap (λ (x : List Entry). stand_of x p' l' w (disk.faults d') (disk.tells d').honest) same_h
-    ∙ (ap (λ (x : Option Entry). stand_of h x l' w (disk.faults d') (disk.tells d').honest) same_p
-    ∙ (ap (λ (x : List RowName). stand_of h p x w (disk.faults d') (disk.tells d').honest) same_l
-    ∙ ap (λ (x : D). stand_of h p l w (disk.faults x) (disk.tells x).honest) same_d))
 
 -- what is shown of lists of desks is shown of each of them
 pub shown_at : {Entry Lines : Type 0} (xs ys : List (DeskView Entry Lines)) → all_shown xs ≡ all_shown ys → (k : ℕ) (d : DeskView Entry Lines) → k < length ys → shown_of (get_or xs k d) ≡ shown_of (get_or ys k d)

@@ -55,9 +55,9 @@ module _ {D I RowFormat K Entry Operation Response Error Lines : Type 0} (scheme
 
   -- desks whose inputs were read end otherwise
   files_other : (before : List (DeskView Entry Lines)) (status n : ℕ) → FilesAll scheme semantics own copied same texts untaken disk sink old new before out out' status → 0 < n → n < 4 → status ≡ n → ⊥
-  files_other before status n (unopened error _ u rose ends) some less is =
+  files_other before status n (unopened error _ u rose same ends) some less is =
       let shows = ends_as (open_line error) (open_status error) status n ends less is in let after = opened_after error in omega (arith, shows, after, less)
-  files_other before status n (starved past _ opened ends) some less is =
+  files_other before status n (starved past _ opened same ends) some less is =
       let shows = ends_as (codes "fault memory\n") 9 status n ends less is in omega (arith, shows, less)
   files_other before status n (worked after past history pending log waiting at _ opened filed sound moments ends) some less is =
       few_statuses after n some (λ e. omega (arith, e, less)) (λ e. omega (arith, e, less)) (ends_as _ (desks_status after) status n ends less is)

@@ -1,6 +1,6 @@
 -- Faults of desks are counted, and the lists that a desk's rows were answered on go on from one another.
-use Rattle.std.proofs.Common.{◌≡◌, ◌⊎◌, inl, inr, ℕ, zero, suc, ◌+◌, ◌<◌, ◌≤◌, Bool, true, false, List, [], ◌∷◌, ◌++◌, length, get_or, Option, Some, None, Result, Ok, Err, refl, sym, ap, ◌∙◌, arith, append_assoc, length-append}
-use Rattle.std.proofs.lemmas.Bool.{false≢true}
+use Rattle.std.proofs.Common.{◌≡◌, ◌≢◌, ◌⊎◌, inl, inr, ℕ, zero, suc, ◌+◌, ◌<◌, ◌≤◌, Bool, true, false, List, [], ◌∷◌, ◌++◌, length, get_or, Option, Some, None, Result, Ok, Err, refl, sym, ap, ◌∙◌, arith, append_assoc, length-append}
+use Rattle.std.proofs.lemmas.Bool.{false≢true, true≢false}
 use Rattle.std.proofs.lemmas.List.Sums.{sum_by-cons}
 use Rattle.std.specs.Prelude.{◌||◌, sum_by, if◌then◌else◌}
 use Rattle.std.specs.List.{list_any}
@@ -19,7 +19,7 @@ use Rattle.log_desks.specs.declared.stop.DeskEnd.{DeskEnd}
 use Rattle.log_desks.specs.declared.stop.DeskEnd.TheVariants.{Open, Done, Stopped}
 use Rattle.log_desks.specs.declared.stop.DeskStop.TheVariants.{DiskFault, NoMemory}
 use Rattle.log_desk_runs.specs.DeskTexts.{desks_status, had_disk_fault, had_no_memory}
-use Rattle.log_desk_runs.specs.DesksDone.{disk_faults, faulted_in}
+use Rattle.log_desk_runs.specs.DesksDone.{MovedAt, disk_faults, faulted_in}
 
 -- a count that rose by so many rose by fewer
 pub fewer_rose : (n m a b : ℕ) → m ≤ n → RoseBy n a b → RoseBy m a b
@@ -29,6 +29,10 @@ fewer_rose n m a b le (inr last) = inr last
 pub rose_once : (a b : ℕ) → Rose a b → RoseBy 1 a b
 rose_once a b (inl more) = inl (omega (arith, more))
 rose_once a b (inr last) = inr (omega (arith, last))
+
+-- a count that stood still, at a status other than 5
+pub stood : (status a b : ℕ) → status ≢ 5 → b ≡ a → MovedAt status a b
+stood status a b other same = record { rose = λ is. absurd (other is); still = λ four five. same }
 
 -- what a desk's pass was told of faults is what its end says
 pub faults_told : {Entry Operation Error Meaning : Type 0} (own : Operation → Option Entry) (by : RowName) (ended : DeskEnd) (taken : List (Result Operation Error)) (rest : List Meaning) (known : Known (Filed Entry))
@@ -55,6 +59,13 @@ first_or_later Done later n is more = let le = more is in omega (arith, le)
 first_or_later (Stopped (DiskFault undecided)) later n is more = omega arith
 first_or_later (Stopped NoMemory) later n is more = let le = more is in omega (arith, le)
 
+-- no desk had one
+none_or_later : (ended : DeskEnd) (later : Bool) (n : ℕ) → (had_disk_fault ended || later) ≡ false → (later ≡ false → n ≡ 0) → disk_faults ended + n ≡ 0
+none_or_later Open later n is none = let zero_is = none is in omega (arith, zero_is)
+none_or_later Done later n is none = let zero_is = none is in omega (arith, zero_is)
+none_or_later (Stopped (DiskFault undecided)) later n is none = absurd (true≢false is)
+none_or_later (Stopped NoMemory) later n is none = let zero_is = none is in omega (arith, zero_is)
+
 module _ {Entry Lines : Type 0} where
   -- the faults of desks are seen in what is shown of them
   faulted_as_shown : (desks : List (DeskView Entry Lines)) → faulted_in desks ≡ sum_by (λ s. disk_faults s.5) (all_shown desks)
@@ -74,6 +85,25 @@ module _ {Entry Lines : Type 0} where
       let sum : faulted_in (x ∷ desks) ≡ disk_faults x.ended + faulted_in desks = sum_by-cons (λ (d : DeskView Entry Lines). disk_faults d.ended) x desks in
       let le : 1 ≤ disk_faults x.ended + faulted_in desks = first_or_later x.ended (list_any (λ (d : DeskView Entry Lines). had_disk_fault d.ended) desks) (faulted_in desks) is (some_faulted desks) in
       omega (arith, sum, le)
+
+  none_faulted : (desks : List (DeskView Entry Lines)) → list_any (λ (d : DeskView Entry Lines). had_disk_fault d.ended) desks ≡ false → faulted_in desks ≡ 0
+  none_faulted [] is = refl
+  none_faulted (x ∷ desks) is =
+      let sum : faulted_in (x ∷ desks) ≡ disk_faults x.ended + faulted_in desks = sum_by-cons (λ (d : DeskView Entry Lines). disk_faults d.ended) x desks in
+      let none : disk_faults x.ended + faulted_in desks ≡ 0 = none_or_later x.ended (list_any (λ (d : DeskView Entry Lines). had_disk_fault d.ended) desks) (faulted_in desks) is (none_faulted desks) in
+      omega (arith, sum, none)
+
+  -- the count moved as the status says, where all was written
+  pub moved_by_faults : (desks : List (DeskView Entry Lines)) (a b : ℕ) → RoseBy (faulted_in desks) a b → (faulted_in desks ≡ 0 → b ≡ a) → MovedAt (desks_status desks) a b
+  moved_by_faults desks a b rose still = go (list_any (λ (d : DeskView Entry Lines). had_disk_fault d.ended) desks) (list_any (λ (d : DeskView Entry Lines). had_no_memory d.ended) desks) refl
+    where
+      status : Bool → Bool → ℕ
+      status faulted starved = if faulted then 5 else if starved then 9 else 0
+
+      go : (faulted starved : Bool) → list_any (λ (d : DeskView Entry Lines). had_disk_fault d.ended) desks ≡ faulted → MovedAt (status faulted starved) a b
+      go true starved is = record { rose = λ five. fewer_rose (faulted_in desks) 1 a b (some_faulted desks is) rose; still = λ four other. absurd (other refl) }
+      go false true is = stood 9 a b (λ e. omega (arith, e)) (still (none_faulted desks is))
+      go false false is = stood 0 a b (λ e. omega (arith, e)) (still (none_faulted desks is))
 
   -- the status where all was written shows whether a desk had a fault of the disk
   pub status_by_faults : (desks : List (DeskView Entry Lines)) → ((desks_status desks ≡ 0) ⊎ (desks_status desks ≡ 9)) ⊎ (1 ≤ faulted_in desks)

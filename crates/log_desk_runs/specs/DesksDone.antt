@@ -15,6 +15,7 @@ use Rattle.log_machine.specs.Texts.{Texts}
 use Rattle.log_machine.specs.declared.names.Filed.{Filed}
 use Rattle.log_machine.specs.declared.names.RowName.{RowName}
 use Rattle.log_runs.specs.Ends.{IsShort}
+use Rattle.log_lock.specs.Turning.{RoseBy}
 use Rattle.log_lock.specs.declared.turned.Snapshot.{Snapshot}
 use Rattle.log_desk_runs.specs.RanDesksOn.{AreFew, FilesOwn, HasFiled, HasStood}
 use Rattle.log_desk_runs.specs.Reads.{Reads}
@@ -39,6 +40,11 @@ pub record FailsFirst {I RowFormat : Type 0} (reads : Reads I RowFormat) (old ne
   pub inside : place < length old
   pub rose : (i : I) → Rose (reads.faults (get_or old place i)) (reads.faults (get_or new place i))
   pub before : (k : ℕ) (i : I) → k < place → HasStood reads old new k i
+
+-- the disk's count of faults rose where the status is 5, and stood still at every other one but 4
+pub record MovedAt (status old new : ℕ) : Type 0 where
+  pub rose : status ≡ 5 → RoseBy 1 old new
+  pub still : status ≢ 4 → status ≢ 5 → new ≡ old
 
 -- a desk that ended in a fault of the disk was told of one, and any other of none
 abbrev pub disk_faults : DeskEnd → ℕ

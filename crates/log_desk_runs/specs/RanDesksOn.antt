@@ -1,5 +1,5 @@
 -- What a run of many desks does: their inputs, the list on the disk, what they filed, the text and the status.
-use Rattle.std.specs.Prelude.{◌≡◌, ◌≢◌, ◌+◌, ◌<◌, ◌≤◌, ◌++◌, ℕ, Bool, IsTrue, List, [], ◌∷◌, length, reverse, Option, Some, None, get_or, codes}
+use Rattle.std.specs.Prelude.{◌≡◌, ◌≢◌, ◌⊎◌, ◌+◌, ◌<◌, ◌≤◌, ◌++◌, ℕ, Bool, IsTrue, List, [], ◌∷◌, length, reverse, Option, Some, None, get_or, codes}
 use Rattle.std.specs.List.{All}
 use Rattle.io_traits.specs.Faults.{Rose}
 use Rattle.io_traits.specs.declared.sink.Sink.{Ghosts as SinkGhosts}
@@ -125,10 +125,12 @@ pub data FilesAll {D K Entry Operation Response Error Lines : Type 0} (scheme : 
   -- no list was opened
   unopened : (error : OpenError) (status : ℕ) → IsUnopened disk scheme error old new
       → (error ≡ opening.DiskFault → Rose (disk.faults old) (disk.faults new))
+      → (error ≡ opening.DiskFault) ⊎ (disk.faults new ≡ disk.faults old)
       → EndsWith sink (open_line error) (open_status error) out out' status
       → FilesAll scheme semantics own copied same texts left disk sink old new before out out' status
   -- there was no memory for the desks: nothing was filed
-  starved : (past : List Entry) (status : ℕ) → IsOpened disk scheme past old new → EndsWith sink (codes "fault memory\n") 9 out out' status
+  starved : (past : List Entry) (status : ℕ) → IsOpened disk scheme past old new → disk.faults new ≡ disk.faults old
+      → EndsWith sink (codes "fault memory\n") 9 out out' status
       → FilesAll scheme semantics own copied same texts left disk sink old new before out out' status
   -- The desks filed. Each image of the disk then recovers the list at the end, with or without one undecided entry. At each moment from the
   -- opening on each image recovers a list on the way to it.

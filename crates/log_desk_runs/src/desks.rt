@@ -13,7 +13,7 @@ ghost use Rattle.log_desks.specs.Shares.{stand_of, IsBegun, IsReached};
 ghost use Rattle.log_machine.specs.declared.names.RowName.{RowName};
 ghost use Rattle.log_runs.specs.Ends.{EndsWith};
 ghost use Rattle.log_desk_runs.specs.DeskTexts.{admitted_text, desks_status as desks_status_of, desks_text};
-ghost use Rattle.log_desk_runs.specs.DesksDone.{CanFile, NoneRose};
+ghost use Rattle.log_desk_runs.specs.DesksDone.{CanFile, MovedAt, NoneRose};
 ghost use Rattle.log_desk_runs.specs.Names.{names_of};
 ghost use Rattle.log_desk_runs.specs.RanDesksOn.{AreFew, AreNew, AreRead, FilesAll, HasFiled, IsUnreadAt, Joins, RanDesksOn};
 
@@ -266,6 +266,9 @@ where
     ensures complete { CanFile R.scheme I.reads inputs.old (D.tells disk) → NoneRose I.reads inputs.old inputs.new → ¬ (Rose (K.faults out.old) (K.faults out.new))
         → ¬ (RoseBy 1 (D.faults disk) (D.faults result.1)) → (result.0 ≡ 0) ⊎ (result.0 ≡ 9) }
     ensures disk_honest { (D.tells result.1).honest ≡ (D.tells disk).honest }
+
+    // The disk's count rose where the status is 5, and stood still at every other one but 4.
+    ensures disk { MovedAt result.0 (D.faults disk) (D.faults result.1) }
 {
     if !can_file(inputs.len()) {
         return (end_with(RunStop::Usage, out), disk);

@@ -78,6 +78,7 @@ module _ {Entry Lines : Type 0} (lock : TableId) (opening : Snapshot (Filed Entr
     pending = λ entry is. subst (λ l. Contains l (length closed.list + 1, entry)) g.left (c.pending entry is);
     seen = All-weaker (λ (d : DeskView Entry Lines). IsOlder (seen_in d.handle) handle.seen) (λ (d : DeskView Entry Lines). IsOlder (seen_in d.handle) closed.list) (λ d older. older_trans (seen_in d.handle) handle.seen closed.list older c.seen) desks g.seen;
     faults = subst (λ n. RoseBy n opening.faults closed.faults) g.faults (subst (λ (s : Snapshot (Filed Entry)). RoseBy handle.faults s.faults closed.faults) g.opening_is c.faults);
+    still = λ none. c.still (g.faults ∙ none) ∙ ap (λ (s : Snapshot (Filed Entry)). s.faults) g.opening_is;
     fixed = c.fixed ∙ ap (λ (s : Snapshot (Filed Entry)). s.fixed) g.opening_is;
   }
 

@@ -7,6 +7,7 @@ use Rattle.log_machine.specs.Recovers.{Recovers}
 use Rattle.log_machine.specs.Scheme.{Scheme, Semantics}
 use Rattle.log_machine.specs.Submits.{Submits, RecoversOnWay, with_entry, after_ask}
 use Rattle.log_machine.specs.declared.names.Filed.{Filed}
+use Rattle.log_machine.specs.declared.names.RowName.{RowName}
 use Rattle.log_machine.specs.declared.reply.LogReply.{LogReply}
 use Rattle.log_machine.specs.declared.reply.LogReply.TheVariants.{Answered, DiskFault, NoMemory}
 use Rattle.log_lock.specs.Passes.{IsOlder}
@@ -14,6 +15,15 @@ use Rattle.log_lock.specs.declared.turned.Snapshot.{Snapshot}
 use Rattle.log_lock.proofs.Lists.{older_refl, older_trans}
 use Rattle.log_desks.specs.Shares.{Shared, stand_of, IsBegun, IsReached, RecoversBetween}
 use Rattle.log_desks.proofs.Going.{entries_filed}
+
+-- a list whose parts are the same stands the same
+pub stand_same : {D Entry : Type 0} (disk : Ghosts D) (h h' : List Entry) (p p' : Option Entry) (l l' : List RowName) (w : Option RowName) (d d' : D) → h' ≡ h → p' ≡ p → l' ≡ l → d' ≡ d
+    → stand_of h' p' l' w (disk.faults d') (disk.tells d').honest ≡ stand_of h p l w (disk.faults d) (disk.tells d).honest
+stand_same {D} {Entry} disk h h' p p' l l' w d d' same_h same_p same_l same_d =
+    ap (λ (x : List Entry). stand_of x p' l' w (disk.faults d') (disk.tells d').honest) same_h
+    ∙ (ap (λ (x : Option Entry). stand_of h x l' w (disk.faults d') (disk.tells d').honest) same_p
+    ∙ (ap (λ (x : List RowName). stand_of h p x w (disk.faults d') (disk.tells d').honest) same_l
+    ∙ ap (λ (x : D). stand_of h p l w (disk.faults x) (disk.tells x).honest) same_d))
 
 older_with : {E : Type 0} (o : Option E) (list : List E) → IsOlder list (with_entry o list)
 older_with None list = older_refl list
@@ -27,6 +37,15 @@ module _ {D Entry : Type 0} (disk : Ghosts D) (scheme : Scheme Entry) (moment : 
     later = λ honest. omega (arith, begun.now);
     older = subst (λ l. IsOlder l s.history) (sym (entries_filed s.history s.log)) (older_refl s.history);
     each = λ honest t file before since. inl (begun.all t file since);
+  }
+
+  -- so is one at which nothing is asked of moments
+  pub begins_anyhow : moment ≡ 0 → ((t : ℕ) (file : List ℕ) → already t file) → (s : Shared D Entry)
+      → IsReached disk scheme moment already (stand_of s.history s.pending s.log s.waiting (disk.faults s.disk) (disk.tells s.disk).honest) s.disk s.history s.pending
+  begins_anyhow first all s = record {
+    later = λ honest. omega (arith, first);
+    older = subst (λ l. IsOlder l s.history) (sym (entries_filed s.history s.log)) (older_refl s.history);
+    each = λ honest t file before since. inl (all t file);
   }
 
   module _ {Operation Response : Type 0} (semantics : Semantics Entry Operation Response) (start : Snapshot (Filed Entry)) (old new : Shared D Entry) (operation : Operation) where

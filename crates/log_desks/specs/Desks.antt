@@ -121,4 +121,6 @@ pub record Ran {Entry Lines : Type 0} (opening closed : Snapshot (Filed Entry)) 
   -- the list that a desk saw last is the older part of the closed one
   pub seen : All (λ (d : DeskView Entry Lines). IsOlder (seen_in d.handle) closed.list) desks
   pub faults : RoseBy (sum_by (λ (d : DeskView Entry Lines). faults_in d.handle) desks) opening.faults closed.faults
+  -- where no desk was told of a fault there was none
+  pub still : sum_by (λ (d : DeskView Entry Lines). faults_in d.handle) desks ≡ 0 → closed.faults ≡ opening.faults
   pub fixed : closed.fixed ≡ opening.fixed

@@ -68,7 +68,3 @@ module _ {Entry Outcome : Type 0} (ruling : Ruling Entry Outcome) where
   kept_pushed h pushed f o position old new was is push kept admitted here written grown =
       let turned : reverse pushed ≡ record { entry = f; outcome = o } ∷ reverse h = ap (λ (l : List (Filed Entry Outcome)). reverse l) push ∙ reverse-append h (record { entry = f; outcome = o } ∷ []) in
       subst (λ (l : List (Filed Entry Outcome)). IsKept ruling l new is) (sym turned) (kept_grown (reverse h) f o position old new was is kept admitted here written grown)
-
-  pub history_pushed : (h pushed : List (Filed Entry Outcome)) (f : Entry) (o : Outcome) → pushed ≡ h ++ record { entry = f; outcome = o } ∷ [] → history_of pushed ≡ f ∷ history_of h
-  history_pushed h pushed f o push =
-      ap (λ (l : List (Filed Entry Outcome)). history_of l) push ∙ ap (λ (l : List (Filed Entry Outcome)). entries_of l) (reverse-append h (record { entry = f; outcome = o } ∷ []))

@@ -5,7 +5,7 @@ use Rattle.sorted_rows.specs.Places.{value_at}
 use Rattle.aid_types.specs.declared.number.Key.{Key}
 use Rattle.log_rules.specs.Kept.{HaveOutcomes, IsKept, place_of}
 use Rattle.log_rules.specs.Names.{filing_cmp, filing_name}
-use Rattle.log_rules.specs.Ruled.{Standing, answer_at, answer_of, answer_there, earlier, entries_of, here_if, history_of, judged, same_key, standing_after, standing_of, standing_with, verdict_of}
+use Rattle.log_rules.specs.Ruled.{Standing, answer_at, answer_of, answer_there, earlier, entries_of, here_if, history_of, same_key, standing_after, standing_of, standing_with}
 use Rattle.log_rules.specs.Ruling.{Ruling}
 use Rattle.log_rules.specs.declared.number.FilingNumber.{FilingNumber}
 use Rattle.log_rules.specs.declared.rules.Filed.{Filed}
@@ -39,10 +39,6 @@ pub record StandsAt {Entry Outcome : Type 0} (o : Option (Standing Entry Outcome
 pub place_is : {Entry Outcome : Type 0} (o : Option (Standing Entry Outcome)) (p : ℕ) → place_of o ≡ Some p → StandsAt o p
 place_is None p e = absurd (let bad : ⊥ = cc in bad)
 place_is (Some s) p e = record { standing = s; is = refl; at = (let at : s.position ≡ p = cc in at) }
-
-pub place_none : {Entry Outcome : Type 0} (o : Option (Standing Entry Outcome)) → place_of o ≡ None → o ≡ None
-place_none None e = refl
-place_none (Some s) e = absurd (let bad : ⊥ = cc in bad)
 
 module _ {Entry Outcome : Type 0} (ruling : Ruling Entry Outcome) where
   -- a position is one of those of the filings that stand
@@ -115,11 +111,3 @@ module _ {Entry Outcome : Type 0} (ruling : Ruling Entry Outcome) where
       ap (λ (n : ℕ). answer_there ruling f (standing_with n x.entry x.outcome)) (sym position)
       ∙ ap (λ (s : Standing Entry Outcome). answer_there ruling f s) same
       ∙ ap (λ (o : Option (Standing Entry Outcome)). answer_at ruling (history_of h) f o) (sym stands.is)
-
-  pub answered_new : (h : List (Filed Entry Outcome)) (rows : List (FilingNumber × ℕ)) (on_file : List Entry) (f : Entry)
-      → IsKept ruling (reverse h) rows on_file → value_at filing_cmp (filing_name (ruling.key_of f)) rows ≡ None
-      → verdict_of (judged ruling on_file f) ≡ answer_of ruling (history_of h) f
-  answered_new h rows on_file f kept row =
-      let none = place_none (standing_of ruling (ruling.key_of f) (history_of h)) (sym (kept.keys (ruling.key_of f)) ∙ row) in
-      ap (λ (l : List Entry). verdict_of (judged ruling l f)) kept.index
-      ∙ ap (λ (o : Option (Standing Entry Outcome)). answer_at ruling (history_of h) f o) (sym none)

@@ -3,7 +3,7 @@ ghost use Rattle.std.specs.Prelude.{◌≡◌, None, IfSome};
 
 use crate::Rising;
 use crate::counting_disk::CountingDisk;
-use log_desks::{SharedList, Stage, WaitingRow};
+use log_desks::{SharedList, Since, Stage, WaitingRow};
 use log_lock::{LockHandle, LockedState, TicketLock};
 use log_machine::{Filed, Log, RowName, RowOperation, StateMachine};
 use std::alloc::{AllocError, Global};
@@ -38,7 +38,16 @@ fn row_step(event: Event, desk: u32, row: u32, number: u8) -> Step {
     }
 }
 
-type Numbers = SharedList<CountingDisk, Rising>;
+// Of the moments of the disk nothing is asked here. No value of it is made.
+struct AnyMoment;
+
+impl Since for AnyMoment {
+    ghost moment = { 0 };
+
+    ghost already = { λ t file. Unit {0} };
+}
+
+type Numbers = SharedList<CountingDisk, Rising, AnyMoment>;
 
 // Posts a row.
 fn post<R: Wait>(rt: &R, alloc: Global, turns: &TicketLock<Numbers>, step: Step, stage: Stage) {

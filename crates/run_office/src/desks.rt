@@ -8,6 +8,7 @@ ghost use Rattle.run_claims.specs.AtOnce.{RanAtOnce};
 ghost use Rattle.run_claims.specs.Filed.{rows_in};
 ghost use Rattle.run_claims.specs.Office.{Recovers};
 ghost use Rattle.log_lock.specs.Turning.{RoseBy};
+ghost use Rattle.log_desk_runs.specs.DesksDone.{MovedAt};
 ghost use Rattle.run_office.specs.RanDesks.{CanFile, NoneRose, RanDesks};
 ghost use Rattle.log_stamps.specs.declared.entry.StampedEntry.{StampedEntry};
 
@@ -83,6 +84,9 @@ pub fn run_desks<D: Disk + Send, S: Source, G: SyncPoint + Sync, K: Sink, H: Thr
     ensures complete { CanFile S.Source desks.old (D.tells disk) → NoneRose S.Source desks.old desks.new → ¬ (Rose (K.faults out.old) (K.faults out.new))
         → ¬ (RoseBy 1 (D.faults disk) (D.faults result.1)) → (result.0 ≡ 0) ⊎ (result.0 ≡ 9) }
     ensures disk_honest { (D.tells result.1).honest ≡ (D.tells disk).honest }
+
+    // The disk's count rose where the status is 5, and stood still at every other one but 4.
+    ensures disk { MovedAt result.0 (D.faults disk) (D.faults result.1) }
 {
     run_desks_on::<D, StampedOfficeMachine, DeskInput<S>, FilingEntryCopies, G, K, H>(
         rt, alloc, desks, disk, gate, out,

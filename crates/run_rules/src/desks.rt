@@ -1,7 +1,7 @@
 //! A run of many desks over a list under rules: each has an input of its own, and files its rows while the others file theirs.
 ghost use Rattle.std.specs.Prelude.{◌≡◌, ◌⊎◌, List, ℕ};
 ghost use Rattle.io_traits.specs.Faults.{Rose};
-ghost use Rattle.log_desk_runs.specs.DesksDone.{CanFile, NoneRose};
+ghost use Rattle.log_desk_runs.specs.DesksDone.{CanFile, MovedAt, NoneRose};
 ghost use Rattle.log_machine.specs.Recovers.{Recovers};
 ghost use Rattle.log_lock.specs.Turning.{RoseBy};
 ghost use Rattle.log_rules.specs.Ruled.{scheme_of};
@@ -69,6 +69,9 @@ where
     ensures complete { CanFile (scheme_of R.ruling) (reads_of {R = R} S.Source) desks.old (D.tells disk) → NoneRose (reads_of {R = R} S.Source) desks.old desks.new → ¬ (Rose (K.faults out.old) (K.faults out.new))
         → ¬ (RoseBy 1 (D.faults disk) (D.faults result.1)) → (result.0 ≡ 0) ⊎ (result.0 ≡ 9) }
     ensures disk_honest { (D.tells result.1).honest ≡ (D.tells disk).honest }
+
+    // The disk's count rose where the status is 5, and stood still at every other one but 4.
+    ensures disk { MovedAt result.0 (D.faults disk) (D.faults result.1) }
 {
     run_desks_on::<D, RuleMachine<R>, RuleDeskInput<S>, FilingEntryCopies<R>, G, K, H>(
         rt, alloc, desks, disk, gate, out,

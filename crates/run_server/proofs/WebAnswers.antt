@@ -67,12 +67,12 @@ module _ {D K P : Type 0} (disk : Ghosts D) (sink : SinkGhosts K) (tells : P →
 
   pub counted : RanWeb disk sink tells faults sessions stamp old new before after out out' status → (after ≡ before) ⊎ CountsFaults disk tells faults sessions stamp old new before after
   counted (unasked _ cannot same same_ports ends) = inl same_ports
-  counted (unopened error _ can opened cause same_ports ends) = inl same_ports
-  counted (starved past _ can opened same_ports ends) = inl same_ports
-  counted (served past history pending log waiting at workers _ can opened has ports sound ends) = inr (counts_faults past history pending log waiting at workers has ports sound)
+  counted (unopened error _ can opened cause still_disk same_ports ends) = inl same_ports
+  counted (starved past _ can opened still_disk same_ports ends) = inl same_ports
+  counted (served past history pending log waiting at workers _ can opened has ports sound moments ends) = inr (counts_faults past history pending log waiting at workers has ports sound)
 
   pub created : RanWeb disk sink tells faults sessions stamp old new before after out out' status → (after ≡ before) ⊎ KeepsCreated disk tells faults sessions stamp new before after
   created (unasked _ cannot same same_ports ends) = inl same_ports
-  created (unopened error _ can opened cause same_ports ends) = inl same_ports
-  created (starved past _ can opened same_ports ends) = inl same_ports
-  created (served past history pending log waiting at workers _ can opened has ports sound ends) = inr (keeps_created past history pending log waiting at workers has ports sound)
+  created (unopened error _ can opened cause still_disk same_ports ends) = inl same_ports
+  created (starved past _ can opened still_disk same_ports ends) = inl same_ports
+  created (served past history pending log waiting at workers _ can opened has ports sound moments ends) = inr (keeps_created past history pending log waiting at workers has ports sound)

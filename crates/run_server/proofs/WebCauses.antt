@@ -6,15 +6,16 @@ use Rattle.std.proofs.Math.ListN.{get_or-map}
 use Rattle.io_traits.specs.Faults.{Rose}
 use Rattle.io_traits.specs.declared.sink.Sink.{Ghosts as SinkGhosts}
 use Rattle.aid_filings.specs.declared.filing.Filing.{Filing}
-use Rattle.io_traits.specs.DiskState.{IsHonest}
+use Rattle.io_traits.specs.DiskState.{EachMoment, IsHonest}
 use Rattle.io_traits.specs.declared.disk.Disk.{Ghosts}
 use Rattle.log_journal.specs.declared.opening.OpenError.{OpenError}
 use Rattle.log_journal.specs.declared.opening.OpenError.TheVariants as opening
-use Rattle.log_desks.specs.Shares.{stand_of}
+use Rattle.log_desks.specs.Shares.{RecoversBetween, stand_of}
 use Rattle.log_machine.specs.declared.names.Filed.{Filed}
 use Rattle.log_machine.specs.declared.names.RowName.{RowName}
 use Rattle.log_machine.specs.Kept.{IsSound}
 use Rattle.log_machine.specs.Recovers.{Recovers}
+use Rattle.log_machine.specs.Submits.{with_entry}
 use Rattle.office_log.specs.Scheme.{office_scheme}
 use Rattle.office_log.specs.Submits.{filing_asked, filing_semantics}
 use Rattle.log_stamps.specs.Rows.{semantics_under, own_under}
@@ -42,13 +43,16 @@ module _ {D K P : Type 0} (disk : Ghosts D) (sink : SinkGhosts K) (tells : P →
   pub web_served : (old at now new : D) (before after : List P) (workers : List (WorkerView (StampedEntry Filing) P)) (past history : List (StampedEntry Filing)) (pending : Option (StampedEntry Filing)) (log : List RowName) (waiting : Option RowName) (out out' : K) (status : ℕ) (how : Result Unit RunStop)
       → CanServe (length before) sessions → IsOpened disk office_scheme past old at → disk.faults at ≡ disk.faults old
       → HasServed (semantics_under stamp filing_semantics) (own_under stamp filing_asked) office_web tells faults sessions (stand_of past None [] None (disk.faults at) (disk.tells at).honest) (stand_of history pending log waiting (disk.faults now) (disk.tells now).honest) (map worker_of before) workers
-      → after ≡ ports_of workers → new ≡ now → (IsHonest (disk.tells new) → IsSound office_scheme (disk.tells new) history pending) → how ≡ web_end workers → Ends sink out out' how status
+      → after ≡ ports_of workers → new ≡ now → (IsHonest (disk.tells new) → IsSound office_scheme (disk.tells new) history pending)
+      → (IsHonest (disk.tells now) → EachMoment (disk.tells at) (disk.tells now) (RecoversBetween office_scheme past (with_entry pending history))) → how ≡ web_end workers → Ends sink out out' how status
       → RanWeb disk sink tells faults sessions stamp old new before after out out' status
-  web_served old at now new before after workers past history pending log waiting out out' status how can opened unmoved has ports same sound is ends =
+  web_served old at now new before after workers past history pending log waiting out out' status how can opened unmoved has ports same sound moments is ends =
       served past history pending log waiting at workers status can opened
       (subst (λ (d : D). HasServed (semantics_under stamp filing_semantics) (own_under stamp filing_asked) office_web tells faults sessions (stand_of past None [] None (disk.faults old) (disk.tells at).honest) (stand_of history pending log waiting (disk.faults d) (disk.tells d).honest) (map worker_of before) workers) (sym same)
       (subst (λ n. HasServed (semantics_under stamp filing_semantics) (own_under stamp filing_asked) office_web tells faults sessions (stand_of past None [] None n (disk.tells at).honest) (stand_of history pending log waiting (disk.faults now) (disk.tells now).honest) (map worker_of before) workers) unmoved has))
-      ports sound (subst (λ h. Ends sink out out' h status) is ends)
+      ports sound
+      (subst (λ (d : D). IsHonest (disk.tells d) → EachMoment (disk.tells at) (disk.tells d) (RecoversBetween office_scheme past (with_entry pending history))) (sym same) moments)
+      (subst (λ h. Ends sink out out' h status) is ends)
 
 -- ---- the workers
 -- where a test passes, and where it passes nowhere
@@ -88,8 +92,13 @@ failed_rose ended.AcceptorFault n limit old new is ended_so = ended_so.1
 
 done_served : (e : WebEnd) (n limit old new : ℕ) → has_failed e ≡ false → HasStopped e n limit old new → n ≡ limit
 done_served ended.Open n limit old new is ended_so = absurd ended_so
-done_served ended.Done n limit old new is ended_so = ended_so
+done_served ended.Done n limit old new is ended_so = ended_so.0
 done_served ended.AcceptorFault n limit old new is ended_so = absurd (let bad : ⊥ = cc in bad)
+
+done_still : (e : WebEnd) (n limit old new : ℕ) → has_failed e ≡ false → HasStopped e n limit old new → new ≡ old
+done_still ended.Open n limit old new is ended_so = absurd ended_so
+done_still ended.Done n limit old new is ended_so = ended_so.1
+done_still ended.AcceptorFault n limit old new is ended_so = absurd (let bad : ⊥ = cc in bad)
 
 size_map : {A B : Type 0} (f : A → B) (xs : List A) → length (map f xs) ≡ length xs
 size_map f [] = refl
@@ -143,6 +152,19 @@ module _ {P : Type 0} (tells : P → AcceptorState) (faults : P → ℕ) (sessio
         closed = subst (λ old. IsTrue (tells old).honest → (tells (get_or after k p)).closed ≡ (tells old).closed ++ map closed_as one.served.sessions) (before_at k d)
             (subst (λ new. IsTrue (tells (get_or were k d).port).honest → (tells new).closed ≡ (tells (get_or were k d).port).closed ++ map closed_as one.served.sessions) (sym port_is ∙ after_at k d) one.served.closed);
       }
+
+  all_still : list_any (λ (d : WorkerView (StampedEntry Filing) P). has_failed d.ended) workers ≡ false → (k : ℕ) (p : P) → k < length before → faults (get_or after k p) ≡ faults (get_or before k p)
+  all_still none k p below =
+      let d : WorkerView (StampedEntry Filing) P = worker_of p in
+      let inside : k < length were = subst (λ n. k < n) (sym (size_map worker_of before)) below in
+      let size = shown_size workers has.workers has.shown in
+      let lt : k < length has.workers = omega (arith, inside, has.count) in
+      let shown = shown_at workers has.workers has.shown k d lt in
+      let one = has.each k d inside in
+      let ended_is : (get_or workers k d).ended ≡ (get_or has.workers k d).ended = ap (λ s. s.4) shown in
+      let port_is : (get_or workers k d).port ≡ (get_or has.workers k d).port = ap (λ s. s.1) shown in
+      let same : faults (get_or has.workers k d).port ≡ faults (get_or were k d).port = done_still (get_or has.workers k d).ended _ _ _ _ (ap has_failed (sym ended_is) ∙ any_none (λ (d : WorkerView (StampedEntry Filing) P). has_failed d.ended) workers none k d (omega (arith, lt, size))) one.stopped in
+      subst (λ old. faults (get_or after k p) ≡ faults old) (before_at k d) (subst (λ new. faults new ≡ faults (get_or were k d).port) (sym port_is ∙ after_at k d) same)
 
 -- ---- statuses
 -- the status of a run that ended by a stop is that of the stop, or a write failed
@@ -216,30 +238,36 @@ module _ {D K P : Type 0} (disk : Ghosts D) (sink : SinkGhosts K) (tells : P →
 
   pub usage : RanWeb disk sink tells faults sessions stamp old new before after out out' status → status ≡ 2 → CanServe (length before) sessions → ⊥
   usage (unasked _ cannot same still_ports e) is can = cannot can
-  usage (unopened error _ could u cause same_ports e) is can = not_by status 2 (open_status error) is (early sink (File (session.Opening error)) out out' status e) (λ n. (open_status_is error).0 (sym n)) (λ n. omega (arith, n))
-  usage (starved past _ could opened same_ports e) is can = not_by status 2 9 is (early sink (File (session.Filing filing.NoMemory)) out out' status e) (λ n. omega (arith, n)) (λ n. omega (arith, n))
-  usage (served past history pending log waiting at workers _ could opened has ports sound e) is can = usage_by sink out out' status (any_starved workers) (any_failed workers) e is
+  usage (unopened error _ could u cause still_disk same_ports e) is can = not_by status 2 (open_status error) is (early sink (File (session.Opening error)) out out' status e) (λ n. (open_status_is error).0 (sym n)) (λ n. omega (arith, n))
+  usage (starved past _ could opened still_disk same_ports e) is can = not_by status 2 9 is (early sink (File (session.Filing filing.NoMemory)) out out' status e) (λ n. omega (arith, n)) (λ n. omega (arith, n))
+  usage (served past history pending log waiting at workers _ could opened has ports sound moments e) is can = usage_by sink out out' status (any_starved workers) (any_failed workers) e is
 
   pub socket : RanWeb disk sink tells faults sessions stamp old new before after out out' status → status ≡ 10 → HasAcceptorFault faults before after
   socket (unasked _ cannot same still_ports e) is = absurd (not_by status 10 2 is (early sink Usage out out' status e) (λ n. omega (arith, n)) (λ n. omega (arith, n)))
-  socket (unopened error _ could u cause same_ports e) is = absurd (not_by status 10 (open_status error) is (early sink (File (session.Opening error)) out out' status e) (λ n. (open_status_is error).1.0 (sym n)) (λ n. omega (arith, n)))
-  socket (starved past _ could opened same_ports e) is = absurd (not_by status 10 9 is (early sink (File (session.Filing filing.NoMemory)) out out' status e) (λ n. omega (arith, n)) (λ n. omega (arith, n)))
-  socket (served past history pending log waiting at workers _ could opened has ports sound e) is = port_fault tells faults sessions stamp _ _ before after workers has ports (socket_by sink out out' status (any_starved workers) (any_failed workers) e is)
+  socket (unopened error _ could u cause still_disk same_ports e) is = absurd (not_by status 10 (open_status error) is (early sink (File (session.Opening error)) out out' status e) (λ n. (open_status_is error).1.0 (sym n)) (λ n. omega (arith, n)))
+  socket (starved past _ could opened still_disk same_ports e) is = absurd (not_by status 10 9 is (early sink (File (session.Filing filing.NoMemory)) out out' status e) (λ n. omega (arith, n)) (λ n. omega (arith, n)))
+  socket (served past history pending log waiting at workers _ could opened has ports sound moments e) is = port_fault tells faults sessions stamp _ _ before after workers has ports (socket_by sink out out' status (any_starved workers) (any_failed workers) e is)
 
   pub all : RanWeb disk sink tells faults sessions stamp old new before after out out' status → status ≡ 0 → (k : ℕ) (p : P) → k < length before → HasServedAll tells sessions (get_or before k p) (get_or after k p)
   all (unasked _ cannot same still_ports e) is = absurd (not_by status 0 2 is (early sink Usage out out' status e) (λ n. omega (arith, n)) (λ n. omega (arith, n)))
-  all (unopened error _ could u cause same_ports e) is = absurd (not_by status 0 (open_status error) is (early sink (File (session.Opening error)) out out' status e) (λ n. (open_status_is error).1.1 (sym n)) (λ n. omega (arith, n)))
-  all (starved past _ could opened same_ports e) is = absurd (not_by status 0 9 is (early sink (File (session.Filing filing.NoMemory)) out out' status e) (λ n. omega (arith, n)) (λ n. omega (arith, n)))
-  all (served past history pending log waiting at workers _ could opened has ports sound e) is = all_back tells faults sessions stamp _ _ before after workers has ports (zero_by sink out out' status (any_starved workers) (any_failed workers) e is)
+  all (unopened error _ could u cause still_disk same_ports e) is = absurd (not_by status 0 (open_status error) is (early sink (File (session.Opening error)) out out' status e) (λ n. (open_status_is error).1.1 (sym n)) (λ n. omega (arith, n)))
+  all (starved past _ could opened still_disk same_ports e) is = absurd (not_by status 0 9 is (early sink (File (session.Filing filing.NoMemory)) out out' status e) (λ n. omega (arith, n)) (λ n. omega (arith, n)))
+  all (served past history pending log waiting at workers _ could opened has ports sound moments e) is = all_back tells faults sessions stamp _ _ before after workers has ports (zero_by sink out out' status (any_starved workers) (any_failed workers) e is)
+
+  pub ports_still : RanWeb disk sink tells faults sessions stamp old new before after out out' status → status ≡ 0 → (k : ℕ) (p : P) → k < length before → faults (get_or after k p) ≡ faults (get_or before k p)
+  ports_still (unasked _ cannot same still_ports e) is k p lt = ap (λ l. faults (get_or l k p)) still_ports
+  ports_still (unopened error _ could u cause still_disk same_ports e) is k p lt = ap (λ l. faults (get_or l k p)) same_ports
+  ports_still (starved past _ could opened still_disk same_ports e) is k p lt = ap (λ l. faults (get_or l k p)) same_ports
+  ports_still (served past history pending log waiting at workers _ could opened has ports sound moments e) is = all_still tells faults sessions stamp _ _ before after workers has ports (zero_by sink out out' status (any_starved workers) (any_failed workers) e is)
 
   pub complete : RanWeb disk sink tells faults sessions stamp old new before after out out' status → CanServe (length before) sessions → IsHonest (disk.tells old) → (past : List (StampedEntry Filing)) → Recovers office_scheme (disk.tells old).reads past
       → IsUnrisen (disk.faults old) (disk.faults new) → IsUnrisen (sink.faults out) (sink.faults out') → (HasAcceptorFault faults before after → ⊥) → (status ≡ 0) ⊎ (status ≡ 9)
   complete (unasked _ cannot same still_ports e) can honest past recovers still quiet ports = absurd (cannot can)
-  complete (unopened error _ could u cause same_ports e) can honest past recovers still quiet ports = inr (go (u.complete honest past recovers))
+  complete (unopened error _ could u cause still_disk same_ports e) can honest past recovers still quiet ports = inr (go (u.complete honest past recovers))
     where
       go : (error ≡ opening.NoMemory) ⊎ (error ≡ opening.DiskFault) → status ≡ 9
       go (inl is) = early_still sink (File (session.Opening error)) out out' status e quiet ∙ ap open_status is
       go (inr is) = absurd (still (cause is))
-  complete (starved past' _ could opened same_ports e) can honest past recovers still quiet ports = inr (early_still sink (File (session.Filing filing.NoMemory)) out out' status e quiet)
-  complete (served past' history pending log waiting at workers _ could opened has given sound e) can honest past recovers still quiet none =
+  complete (starved past' _ could opened still_disk same_ports e) can honest past recovers still quiet ports = inr (early_still sink (File (session.Filing filing.NoMemory)) out out' status e quiet)
+  complete (served past' history pending log waiting at workers _ could opened has given sound moments e) can honest past recovers still quiet none =
       complete_by sink out out' status (any_starved workers) (any_failed workers) e quiet (λ failed. none (port_fault tells faults sessions stamp _ _ before after workers has given failed))

@@ -1,17 +1,18 @@
 -- What a run of the web desk does: the journal, the connections of each port, and the status. The workers that served the ports
 -- stay inside it.
-use Rattle.std.specs.Prelude.{◌≡◌, ◌<◌, ◌≤◌, ℕ, Bool, true, false, if◌then◌else◌, IsTrue, List, [], ◌++◌, length, map, get_or, Option, None, Result, Ok, Err}
+use Rattle.std.specs.Prelude.{◌≡◌, ◌⊎◌, ◌<◌, ◌≤◌, ℕ, Bool, true, false, if◌then◌else◌, IsTrue, List, [], ◌++◌, length, map, get_or, Option, None, Result, Ok, Err}
 use Rattle.std.specs.List.{list_any}
 use Rattle.io_traits.specs.Faults.{Rose}
 use Rattle.io_traits.specs.declared.sink.Sink.{Ghosts as SinkGhosts}
 use Rattle.aid_filings.specs.declared.filing.Filing.{Filing}
-use Rattle.io_traits.specs.DiskState.{IsHonest}
+use Rattle.io_traits.specs.DiskState.{EachMoment, IsHonest}
 use Rattle.io_traits.specs.declared.disk.Disk.{Ghosts}
 use Rattle.log_journal.specs.declared.opening.OpenError.{OpenError}
 use Rattle.log_journal.specs.declared.opening.OpenError.TheVariants as opening
-use Rattle.log_desks.specs.Shares.{stand_of}
+use Rattle.log_desks.specs.Shares.{RecoversBetween, stand_of}
 use Rattle.log_machine.specs.declared.names.RowName.{RowName}
 use Rattle.log_machine.specs.Kept.{IsSound}
+use Rattle.log_machine.specs.Submits.{with_entry}
 use Rattle.office_log.specs.Scheme.{office_scheme}
 use Rattle.office_log.specs.Submits.{filing_asked, filing_semantics}
 use Rattle.log_stamps.specs.Rows.{semantics_under, own_under}
@@ -56,18 +57,21 @@ pub data RanWeb {D K P : Type 0} (disk : Ghosts D) (sink : SinkGhosts K) (tells 
   unasked : (status : ℕ) → (CanServe (length before) sessions → ⊥) → new ≡ old → after ≡ before → Ends sink out out' (Err Usage) status
       → RanWeb disk sink tells faults sessions stamp old new before after out out' status
   -- no office was opened: no call was made on a port
-  unopened : (error : OpenError) (status : ℕ) → CanServe (length before) sessions → IsUnopened disk office_scheme error old new → (error ≡ opening.DiskFault → Rose (disk.faults old) (disk.faults new)) → after ≡ before → Ends sink out out' (Err (File (session.Opening error))) status
+  unopened : (error : OpenError) (status : ℕ) → CanServe (length before) sessions → IsUnopened disk office_scheme error old new → (error ≡ opening.DiskFault → Rose (disk.faults old) (disk.faults new))
+      → (error ≡ opening.DiskFault) ⊎ (disk.faults new ≡ disk.faults old) → after ≡ before → Ends sink out out' (Err (File (session.Opening error))) status
       → RanWeb disk sink tells faults sessions stamp old new before after out out' status
   -- there was no memory for the workers or their lock: no call was made on a port
-  starved : (past : List (StampedEntry Filing)) (status : ℕ) → CanServe (length before) sessions → IsOpened disk office_scheme past old new → after ≡ before → Ends sink out out' (Err (File (session.Filing filing.NoMemory))) status
+  starved : (past : List (StampedEntry Filing)) (status : ℕ) → CanServe (length before) sessions → IsOpened disk office_scheme past old new → disk.faults new ≡ disk.faults old → after ≡ before → Ends sink out out' (Err (File (session.Filing filing.NoMemory))) status
       → RanWeb disk sink tells faults sessions stamp old new before after out out' status
   -- The workers of these ports served, and gave them back. Each image of the disk then recovers the list at the end, with or without one undecided filing.
+  -- At each moment from the opening on each image recovers a list on the way to it.
   served : (past history : List (StampedEntry Filing)) (pending : Option (StampedEntry Filing)) (log : List RowName) (waiting : Option RowName) (at : D) (workers : List (WorkerView (StampedEntry Filing) P)) (status : ℕ)
       → CanServe (length before) sessions
       → IsOpened disk office_scheme past old at
       → HasServed (semantics_under stamp filing_semantics) (own_under stamp filing_asked) office_web tells faults sessions (stand_of past None [] None (disk.faults old) (disk.tells at).honest) (stand_of history pending log waiting (disk.faults new) (disk.tells new).honest) (map worker_of before) workers
       → after ≡ ports_of workers
       → (IsHonest (disk.tells new) → IsSound office_scheme (disk.tells new) history pending)
+      → (IsHonest (disk.tells new) → EachMoment (disk.tells at) (disk.tells new) (RecoversBetween office_scheme past (with_entry pending history)))
       → Ends sink out out' (web_end workers) status
       → RanWeb disk sink tells faults sessions stamp old new before after out out' status
 

@@ -29,11 +29,12 @@ pub record HasAnswered {D P : Type 0} (disk : Ghosts D) (tells : P → AcceptorS
   pub told : EachIsTold (semantics_under stamp filing_semantics) (own_under stamp filing_asked) office_web tells faults sessions opening closed (map worker_of before) workers served
   pub sound : IsHonest (disk.tells new) → IsSound office_scheme (disk.tells new) (entries_of closed.list) (entry_of closed.pending)
 
--- and the disk's count of faults rose by all 503 that were answered, where all ports are honest
+-- and the disk's count of faults rose by all 503 that were answered, where all ports are honest, and stood still where there was none
 pub record CountsFaults {D P : Type 0} (disk : Ghosts D) (tells : P → AcceptorState) (faults : P → ℕ) (sessions : ℕ) (stamp : Stamp) (old new : D) (before after : List P) : Type 0 where
   pub answered : HasAnswered disk tells faults sessions stamp new before after
   pub counted : (honest : AllHonest tells (map worker_of before)) (d : WorkerView (StampedEntry Filing) P)
       → RoseBy (all_unavailable (semantics_under stamp filing_semantics) (own_under stamp filing_asked) office_web tells faults sessions answered.opening answered.closed (map worker_of before) answered.workers answered.served answered.told honest d) (disk.faults old) (disk.faults new)
+      × (all_unavailable (semantics_under stamp filing_semantics) (own_under stamp filing_asked) office_web tells faults sessions answered.opening answered.closed (map worker_of before) answered.workers answered.served answered.told honest d ≡ 0 → disk.faults new ≡ disk.faults old)
 
 -- and where an honest port answered 201, the request's own filing stands in the list at the end
 pub record KeepsCreated {D P : Type 0} (disk : Ghosts D) (tells : P → AcceptorState) (faults : P → ℕ) (sessions : ℕ) (stamp : Stamp) (new : D) (before after : List P) : Type 0 where

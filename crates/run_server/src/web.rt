@@ -1,8 +1,5 @@
 // The web desk of the office: ports whose connections are served at once.
 ghost use Rattle.std.specs.Prelude.{◌≡◌, ◌≤◌, ◌<◌, [], false, true, Err, None, IfOk, IfErr, length, map};
-ghost use Rattle.io_traits.specs.DiskState.{IsHonest};
-ghost use Rattle.log_machine.specs.Kept.{IsSound};
-ghost use Rattle.office_log.specs.Scheme.{office_scheme};
 ghost use Rattle.web_workers.specs.Workers.{ports_of, worker_of};
 ghost use Rattle.run_server.specs.RanWeb.{CanServe, RanWeb, web_end as web_end_of};
 
@@ -10,12 +7,12 @@ use crate::workers::{give_back, into_workers, web_end};
 use aid_filings::{Operation, Response};
 use aid_stamps::Stamp;
 use io_traits::{Disk, Sink};
-use log_desks::SharedList;
 use log_machine::LogReply;
 use log_runs::{RunStop, end};
 use log_session::{FileStop, open};
 use office_log::{OfficeMachine, StampedOfficeMachine};
 use std::alloc::{AllocError, Global};
+use std::marker::Brand;
 use std::sync::Wait;
 use std::thread::Threads;
 use web_json::{ask_of, status_of, text_of};
@@ -62,14 +59,6 @@ fn can_serve(ports: usize, sessions: u32) -> bool
     0 < ports && ports <= MOST_DESKS && 0 < sessions && sessions <= MOST_SESSIONS
 }
 
-// The disk under a list that was shared.
-fn into_disk<D: Disk>(closed: SharedList<D, StampedOfficeMachine>) -> D
-    ensures disk { result ≡ closed.disk }
-    ensures sound { IsHonest (D.tells result) → IsSound office_scheme (D.tells result) closed.history closed.pending }
-{
-    closed.into_parts().0.into_disk()
-}
-
 /// Serves the office of the disk's file over these ports, and answers the status and the disk as it is then. So many
 /// connections of each port are served, one after the other, while the others' are; it ends early only where the port fails.
 /// A port's number is its place, counted from 1. One stamp is that of all filings that join by any of the connections.
@@ -103,7 +92,7 @@ where
     let Ok(mut workers) = into_workers(alloc, ports) else {
         return (end(Err(starved), out), kept.into_disk());
     };
-    match serve_ports::<D, OfficeMachine, OfficeApi, P, H>(
+    match serve_ports::<D, OfficeMachine, Brand, OfficeApi, P, H>(
         rt,
         alloc,
         kept,
@@ -111,10 +100,10 @@ where
         stamp,
         &mut workers,
     ) {
-        Ok(closed) => {
+        Ok((kept, _)) => {
             let status = end(web_end(&workers), out);
             give_back(workers, ports);
-            (status, into_disk(closed))
+            (status, kept.into_disk())
         }
         Err(kept) => {
             give_back(workers, ports);

@@ -13,7 +13,7 @@ use io_traits::{Disk, Sink};
 use web_session::Acceptor;
 
 /// The causes of a status: 2 comes only for numbers out of range, 10 only where a port failed, and 0 only where each port has
-/// back as many connections as it was to hand out. Over an honest disk whose file isn't damaged, where no count rose, the
+/// back as many connections as it was to hand out, and its count of faults stood still. Over an honest disk whose file isn't damaged, where no count rose, the
 /// status is 0 or 9.
 pub fn web_causes<D: Disk, P: Acceptor, K: Sink>()
     ensures usage { (sessions : ℕ) (stamp : Stamp) (old new : D) (before after : List P) (out out' : K) (status : ℕ) → RanWeb D.Disk K.Sink P.tells P.faults sessions stamp old new before after out out' status
@@ -22,6 +22,8 @@ pub fn web_causes<D: Disk, P: Acceptor, K: Sink>()
         → status ≡ 10 → HasAcceptorFault P.faults before after }
     ensures all { (sessions : ℕ) (stamp : Stamp) (old new : D) (before after : List P) (out out' : K) (status : ℕ) → RanWeb D.Disk K.Sink P.tells P.faults sessions stamp old new before after out out' status
         → status ≡ 0 → (k : ℕ) (p : P) → k < length before → HasServedAll P.tells sessions (get_or before k p) (get_or after k p) }
+    ensures still { (sessions : ℕ) (stamp : Stamp) (old new : D) (before after : List P) (out out' : K) (status : ℕ) → RanWeb D.Disk K.Sink P.tells P.faults sessions stamp old new before after out out' status
+        → status ≡ 0 → (k : ℕ) (p : P) → k < length before → P.faults (get_or after k p) ≡ P.faults (get_or before k p) }
     ensures complete { (sessions : ℕ) (stamp : Stamp) (old new : D) (before after : List P) (out out' : K) (status : ℕ) → RanWeb D.Disk K.Sink P.tells P.faults sessions stamp old new before after out out' status
         → CanServe (length before) sessions → IsHonest (D.tells old) → (past : List (StampedEntry Filing)) → Recovers office_scheme (D.tells old).reads past
         → IsUnrisen (D.faults old) (D.faults new) → IsUnrisen (K.faults out) (K.faults out') → (HasAcceptorFault P.faults before after → ⊥)
@@ -29,7 +31,7 @@ pub fn web_causes<D: Disk, P: Acceptor, K: Sink>()
 {}
 
 /// Unless the ports stayed as they were, they were served: over honest ports the disk's count of faults rose by at least the number
-/// of all 503 that were answered, or stands at its last value.
+/// of all 503 that were answered, or stands at its last value; and where none was it stood still.
 pub fn faults_are_counted<D: Disk, P: Acceptor, K: Sink>()
     ensures { (sessions : ℕ) (stamp : Stamp) (old new : D) (before after : List P) (out out' : K) (status : ℕ) → RanWeb D.Disk K.Sink P.tells P.faults sessions stamp old new before after out out' status
         → (after ≡ before) ⊎ CountsFaults D.Disk P.tells P.faults sessions stamp old new before after }

@@ -52,6 +52,7 @@ pub fn write_all<L: Connection>(link: &mut L, bytes: &[u8]) -> Result<(), Failed
     ensures front { IsHonest (L.tells link.old) → OnErr result (AppendsFront (L.tells link.old).text (L.tells link.new).text bytes.now) }
     ensures later { L.faults link.old ≤ L.faults link.new }
     ensures cause { OnErr result (Rose (L.faults link.old) (L.faults link.new)) }
+    ensures unmoved { OnOk result (L.faults link.new ≡ L.faults link.old) }
 {
     let mut rest = bytes;
     while !rest.is_empty() {

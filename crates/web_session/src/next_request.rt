@@ -1,5 +1,5 @@
 //! What the link brings of the next request.
-ghost use Rattle.std.specs.Prelude.{◌≡◌, ◌≤◌, ◌+◌, ◌++◌, [], List, ℕ, length, take, Some, IfOk, OnOk, IsErrOf};
+ghost use Rattle.std.specs.Prelude.{◌≡◌, ◌≢◌, ◌≤◌, ◌+◌, ◌++◌, [], List, ℕ, length, take, Some, IfOk, IfErr, OnOk, IsErrOf};
 ghost use Rattle.io_traits.specs.Faults.{Rose};
 ghost use Rattle.web_session.specs.ConnectionState.{IsHonest, IsPrefix};
 ghost use Rattle.web_session.specs.Calls.{the_routes};
@@ -47,6 +47,8 @@ fn await_request<L: Connection>(
     ensures at_once { IfOk result (λ l. IsBad l → (link.new ≡ link.old) × (held.new ≡ held.old)) }
     ensures later { L.faults link.old ≤ L.faults link.new }
     ensures cause { IsErrOf result Stop.Fault → Rose (L.faults link.old) (L.faults link.new) }
+    ensures unmoved { OnOk result (L.faults link.new ≡ L.faults link.old) }
+    ensures unmoved_err { IfErr result (λ stop. stop ≢ Stop.Fault → L.faults link.new ≡ L.faults link.old) }
 {
     match read_head(router, &held[..end]) {
         Err(status) => Ok(NextRequest::Bad(status)),
@@ -78,6 +80,8 @@ pub fn read_request<L: Connection>(
     ensures end { IsHonest (L.tells link.old) → IfOk result (λ l. IsMore l → (L.tells link.new).left ≡ []) }
     ensures later { L.faults link.old ≤ L.faults link.new }
     ensures cause { IsErrOf result Stop.Fault → Rose (L.faults link.old) (L.faults link.new) }
+    ensures unmoved { OnOk result (L.faults link.new ≡ L.faults link.old) }
+    ensures unmoved_err { IfErr result (λ stop. stop ≢ Stop.Fault → L.faults link.new ≡ L.faults link.old) }
 {
     match find_head(link, held)? {
         Found::End(end) => await_request(router, link, held, end),

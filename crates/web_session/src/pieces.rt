@@ -1,5 +1,5 @@
 //! What a link brings, piece by piece.
-ghost use Rattle.std.specs.Prelude.{◌≡◌, ◌++◌, ◌+◌, ◌<◌, ◌≤◌, [], true, false, length, take, IfOk, OnOk, IsErrOf};
+ghost use Rattle.std.specs.Prelude.{◌≡◌, ◌≢◌, ◌++◌, ◌+◌, ◌<◌, ◌≤◌, [], true, false, length, take, IfOk, IfErr, OnOk, IsErrOf};
 ghost use Rattle.io_traits.specs.Faults.{Rose};
 ghost use Rattle.web_session.specs.ConnectionState.{IsHonest, IsPrefix};
 ghost use Rattle.web_session.specs.Found.{HasGrown, FindsIn};
@@ -35,6 +35,8 @@ pub fn fill<L: Connection>(link: &mut L, held: &mut Vec<u8>) -> Result<bool, Sto
     ensures end { IsHonest (L.tells link.old) → IfOk result (λ more. more ≡ false → (L.tells link.new).left ≡ []) }
     ensures later { L.faults link.old ≤ L.faults link.new }
     ensures cause { IsErrOf result Stop.Fault → Rose (L.faults link.old) (L.faults link.new) }
+    ensures unmoved { OnOk result (L.faults link.new ≡ L.faults link.old) }
+    ensures unmoved_err { IfErr result (λ stop. stop ≢ Stop.Fault → L.faults link.new ≡ L.faults link.old) }
 {
     let mut piece = [0; PIECE];
     let Ok(count) = link.read(&mut piece) else {
@@ -69,6 +71,8 @@ pub fn find_head<L: Connection>(link: &mut L, held: &mut Vec<u8>) -> Result<Foun
     ensures end { IsHonest (L.tells link.old) → IfOk result (λ found. found ≡ Found.InputEnded → (L.tells link.new).left ≡ []) }
     ensures later { L.faults link.old ≤ L.faults link.new }
     ensures cause { IsErrOf result Stop.Fault → Rose (L.faults link.old) (L.faults link.new) }
+    ensures unmoved { OnOk result (L.faults link.new ≡ L.faults link.old) }
+    ensures unmoved_err { IfErr result (λ stop. stop ≢ Stop.Fault → L.faults link.new ≡ L.faults link.old) }
 {
     let mut scan = Scan::new();
     while held.len() < HEAD_LIMIT {
@@ -102,6 +106,8 @@ pub fn await_bytes<L: Connection>(
     ensures end { IsHonest (L.tells link.old) → IfOk result (λ enough. enough ≡ false → (L.tells link.new).left ≡ []) }
     ensures later { L.faults link.old ≤ L.faults link.new }
     ensures cause { IsErrOf result Stop.Fault → Rose (L.faults link.old) (L.faults link.new) }
+    ensures unmoved { OnOk result (L.faults link.new ≡ L.faults link.old) }
+    ensures unmoved_err { IfErr result (λ stop. stop ≢ Stop.Fault → L.faults link.new ≡ L.faults link.old) }
 {
     while held.len() < count {
         if !fill(link, held)? {

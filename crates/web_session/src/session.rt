@@ -1,5 +1,5 @@
 //! The session.
-ghost use Rattle.std.specs.Prelude.{◌≡◌, ◌⊎◌, ◌++◌, ◌+◌, ◌≤◌, ℕ, suc, length, drop, take, OnOk, OnErr, IfOk, MatchOption, Some, IsErrOf, List};
+ghost use Rattle.std.specs.Prelude.{◌≡◌, ◌≢◌, ◌⊎◌, ◌++◌, ◌+◌, ◌≤◌, ℕ, suc, length, drop, take, OnOk, OnErr, IfOk, IfErr, MatchOption, Some, IsErrOf, List};
 ghost use Rattle.io_traits.specs.Faults.{Rose};
 ghost use Rattle.web_session.specs.ConnectionState.{IsHonest, AppendsFront};
 ghost use Rattle.web_session.specs.Ends.{has_begun};
@@ -98,6 +98,8 @@ fn write_answer<L: Connection>(
     ensures err { IsHonest (L.tells link.old) → OnErr result (AppendsFront (L.tells link.old).text (L.tells link.new).text (response_of closes answer.now)) }
     ensures later { L.faults link.old ≤ L.faults link.new }
     ensures cause { IsErrOf result Stop.Fault → Rose (L.faults link.old) (L.faults link.new) }
+    ensures unmoved { OnOk result (L.faults link.new ≡ L.faults link.old) }
+    ensures unmoved_err { IfErr result (λ stop. stop ≢ Stop.Fault → L.faults link.new ≡ L.faults link.old) }
 {
     let Ok(response) = answer.response(alloc, closes) else {
         return Err(Stop::NoMemory);
@@ -127,6 +129,8 @@ fn respond_to<F: Api, C: Handler<F>, L: Connection>(
     ensures reached { Reaches (IsAsked C.asked C.faults F.scheme.status) clerk.old clerk.new }
     ensures later { L.faults link.old ≤ L.faults link.new }
     ensures cause { IsErrOf result Stop.Fault → Rose (L.faults link.old) (L.faults link.new) }
+    ensures unmoved { OnOk result (L.faults link.new ≡ L.faults link.old) }
+    ensures unmoved_err { IfErr result (λ stop. stop ≢ Stop.Fault → L.faults link.new ≡ L.faults link.old) }
 {
     let closes = head.closes;
     let Ok(answer) = answer_to::<F, C>(alloc, clerk, head, body, next) else {
@@ -143,6 +147,8 @@ fn reject<L: Connection>(alloc: Global, link: &mut L, status: Status) -> Result<
     ensures honest { (L.tells link.new).honest ≡ (L.tells link.old).honest }
     ensures later { L.faults link.old ≤ L.faults link.new }
     ensures cause { IsErrOf result Stop.Fault → Rose (L.faults link.old) (L.faults link.new) }
+    ensures unmoved { OnOk result (L.faults link.new ≡ L.faults link.old) }
+    ensures unmoved_err { IfErr result (λ stop. stop ≢ Stop.Fault → L.faults link.new ≡ L.faults link.old) }
 {
     let Ok(answer) = failure(alloc, status) else {
         return Err(Stop::NoMemory);
@@ -194,6 +200,7 @@ fn respond<F: Api, C: Handler<F>, L: Connection>(
     ensures reached { Reaches (IsAsked C.asked C.faults F.scheme.status) clerk.old clerk.new }
     ensures later { L.faults link.old ≤ L.faults link.new }
     ensures cause { result ≡ Some End.ConnectionFault → Rose (L.faults link.old) (L.faults link.new) }
+    ensures unmoved { result ≢ Some End.ConnectionFault → L.faults link.new ≡ L.faults link.old }
 {
     let size = end + head.length;
     let closes = head.closes;
@@ -229,6 +236,7 @@ fn serve_one<F: Api, C: Handler<F>, L: Connection>(
     ensures reached { Reaches (IsAsked C.asked C.faults F.scheme.status) clerk.old clerk.new }
     ensures later { L.faults link.old ≤ L.faults link.new }
     ensures cause { result ≡ Some End.ConnectionFault → Rose (L.faults link.old) (L.faults link.new) }
+    ensures unmoved { result ≢ Some End.ConnectionFault → L.faults link.new ≡ L.faults link.old }
 {
     match read_request(router, link, held) {
         Err(stop) => Some(end_of(stop)),
@@ -261,6 +269,7 @@ fn serve_up_to<F: Api, C: Handler<F>, L: Connection>(
     ensures reached { Reaches (IsAsked C.asked C.faults F.scheme.status) clerk.old clerk.new }
     ensures later { L.faults link.old ≤ L.faults link.new }
     ensures cause { result ≡ End.ConnectionFault → Rose (L.faults link.old) (L.faults link.new) }
+    ensures unmoved { result ≢ End.ConnectionFault → L.faults link.new ≡ L.faults link.old }
 {
     let mut held = Vec::new(alloc);
     let mut room = limit;
@@ -276,7 +285,8 @@ fn serve_up_to<F: Api, C: Handler<F>, L: Connection>(
 /// Serves a connection: what is written is the exchange of its bytes for a run of the clerk, however the link cuts them.
 /// At the ends `ConnectionFault` and `NoMemory` it is a front of that, and a link that tells nothing is promised the clerk's
 /// part alone: the clerk's asks follow one another, and nothing else changes it. Behind the requests answered, no more than a
-/// head, a body and a piece less one byte were taken from the link.
+/// head, a body and a piece less one byte were taken from the link. No call is made on the link once one has failed: its count
+/// of faults rose at `ConnectionFault`, and stood still at every other end.
 pub fn serve<F: Api, C: Handler<F>, L: Connection>(
     alloc: Global,
     clerk: &mut C,
@@ -287,6 +297,7 @@ pub fn serve<F: Api, C: Handler<F>, L: Connection>(
     ensures reached { Reaches (IsAsked C.asked C.faults F.scheme.status) clerk.old clerk.new }
     ensures later { L.faults link.old ≤ L.faults link.new }
     ensures cause { result ≡ End.ConnectionFault → Rose (L.faults link.old) (L.faults link.new) }
+    ensures unmoved { result ≢ End.ConnectionFault → L.faults link.new ≡ L.faults link.old }
 {
     let Ok(router) = routes(alloc) else {
         return End::NoMemory;

@@ -8,7 +8,7 @@ use aid_stamps::Stamp;
 use io_host::HostConnection;
 use io_memory::{MemoryConnection, MemoryDisk};
 use io_traits::Failed;
-use log_desks::SharedList;
+use log_desks::{SharedList, Since};
 use log_lock::TicketLock;
 use log_machine::{Log, RowName};
 use office_log::{OfficeMachine, StampedOfficeMachine};
@@ -58,6 +58,15 @@ fn opened(alloc: Global, disk: MemoryDisk) -> Option<Log<MemoryDisk, StampedOffi
     }
 }
 
+// Of the moments of the disk nothing is asked here. No value of it is made.
+struct AnyMoment;
+
+impl Since for AnyMoment {
+    ghost moment = { 0 };
+
+    ghost already = { λ t file. Unit {0} };
+}
+
 // How a session over a connection ends, for the office in a file, if it is opened.
 fn serve<L: Connection, H: Wait>(
     rt: &H,
@@ -66,11 +75,12 @@ fn serve<L: Connection, H: Wait>(
     link: &mut L,
 ) -> Option<End> {
     let kept = opened(alloc, disk)?;
-    let Ok((turns, handle)) = TicketLock::new(alloc, SharedList::new(alloc, kept), 1) else {
+    let shared = SharedList::<MemoryDisk, StampedOfficeMachine, AnyMoment>::new(alloc, kept);
+    let Ok((turns, handle)) = TicketLock::new(alloc, shared, 1) else {
         return None;
     };
     let by = RowName { desk: 1, row: 1 };
-    let (handle, end) = serve_desk::<MemoryDisk, OfficeMachine, OfficeApi, L, H>(
+    let (handle, end) = serve_desk::<MemoryDisk, OfficeMachine, AnyMoment, OfficeApi, L, H>(
         rt,
         alloc,
         &turns,

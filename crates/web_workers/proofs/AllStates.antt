@@ -1,12 +1,11 @@
 -- What the connections of all workers were told, of the list at the end.
-use Rattle.std.proofs.Common.{◌≡◌, ◌⊎◌, inl, inr, ⊎_elim, ℕ, zero, suc, ◌+◌, ◌<◌, ◌≤◌, IsTrue, List, [], ◌∷◌, ◌++◌, Option, Some, length, get_or, sym, subst, arith, zero-lt-suc}
+use Rattle.std.proofs.Common.{◌≡◌, ◌⊎◌, inl, inr, ⊎_elim, ℕ, zero, suc, ◌+◌, ◌<◌, IsTrue, List, [], ◌∷◌, ◌++◌, Option, Some, length, get_or, refl, sym, ◌∙◌, subst, arith, zero-lt-suc}
 use Rattle.std.specs.Prelude.{Contains}
 use Rattle.std.specs.List.{flat_map, sum_by}
 use Rattle.std.proofs.lemmas.List.Elements.{Contains-append_cases}
 use Rattle.std.proofs.lemmas.List.Sorted.{Contains-permutation}
 use Rattle.std.proofs.lemmas.List.Sums.{sum_by-cons}
 use Rattle.log_machine.specs.Scheme.{Semantics}
-use Rattle.log_machine.specs.Submits.{is_fault}
 use Rattle.log_machine.specs.declared.reply.LogReply.{LogReply}
 use Rattle.log_lock.specs.declared.turned.Snapshot.{Snapshot}
 use Rattle.log_lock.specs.Passes.{IsOlder, numbered}
@@ -16,10 +15,10 @@ use Rattle.log_machine.specs.Names.{entries_of}
 use Rattle.log_machine.specs.declared.names.Filed.{Filed}
 use Rattle.log_desks.proofs.Turning.{entries_older}
 use Rattle.web_session.specs.Asks.{Scheme}
-use Rattle.web_session.specs.declared.status.Status.TheVariants.{Unavailable}
 use Rattle.web_workers.specs.AllTold.{AllHonest, AreCounted, EachIsBrought, EachIsTold, all_unavailable, below_suc, sum_below}
 use Rattle.web_workers.specs.Closed.{IsBroughtBy, times_unavailable}
 use Rattle.web_session.specs.Ports.{AcceptorState}
+use Rattle.web_workers.specs.NewEntry.{TellsFaults}
 use Rattle.web_workers.specs.Workers.{HasServed, WorkerView}
 use Rattle.web_workers.proofs.Closing.{told_sessions}
 
@@ -36,20 +35,17 @@ in_one {X} f (x ∷ xs) a has = pick (in_one f xs a) (Contains-append_cases (f x
 none_in : {X : Type 0} (xs : List X) (x : X) → xs ≡ [] → Contains xs x → ⊥
 none_in xs x none has = let bad : Contains [] x = subst (λ l. Contains l x) none has in omega (arith, bad.1)
 
--- numbers that are no greater than those of a list have no greater sum
-sum_below-le : {X : Type 0} (g : X → ℕ) (d : X) (n : ℕ) (xs : List X) (f : (k : ℕ) → k < n → ℕ) → length xs ≡ n → ((k : ℕ) (below : k < n) → f k below ≤ g (get_or xs k d)) → sum_below n f ≤ sum_by g xs
-sum_below-le g d zero xs f size le = omega arith
-sum_below-le g d (suc n) [] f size le = absurd (omega (arith, size))
-sum_below-le g d (suc n) (x ∷ xs) f size le =
-    let one : f 0 (zero-lt-suc n) ≤ g x = le 0 (zero-lt-suc n) in
-    let more = sum_below-le g d n xs (λ k below. f (suc k) (below_suc k n below)) (omega (arith, size)) (λ k below. le (suc k) (below_suc k n below)) in
+-- numbers that are those of a list have the same sum
+sum_below-is : {X : Type 0} (g : X → ℕ) (d : X) (n : ℕ) (xs : List X) (f : (k : ℕ) → k < n → ℕ) → length xs ≡ n → ((k : ℕ) (below : k < n) → f k below ≡ g (get_or xs k d)) → sum_below n f ≡ sum_by g xs
+sum_below-is g d zero [] f size is = refl
+sum_below-is g d zero (x ∷ xs) f size is = absurd (omega (arith, size))
+sum_below-is g d (suc n) [] f size is = absurd (omega (arith, size))
+sum_below-is g d (suc n) (x ∷ xs) f size is =
+    let one : f 0 (zero-lt-suc n) ≡ g x = is 0 (zero-lt-suc n) in
+    let more = sum_below-is g d n xs (λ k below. f (suc k) (below_suc k n below)) (omega (arith, size)) (λ k below. is (suc k) (below_suc k n below)) in
     omega (arith, one, more, sum_by-cons g x xs)
 
-rose_less : (m n old new : ℕ) → m ≤ n → RoseBy n old new → RoseBy m old new
-rose_less m n old new le (inl rose) = inl (omega (arith, le, rose))
-rose_less m n old new le (inr last) = inr last
-
-module _ {Entry Operation Response P : Type 0} (semantics : Semantics Entry Operation Response) (own : Operation → Option Entry) (scheme : Scheme Operation (LogReply Response)) (own_added : (past : List Entry) (operation : Operation) (entry : Entry) → semantics.added past operation ≡ Some entry → own operation ≡ Some entry) (unavailable : (said : LogReply Response) → scheme.status said ≡ Unavailable → IsTrue (is_fault said)) (tells : P → AcceptorState) (faults : P → ℕ) (limit : ℕ) (opening closed : Snapshot (Filed Entry)) (before after : List (WorkerView Entry P)) (served : HasServed semantics own scheme tells faults limit opening closed before after) where
+module _ {Entry Operation Response P : Type 0} (semantics : Semantics Entry Operation Response) (own : Operation → Option Entry) (scheme : Scheme Operation (LogReply Response)) (own_added : (past : List Entry) (operation : Operation) (entry : Entry) → semantics.added past operation ≡ Some entry → own operation ≡ Some entry) (unavailable : TellsFaults scheme) (tells : P → AcceptorState) (faults : P → ℕ) (limit : ℕ) (opening closed : Snapshot (Filed Entry)) (before after : List (WorkerView Entry P)) (served : HasServed semantics own scheme tells faults limit opening closed before after) where
   pub each_told : EachIsTold semantics own scheme tells faults limit opening closed before after served
   each_told k d inside honest =
       let one = served.each k d inside in
@@ -95,18 +91,19 @@ module _ {Entry Operation Response P : Type 0} (semantics : Semantics Entry Oper
       (Contains-append_cases (flat_map (λ (d : WorkerView Entry P). mine_in d.handle) served.workers) (flat_map (λ (d : WorkerView Entry P). settled_in d.handle) served.workers) entry
       (Contains-permutation (numbered (length opening.list) served.ran.added) (flat_map (λ (d : WorkerView Entry P). mine_in d.handle) served.workers ++ flat_map (λ (d : WorkerView Entry P). settled_in d.handle) served.workers) entry served.ran.once has))
 
-  -- the disk's count of faults rose by all 503
+  -- the disk's count of faults rose by all 503, and stood still where there was none
   pub are_counted : (told : EachIsTold semantics own scheme tells faults limit opening closed before after served) → AreCounted semantics own scheme tells faults limit opening closed before after served told
-  are_counted told honest d =
-      rose_less (all_unavailable semantics own scheme tells faults limit opening closed before after served told honest d) (sum_by (λ (d : WorkerView Entry P). faults_in d.handle) served.workers) opening.faults closed.faults
-      (sum_below-le (λ (d : WorkerView Entry P). faults_in d.handle) d (length before) served.workers _ served.count at_most)
-      served.ran.faults
+  are_counted told honest d = (subst (λ n. RoseBy n opening.faults closed.faults) (sym all) served.ran.faults, λ none. served.ran.still (sym all ∙ none))
     where
-      at_most : (k : ℕ) (inside : k < length before)
-          → times_unavailable semantics own scheme (k + 1) (entries_of closed.list) (served.each k d inside).last.mine 1 (served.each k d inside).served.sessions (told k d inside (honest k d inside)).told ≤ faults_in (get_or served.workers k d).handle
-      at_most k inside =
+      exactly : (k : ℕ) (inside : k < length before)
+          → times_unavailable semantics own scheme (k + 1) (entries_of closed.list) (served.each k d inside).last.mine 1 (served.each k d inside).served.sessions (told k d inside (honest k d inside)).told ≡ faults_in (get_or served.workers k d).handle
+      exactly k inside =
           let one = served.each k d inside in
           let times = times_unavailable semantics own scheme (k + 1) (entries_of closed.list) one.last.mine 1 one.served.sessions (told k d inside (honest k d inside)).told in
-          let le = (told k d inside (honest k d inside)).faults in
-          let fewer : times ≤ one.last.faults = omega (arith, le) in
-          subst (λ p. times ≤ faults_in p) (sym one.has) fewer
+          let is = (told k d inside (honest k d inside)).faults in
+          let first = one.fresh.faults in
+          let same : times ≡ one.last.faults = omega (arith, is, first) in
+          subst (λ p. times ≡ faults_in p) (sym one.has) same
+
+      all : all_unavailable semantics own scheme tells faults limit opening closed before after served told honest d ≡ sum_by (λ (d : WorkerView Entry P). faults_in d.handle) served.workers
+      all = sum_below-is (λ (d : WorkerView Entry P). faults_in d.handle) d (length before) served.workers _ served.count exactly

@@ -4,7 +4,6 @@ use Rattle.std.specs.Prelude.{Contains}
 use Rattle.std.proofs.lemmas.List.{append-nil}
 use Rattle.std.proofs.lemmas.List.Elements.{Contains-append_left, Contains-append_cases, All-contains}
 use Rattle.log_machine.specs.Scheme.{Semantics}
-use Rattle.log_machine.specs.Submits.{is_fault}
 use Rattle.log_machine.specs.declared.reply.LogReply.{LogReply}
 use Rattle.log_lock.specs.Passes.{IsOlder, Known}
 use Rattle.log_lock.proofs.Lists.{older_refl, older_trans}
@@ -15,17 +14,17 @@ use Rattle.web_session.specs.Asks.{Scheme, Request}
 use Rattle.web_session.specs.Exchange.{Begins, IsExchange, IsFront, Run, Serves, Stops, unasked, asked, refused, responses}
 use Rattle.web_session.specs.Responses.{Answer}
 use Rattle.web_session.specs.declared.end.End.{End}
-use Rattle.web_session.specs.declared.status.Status.TheVariants.{Unavailable}
 use Rattle.web_session.specs.declared.end.End.TheVariants.{Closed, Cut, Rejected, Limit, ConnectionFault, NoMemory}
 use Rattle.web_session.proofs.Steps.{run_append}
 use Rattle.web_workers.specs.Clerks.{Clerking, HandleAnswers}
 use Rattle.web_workers.specs.Closed.{AreToldOf, HaveTold, IsBroughtBy, IsPart, IsTextOf, IsToldOf, IsWhole, silent, answering, rejecting}
 use Rattle.web_workers.specs.Sessions.{AreSessions, Session}
+use Rattle.web_workers.specs.NewEntry.{TellsFaults}
 use Rattle.web_workers.specs.Told.{HasTold, IsOwnOf}
 use Rattle.web_workers.proofs.Rejections.{done_available}
 use Rattle.web_workers.proofs.Telling.{answers_later, told_run}
 
-module _ {Entry Operation Response : Type 0} (semantics : Semantics Entry Operation Response) (own : Operation → Option Entry) (scheme : Scheme Operation (LogReply Response)) (own_added : (past : List Entry) (operation : Operation) (entry : Entry) → semantics.added past operation ≡ Some entry → own operation ≡ Some entry) (unavailable : (said : LogReply Response) → scheme.status said ≡ Unavailable → IsTrue (is_fault said)) where
+module _ {Entry Operation Response : Type 0} (semantics : Semantics Entry Operation Response) (own : Operation → Option Entry) (scheme : Scheme Operation (LogReply Response)) (own_added : (past : List Entry) (operation : Operation) (entry : Entry) → semantics.added past operation ≡ Some entry → own operation ≡ Some entry) (unavailable : TellsFaults scheme) where
   -- the requests of a session that were answered, and what they made of what the pass knows
   pub record Answered (by : RowName) (before : Known (Filed Entry)) (s : Session Entry) : Type 0 where
     pub done : List Request

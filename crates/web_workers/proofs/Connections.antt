@@ -1,5 +1,5 @@
 -- The connections of a port, one after the other.
-use Rattle.std.proofs.Common.{◌≡◌, ℕ, ◌+◌, Bool, true, false, IsTrue, List, [], ◌∷◌, ◌++◌, Option, Some, None, length, map, refl, sym, ap, ◌∙◌, subst, arith, append_assoc, length-append}
+use Rattle.std.proofs.Common.{◌≡◌, ◌≢◌, ℕ, ◌+◌, Bool, true, false, IsTrue, List, [], ◌∷◌, ◌++◌, Option, Some, None, length, map, refl, sym, ap, ◌∙◌, subst, arith, append_assoc, length-append}
 use Rattle.std.specs.Prelude.{◌||◌, IfSome, IfNone}
 use Rattle.std.specs.List.{list_any}
 use Rattle.std.proofs.lemmas.List.{append-nil}
@@ -47,15 +47,16 @@ module _ {Entry Operation Response : Type 0} (semantics : Semantics Entry Operat
       → mid.honest ≡ old.honest → (IsTrue old.honest → HandsOut old mid link) → faults ≡ 0
       → (IsHonest link → ServesNear (HandleAnswers semantics own scheme) 10000 link.left link'.left (record { by = by; handle = before }) (record { by = by; handle = after }) link.text link'.text end)
       → HandleReaches semantics own scheme (record { by = by; handle = before }) (record { by = by; handle = after })
-      → (end ≡ ConnectionFault → Rose faults faults')
+      → (end ≡ ConnectionFault → Rose faults faults') → (end ≢ ConnectionFault → faults' ≡ faults)
       → new.honest ≡ mid.honest → (IsTrue mid.honest → TakesBack mid new (record { text = link'.text; faults = faults' }))
       → ServesNext semantics own scheme by before after old new end
-  next_served by before after old mid new link link' faults faults' end same handed none exchange reached cause same' taken = record {
+  next_served by before after old mid new link link' faults faults' end same handed none exchange reached cause still same' taken = record {
     session = record { bytes = link.left; text = link'.text; faults = faults'; end = end; after = after };
     is = record {
       exchange = λ honest. subst (λ t. Serves (HandleAnswers semantics own scheme) 10000 link.left (record { by = by; handle = before }) (record { by = by; handle = after }) t link'.text end) (handed honest).empty (exchange (handed honest).honest).0;
       reached = reached;
       fault = λ is. subst (λ n. Rose n faults') none (cause is);
+      still = λ other. still other ∙ none;
     };
     after_is = refl;
     end_is = refl;

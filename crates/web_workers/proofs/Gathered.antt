@@ -64,5 +64,6 @@ module _ {Entry P : Type 0} (lock : TableId) (opening : Snapshot (Filed Entry)) 
     pending = λ entry is. subst (λ l. Contains l (length closed.list + 1, entry)) g.left (c.pending entry is);
     seen = All-weaker (λ (d : WorkerView Entry P). IsOlder (seen_in d.handle) handle.seen) (λ (d : WorkerView Entry P). IsOlder (seen_in d.handle) closed.list) (λ d older. older_trans (seen_in d.handle) handle.seen closed.list older c.seen) workers g.seen;
     faults = subst (λ n. RoseBy n opening.faults closed.faults) g.faults (subst (λ (s : Snapshot (Filed Entry)). RoseBy handle.faults s.faults closed.faults) g.opening_is c.faults);
+    still = λ none. c.still (g.faults ∙ none) ∙ ap (λ (s : Snapshot (Filed Entry)). s.faults) g.opening_is;
     fixed = c.fixed ∙ ap (λ (s : Snapshot (Filed Entry)). s.fixed) g.opening_is;
   }

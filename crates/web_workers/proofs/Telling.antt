@@ -5,7 +5,7 @@ use Rattle.std.specs.List.{All}
 use Rattle.std.proofs.lemmas.List.{append-nil}
 use Rattle.std.proofs.lemmas.List.Elements.{All-nil, All-cons, All-append, All-weaker, All-head, All-tail, Contains-append_left, Contains-append_right}
 use Rattle.log_machine.specs.Scheme.{Semantics}
-use Rattle.log_machine.specs.Submits.{after_ask, is_fault, with_entry}
+use Rattle.log_machine.specs.Submits.{after_ask, with_entry}
 use Rattle.log_machine.specs.declared.reply.LogReply.{LogReply}
 use Rattle.log_machine.specs.declared.reply.LogReply.TheVariants as reply
 use Rattle.log_lock.specs.Passes.{IsOlder, Known}
@@ -23,6 +23,7 @@ use Rattle.web_session.specs.declared.call.ApiCall.{ApiCall}
 use Rattle.web_session.specs.declared.status.Status.{Status}
 use Rattle.web_session.specs.declared.status.Status.TheVariants.{Okay, Created, BadRequest, NotFound, MethodNotAllowed, LengthRequired, ContentTooLarge, Unprocessable, HeadTooLarge, NotImplemented, Unavailable, NoStorage}
 use Rattle.web_workers.specs.Clerks.{Clerking, SubmitsOperation, HandleAnswers, clerk_faults}
+use Rattle.web_workers.specs.NewEntry.{TellsFaults}
 use Rattle.web_workers.specs.Told.{AreAnswersTo, HasTold, IsAnswerTo, IsAvailable, IsOwnOf, IsSaidOf, Rise, ask_by, ask_in, count_unavailable, one_if_unavailable, refusal_of}
 
 -- ---- 503
@@ -39,20 +40,6 @@ not_one HeadTooLarge ne = refl
 not_one NotImplemented ne = refl
 not_one Unavailable ne = absurd (ne refl)
 not_one NoStorage ne = refl
-
-at_most_one : (s : Status) → one_if_unavailable s ≤ 1
-at_most_one Okay = omega arith
-at_most_one Created = omega arith
-at_most_one BadRequest = omega arith
-at_most_one NotFound = omega arith
-at_most_one MethodNotAllowed = omega arith
-at_most_one LengthRequired = omega arith
-at_most_one ContentTooLarge = omega arith
-at_most_one Unprocessable = omega arith
-at_most_one HeadTooLarge = omega arith
-at_most_one NotImplemented = omega arith
-at_most_one Unavailable = omega arith
-at_most_one NoStorage = omega arith
 
 -- ---- positions that rise
 module _ {E : Type 0} where
@@ -123,7 +110,7 @@ module _ {Entry Operation Response : Type 0} (semantics : Semantics Entry Operat
     left_of entry (inl had) = left_of_both entry (one.left entry had)
     left_of entry (inr is) = inr (of_rest entry.1 is)
 
-    faults_of : All IsAvailable (request ∷ requests) → before.faults + count_unavailable (answer ∷ answers) ≤ after.faults
+    faults_of : All IsAvailable (request ∷ requests) → after.faults ≡ before.faults + count_unavailable (answer ∷ answers)
     faults_of all =
         let first = one.faults (All-cons IsAvailable request [] (All-head IsAvailable request requests all) (All-nil IsAvailable)) in
         let more = rest.faults (All-tail IsAvailable request requests all) in
@@ -171,7 +158,7 @@ module _ {Entry Operation Response : Type 0} (semantics : Semantics Entry Operat
           share = refl;
         })
 
-    module _ (own_added : (past : List Entry) (operation : Operation) (entry : Entry) → semantics.added past operation ≡ Some entry → own operation ≡ Some entry) (unavailable : (said : LogReply Response) → scheme.status said ≡ Unavailable → IsTrue (is_fault said)) where
+    module _ (own_added : (past : List Entry) (operation : Operation) (entry : Entry) → semantics.added past operation ≡ Some entry → own operation ≡ Some entry) (unavailable : TellsFaults scheme) where
       module _ (operation : Operation) (operations : ask_in semantics own scheme by request ≡ Some operation) (before after : Known (Filed Entry)) (lock_is : after.lock ≡ before.lock) (share_is : after.allowance ≡ before.allowance) where
         own_here : (filed : Filed Entry) → filed_by (own operation) by ≡ Some filed → IsOwnOf semantics own scheme by (request ∷ []) filed
         own_here filed is = (request, operation, (0, omega arith, refl), operations, is)
@@ -213,7 +200,7 @@ module _ {Entry Operation Response : Type 0} (semantics : Semantics Entry Operat
           owned = placed_own past (semantics.added past operation) refl;
           left = λ entry has. inl (on.left entry has);
           faults = λ all.
-              let none : one_if_unavailable answer.status ≡ 0 = ap (λ (a : Answer). one_if_unavailable a.status) is ∙ not_one (scheme.status (reply.Answered response front)) (λ bad. let no : IsTrue false = unavailable (reply.Answered response front) bad in let wrong : ⊥ = cc in wrong) in
+              let none : one_if_unavailable answer.status ≡ 0 = ap (λ (a : Answer). one_if_unavailable a.status) is ∙ not_one (scheme.status (reply.Answered response front)) (λ bad. let no : IsTrue false = (unavailable (reply.Answered response front)).0 bad in let wrong : ⊥ = cc in wrong) in
               omega (arith, none, on.faults);
           seen = older_trans (entries_of before.seen) past (entries_of after.seen) on.earlier (older_trans past (after_ask semantics past operation) (entries_of after.seen) (older_with (semantics.added past operation) past) on.later);
           opening = on.opening;
@@ -231,7 +218,9 @@ module _ {Entry Operation Response : Type 0} (semantics : Semantics Entry Operat
           rise = let le = older_length (entries_of before.seen) (entries_of after.seen) failed.earlier in omega (arith, le, entries_length before.seen, entries_length after.seen);
           owned = All-nil (λ (entry : ℕ × Filed Entry). IsOwnOf semantics own scheme by (request ∷ []) entry.1);
           left = λ entry has. left_now entry (failed.left entry has);
-          faults = λ all. let most = at_most_one answer.status in omega (arith, most, failed.faults);
+          faults = λ all.
+              let one : one_if_unavailable answer.status ≡ 1 = ap (λ (a : Answer). one_if_unavailable a.status) is ∙ ap one_if_unavailable ((unavailable (reply.DiskFault undecided)).1 refl) in
+              omega (arith, one, failed.faults);
           seen = failed.earlier;
           opening = failed.opening;
           lock = lock_is;
@@ -249,7 +238,7 @@ module _ {Entry Operation Response : Type 0} (semantics : Semantics Entry Operat
           owned = All-nil (λ (entry : ℕ × Filed Entry). IsOwnOf semantics own scheme by (request ∷ []) entry.1);
           left = λ entry has. inl (starved.left entry has);
           faults = λ all.
-              let none : one_if_unavailable answer.status ≡ 0 = ap (λ (a : Answer). one_if_unavailable a.status) is ∙ not_one (scheme.status reply.NoMemory) (λ bad. let no : IsTrue false = unavailable reply.NoMemory bad in let wrong : ⊥ = cc in wrong) in
+              let none : one_if_unavailable answer.status ≡ 0 = ap (λ (a : Answer). one_if_unavailable a.status) is ∙ not_one (scheme.status reply.NoMemory) (λ bad. let no : IsTrue false = (unavailable reply.NoMemory).0 bad in let wrong : ⊥ = cc in wrong) in
               omega (arith, none, starved.faults);
           seen = starved.earlier;
           opening = starved.opening;
@@ -273,7 +262,7 @@ module _ {Entry Operation Response : Type 0} (semantics : Semantics Entry Operat
         told_call (Ok call) at asked = told_ask (scheme.ask_of call request.body) (ap (λ c. ask_by semantics own scheme by c request.body) at) (ap refusal_of at) asked
 
   -- ---- a run of requests
-  module _ (own_added : (past : List Entry) (operation : Operation) (entry : Entry) → semantics.added past operation ≡ Some entry → own operation ≡ Some entry) (unavailable : (said : LogReply Response) → scheme.status said ≡ Unavailable → IsTrue (is_fault said)) where
+  module _ (own_added : (past : List Entry) (operation : Operation) (entry : Entry) → semantics.added past operation ≡ Some entry → own operation ≡ Some entry) (unavailable : TellsFaults scheme) where
     pub told_run : (requests : List Request) (answers : List Answer) (before after : Clerking Entry) → before.by ≡ by → Run (HandleAnswers semantics own scheme) before requests answers after → HasTold semantics own scheme by requests answers before.handle after.handle
     told_run [] [] before after named same = subst (λ (c : Clerking Entry). HasTold semantics own scheme by [] [] before.handle c.handle) (sym same) (told_none before.handle)
     told_run [] (answer ∷ answers) before after named run = absurd run

@@ -72,9 +72,10 @@ module _ {Entry Operation Response P : Type 0} (semantics : Semantics Entry Oper
     all_unavailable honest d =
         sum_below (length before) (λ k inside. times_unavailable semantics own scheme (k + 1) (entries_of closed.list) (served.each k d inside).last.mine 1 (served.each k d inside).served.sessions (told k d inside (honest k d inside)).told)
 
-    -- the disk's count of faults rose by all of them, where all ports are honest
+    -- the disk's count of faults rose by all of them, where all ports are honest, and stood still where there was none
     abbrev pub AreCounted : Type 0
-    AreCounted = (honest : AllHonest tells before) (d : WorkerView Entry P) → RoseBy (all_unavailable honest d) opening.faults closed.faults
+    AreCounted = (honest : AllHonest tells before) (d : WorkerView Entry P)
+        → RoseBy (all_unavailable honest d) opening.faults closed.faults × (all_unavailable honest d ≡ 0 → closed.faults ≡ opening.faults)
 
     -- where an honest port answered 201, the request's own entry stands in the list at the end
     abbrev pub CreatedStand : Type 0

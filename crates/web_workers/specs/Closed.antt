@@ -84,9 +84,9 @@ module _ {Entry Operation Response : Type 0} (semantics : Semantics Entry Operat
     IsBroughtBy seen mine number [] told filed = ⊥
     IsBroughtBy seen mine number (s ∷ sessions) told filed = IsOwnOf semantics own scheme (record { desk = port; row = number }) told.0.done filed ⊎ IsBroughtBy seen mine (number + 1) sessions told.1 filed
 
-    -- What a port's connections were told, and what they made of what a pass knows. It was told of a fault for each 503.
+    -- What a port's connections were told, and what they made of what a pass knows. It was told of a fault for each 503, and of no other.
     pub record HaveTold (seen : List Entry) (number : ℕ) (sessions : List (Session Entry)) (first last : Known (Filed Entry)) : Type 0 where
       pub told : AreToldOf seen last.mine number sessions
       pub mine : (entry : ℕ × Filed Entry) → Contains last.mine entry → Contains first.mine entry ⊎ IsBroughtBy seen last.mine number sessions told entry.1
       pub left : (entry : ℕ × Filed Entry) → Contains last.left entry → Contains first.left entry ⊎ IsBroughtBy seen last.mine number sessions told entry.1
-      pub faults : first.faults + times_unavailable seen last.mine number sessions told ≤ last.faults
+      pub faults : last.faults ≡ first.faults + times_unavailable seen last.mine number sessions told

@@ -1,5 +1,5 @@
 -- The connections that one worker served, one after the other, by the turns of its pass.
-use Rattle.std.specs.Prelude.{◌≡◌, ◌+◌, ℕ, Bool, true, false, List, [], ◌∷◌, ◌++◌, length, map, IsTrue, Option}
+use Rattle.std.specs.Prelude.{◌≡◌, ◌≢◌, ◌+◌, ℕ, Bool, true, false, List, [], ◌∷◌, ◌++◌, length, map, IsTrue, Option}
 use Rattle.std.specs.List.{list_any}
 use Rattle.io_traits.specs.Faults.{Rose}
 use Rattle.log_machine.specs.Scheme.{Semantics}
@@ -36,12 +36,14 @@ abbrev pub was_starved : {Entry : Type 0} → Session Entry → Bool
 was_starved s = is_starved_end s.end
 
 -- What was written on a connection is the exchange of its bytes for the turns of the pass, under one name. Of a connection
--- that isn't honest only the turns are known. A session ends with `ConnectionFault` only where the connection's count of faults rose.
+-- that isn't honest only the turns are known. The connection's count of faults rose where the session ended with `ConnectionFault`,
+-- and stood still at every other end.
 pub record IsSession {Entry Operation Response : Type 0} (semantics : Semantics Entry Operation Response) (own : Operation → Option Entry) (scheme : Scheme Operation (LogReply Response)) (honest : Bool) (by : RowName) (before : Known (Filed Entry)) (s : Session Entry) : Type 0 where
   pub exchange : IsTrue honest
       → Serves (HandleAnswers semantics own scheme) 10000 s.bytes (record { by = by; handle = before }) (record { by = by; handle = s.after }) [] s.text s.end
   pub reached : HandleReaches semantics own scheme (record { by = by; handle = before }) (record { by = by; handle = s.after })
   pub fault : s.end ≡ ConnectionFault → Rose 0 s.faults
+  pub still : s.end ≢ ConnectionFault → s.faults ≡ 0
 
 -- the connections of a port, numbered from `number` on, each served by the pass as the one before left it
 abbrev pub AreSessions : {Entry Operation Response : Type 0} → Semantics Entry Operation Response → (Operation → Option Entry) → Scheme Operation (LogReply Response) → Bool → ℕ → ℕ → Known (Filed Entry) → List (Session Entry) → Known (Filed Entry) → Type 0

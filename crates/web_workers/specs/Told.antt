@@ -80,7 +80,7 @@ module _ {Entry Operation Response : Type 0} (semantics : Semantics Entry Operat
   AreAnswersTo seen mine (request ∷ requests) (answer ∷ answers) = IsAnswerTo seen mine (refusal_of request.head.call) (ask_in request) answer × AreAnswersTo seen mine requests answers
 
   -- What these requests and answers made of what a pass knows. What it admitted besides is of these requests alone, each entry
-  -- once and past the list that it had seen; so is what it left undecided besides. It was told of a fault for each 503.
+  -- once and past the list that it had seen; so is what it left undecided besides. It was told of a fault for each 503, and of no other.
   pub record HasTold (requests : List Request) (answers : List Answer) (before after : Known (Filed Entry)) : Type 0 where
     pub each : AreAnswersTo (entries_of after.seen) after.mine requests answers
     pub added : List (ℕ × Filed Entry)
@@ -88,7 +88,7 @@ module _ {Entry Operation Response : Type 0} (semantics : Semantics Entry Operat
     pub rise : Rise (length before.seen) (length after.seen) added
     pub owned : All (λ (entry : ℕ × Filed Entry). IsOwnOf requests entry.1) added
     pub left : (entry : ℕ × Filed Entry) → Contains after.left entry → Contains before.left entry ⊎ IsOwnOf requests entry.1
-    pub faults : All IsAvailable requests → before.faults + count_unavailable answers ≤ after.faults
+    pub faults : All IsAvailable requests → after.faults ≡ before.faults + count_unavailable answers
     pub seen : IsOlder (entries_of before.seen) (entries_of after.seen)
     pub opening : after.opening ≡ before.opening
     pub lock : after.lock ≡ before.lock

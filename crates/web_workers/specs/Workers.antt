@@ -59,10 +59,10 @@ pub record HasEnded {Entry P : Type 0} (lock : TableId) (opening : Snapshot (Fil
   pub opening_is : handle.opening ≡ opening
   pub ended : worker.ended ≢ Open
 
--- how far the worker came: it served as many connections as it was to, or its port failed
+-- how far the worker came: it served as many connections as it was to, and its port's count of faults stood still; or the port failed
 abbrev pub HasStopped : WebEnd → ℕ → ℕ → ℕ → ℕ → Type 0
 HasStopped Open served sessions old new = ⊥
-HasStopped Done served sessions old new = served ≡ sessions
+HasStopped Done served sessions old new = (served ≡ sessions) × (new ≡ old)
 HasStopped AcceptorFault served sessions old new = served < sessions × Rose old new
 
 -- A worker that has a pass serves the connections of its port by it, one after the other.
@@ -106,6 +106,8 @@ pub record Ran {Entry P : Type 0} (opening closed : Snapshot (Filed Entry)) (wor
   -- the list that a worker saw last is the older part of the closed one
   pub seen : All (λ (d : WorkerView Entry P). IsOlder (seen_in d.handle) closed.list) workers
   pub faults : RoseBy (sum_by (λ (d : WorkerView Entry P). faults_in d.handle) workers) opening.faults closed.faults
+  -- where no worker was told of a fault there was none
+  pub still : sum_by (λ (d : WorkerView Entry P). faults_in d.handle) workers ≡ 0 → closed.faults ≡ opening.faults
   pub fixed : closed.fixed ≡ opening.fixed
 
 -- What a worker did, with a pass that knew nothing but the opening list.

@@ -1,5 +1,5 @@
 //! One connection is served by the turns of one pass.
-ghost use Rattle.std.specs.Prelude.{◌≡◌, ◌≤◌};
+ghost use Rattle.std.specs.Prelude.{◌≡◌, ◌≢◌, ◌≤◌};
 ghost use Rattle.io_traits.specs.Faults.{Rose};
 ghost use Rattle.web_session.specs.Exchange.{ServesNear};
 ghost use Rattle.web_session.specs.ConnectionState.{IsHonest};
@@ -9,7 +9,7 @@ ghost use Rattle.web_workers.specs.Clerks.{HandleAnswers, HandleReaches};
 use crate::{ApiOf, MachineApi};
 use aid_stamps::Stamp;
 use io_traits::Disk;
-use log_desks::{Poster, SharedList};
+use log_desks::{Poster, SharedList, Since};
 use log_lock::{LockHandle, LockedState, TicketLock};
 use log_machine::{Filed, LogReply, RowName, RowOperation, SingleEntryMachine, StateMachine};
 use log_stamps::{Stampable, StampedEntry, StampedMachine, StampedOperation};
@@ -21,16 +21,17 @@ use web_session::{Connection, End, Handler, serve};
 // The clerk of one connection. Each ask is a turn of the lock, under one name and one stamp, and is posted before it, as is the
 // one behind it, where that has come.
 #[derive(Drop)]
-struct LockHandler<'a, D: Disk, R: Stampable + SingleEntryMachine, H> {
+struct LockHandler<'a, D: Disk, R: Stampable + SingleEntryMachine, M: Since, H> {
     rt: &'a H,
-    turns: &'a TicketLock<SharedList<D, StampedMachine<R>>>,
+    turns: &'a TicketLock<SharedList<D, StampedMachine<R>, M>>,
     handle: LockHandle<Filed<StampedEntry<R::Entry>>>,
     by: RowName,
     stamp: Stamp,
     poster: Poster,
 }
 
-impl<'a, D: Disk, R: Stampable + SingleEntryMachine, H> Model for LockHandler<'a, D, R, H> {
+impl<'a, D: Disk, R: Stampable + SingleEntryMachine, M: Since, H> Model
+    for LockHandler<'a, D, R, M, H> {
     ghost use Rattle.std.specs.Prelude.{◌≡◌};
     ghost use Rattle.web_workers.specs.Clerks.{StampedHandler};
 
@@ -41,7 +42,7 @@ impl<'a, D: Disk, R: Stampable + SingleEntryMachine, H> Model for LockHandler<'a
     ghost invariant = { λ c. c.handle.lock ≡ c.turns.now.id };
 }
 
-impl<'a, D: Disk, R: Stampable + SingleEntryMachine, H> LockHandler<'a, D, R, H> {
+impl<'a, D: Disk, R: Stampable + SingleEntryMachine, M: Since, H> LockHandler<'a, D, R, M, H> {
     // The pass.
     fn into_pass(self) -> LockHandle<Filed<StampedEntry<R::Entry>>>
         ensures { result ≡ self.entry.handle }
@@ -61,8 +62,9 @@ fn under<A: Drop>(operation: Option<A>, stamp: &Stamp) -> Option<StampedOperatio
     }
 }
 
-impl<'a, D: Disk, R: Stampable + SingleEntryMachine, T: MachineApi<R>, H: Wait> Handler<ApiOf<R, T>>
-    for LockHandler<'a, D, R, H> {
+impl<'a, D: Disk, R: Stampable + SingleEntryMachine, M: Since, T: MachineApi<R>, H: Wait> Handler<
+    ApiOf<R, T>,
+> for LockHandler<'a, D, R, M, H> {
     ghost use Rattle.web_workers.specs.Clerks.{AsksUnder, stamped_faults};
     ghost use Rattle.web_session.specs.declared.status.Status.TheVariants.{Unavailable};
 
@@ -99,13 +101,14 @@ impl<'a, D: Disk, R: Stampable + SingleEntryMachine, T: MachineApi<R>, H: Wait> 
 pub fn serve_desk<
     D: Disk,
     R: Stampable + SingleEntryMachine,
+    M: Since,
     T: MachineApi<R>,
     L: Connection,
     H: Wait,
 >(
     rt: &H,
     alloc: Global,
-    turns: &TicketLock<SharedList<D, StampedMachine<R>>>,
+    turns: &TicketLock<SharedList<D, StampedMachine<R>, M>>,
     handle: LockHandle<Filed<StampedEntry<R::Entry>>>,
     by: RowName,
     stamp: Stamp,
@@ -117,6 +120,7 @@ pub fn serve_desk<
     ensures reached { HandleReaches (semantics_under stamp R.semantics) (own_under stamp R.own) T.scheme (record { by = by; handle = handle }) (record { by = by; handle = result.0 }) }
     ensures later { L.faults link.old ≤ L.faults link.new }
     ensures cause { result.1 ≡ End.ConnectionFault → Rose (L.faults link.old) (L.faults link.new) }
+    ensures unmoved { result.1 ≢ End.ConnectionFault → L.faults link.new ≡ L.faults link.old }
     ensures lock { result.0.lock ≡ handle.lock }
     ensures share { result.0.allowance ≡ handle.allowance }
     ensures opening { result.0.opening ≡ handle.opening }
@@ -129,6 +133,6 @@ pub fn serve_desk<
         stamp,
         poster: Poster::new(alloc),
     };
-    let end = serve::<ApiOf<R, T>, LockHandler<D, R, H>, L>(alloc, &mut clerk, link);
+    let end = serve::<ApiOf<R, T>, LockHandler<D, R, M, H>, L>(alloc, &mut clerk, link);
     (clerk.into_pass(), end)
 }

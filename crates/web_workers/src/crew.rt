@@ -2,20 +2,20 @@
 ghost use Rattle.std.specs.Prelude.{◌≡◌, ◌<◌, ◌+◌, [], ℕ, None, IfOk, IfErr, length, get_or};
 ghost use Rattle.std.specs.List.{All};
 ghost use Rattle.log_desks.specs.Desks.{IsFresh, IsJoined};
-ghost use Rattle.log_desks.specs.Shares.{stand_of};
+ghost use Rattle.log_desks.specs.Shares.{stand_of, IsBegun, IsReached};
 ghost use Rattle.web_workers.specs.Workers.{AreReady, IsReady, HasEnded, Gathers, Ran, all_shown};
 
 use crate::Worker;
 use io_traits::Disk;
-use log_desks::SharedList;
+use log_desks::{SharedList, Since};
 use log_lock::{LockHandle, LockedState, TicketLock};
 use log_machine::{Filed, Log, SingleEntryMachine, StateMachine};
 use std::alloc::Global;
 use web_session::Acceptor;
 
 // Hands a part of the pass to the worker, with its number, and gives back the rest.
-fn hand_out<D: Disk, R: SingleEntryMachine, P: Acceptor>(
-    turns: &TicketLock<SharedList<D, R>>,
+fn hand_out<D: Disk, R: SingleEntryMachine, M: Since, P: Acceptor>(
+    turns: &TicketLock<SharedList<D, R, M>>,
     first: LockHandle<Filed<R::Entry>>,
     number: u32,
     worker: &mut Worker<R, P>,
@@ -32,8 +32,8 @@ fn hand_out<D: Disk, R: SingleEntryMachine, P: Acceptor>(
 }
 
 /// Hands a part of the pass to each worker, numbers them from 1, and gives back the rest.
-pub(crate) fn deal<D: Disk, R: SingleEntryMachine, P: Acceptor>(
-    turns: &TicketLock<SharedList<D, R>>,
+pub(crate) fn deal<D: Disk, R: SingleEntryMachine, M: Since, P: Acceptor>(
+    turns: &TicketLock<SharedList<D, R, M>>,
     first: LockHandle<Filed<R::Entry>>,
     workers: &mut [Worker<R, P>],
 ) -> LockHandle<Filed<R::Entry>>
@@ -52,15 +52,17 @@ pub(crate) fn deal<D: Disk, R: SingleEntryMachine, P: Acceptor>(
     handle
 }
 
-/// Begins a lock over the list, and hands each worker a number and a pass. It gives the rest of the lock's passes back. Where
-/// there is no memory the list comes back as it was. No room is made for entries: each turn asks for what it needs.
-pub fn open_workers<D: Disk, R: SingleEntryMachine, P: Acceptor>(
+/// Begins a lock over the list, makes room for an operation of each worker, and hands each worker a number and a pass. It gives
+/// the rest of the lock's passes back. Where there is no memory the list comes back as it was. Behind that room each operation
+/// asks for what it needs.
+pub fn open_workers<D: Disk, R: SingleEntryMachine, M: Since, P: Acceptor>(
     alloc: Global,
     kept: Log<D, R>,
     workers: &mut [Worker<R, P>],
-) -> Result<(TicketLock<SharedList<D, R>>, LockHandle<Filed<R::Entry>>), Log<D, R>>
+) -> Result<(TicketLock<SharedList<D, R, M>>, LockHandle<Filed<R::Entry>>), Log<D, R>>
     requires few { length workers.old < 64 }
     requires decided { kept.pending ≡ None }
+    requires begun { IsBegun D.Disk M.moment M.already kept.disk }
     ensures opening { IfOk result (λ r. r.1.opening ≡ stand_of kept.history None [] None (D.faults kept.disk) (D.tells kept.disk).honest) }
     ensures fresh { IfOk result (λ r. IsFresh r.0.id r.1.opening r.1) }
     ensures all { IfOk result (λ r. r.1.allowance + length workers.new ≡ r.0.handles) }
@@ -71,7 +73,10 @@ pub fn open_workers<D: Disk, R: SingleEntryMachine, P: Acceptor>(
     ensures history { IfErr result (λ back. back.history ≡ kept.history) }
     ensures pending { IfErr result (λ back. back.pending ≡ None) }
 {
-    let shared = SharedList::new(alloc, kept);
+    let mut shared = SharedList::new(alloc, kept);
+    if shared.reserve(workers.len() as u32).is_err() {
+        return Err(shared.into_parts().0);
+    }
     match TicketLock::new(alloc, shared, workers.len() as u32 + 1) {
         Err((_, shared)) => Err(shared.into_parts().0),
         Ok((turns, first)) => {
@@ -82,8 +87,8 @@ pub fn open_workers<D: Disk, R: SingleEntryMachine, P: Acceptor>(
 }
 
 // Takes the worker's pass back.
-fn take_back<D: Disk, R: SingleEntryMachine, P: Acceptor>(
-    turns: &TicketLock<SharedList<D, R>>,
+fn take_back<D: Disk, R: SingleEntryMachine, M: Since, P: Acceptor>(
+    turns: &TicketLock<SharedList<D, R, M>>,
     handle: &mut LockHandle<Filed<R::Entry>>,
     worker: &mut Worker<R, P>,
 )
@@ -98,8 +103,8 @@ fn take_back<D: Disk, R: SingleEntryMachine, P: Acceptor>(
 }
 
 /// Takes each worker's pass back.
-pub(crate) fn collect<D: Disk, R: SingleEntryMachine, P: Acceptor>(
-    turns: &TicketLock<SharedList<D, R>>,
+pub(crate) fn collect<D: Disk, R: SingleEntryMachine, M: Since, P: Acceptor>(
+    turns: &TicketLock<SharedList<D, R, M>>,
     rest: LockHandle<Filed<R::Entry>>,
     workers: &mut [Worker<R, P>],
 ) -> LockHandle<Filed<R::Entry>>
@@ -118,15 +123,16 @@ pub(crate) fn collect<D: Disk, R: SingleEntryMachine, P: Acceptor>(
 }
 
 /// Takes each worker's pass back, and ends the lock. What the list has then is what the workers' turns did.
-pub fn close_workers<D: Disk, R: SingleEntryMachine, P: Acceptor>(
-    turns: TicketLock<SharedList<D, R>>,
+pub fn close_workers<D: Disk, R: SingleEntryMachine, M: Since, P: Acceptor>(
+    turns: TicketLock<SharedList<D, R, M>>,
     rest: LockHandle<Filed<R::Entry>>,
     workers: &mut [Worker<R, P>],
-) -> SharedList<D, R>
+) -> SharedList<D, R, M>
     requires fresh { IsFresh turns.id rest.opening rest }
     requires all { rest.allowance + length workers.old ≡ turns.handles }
     requires ended { All (HasEnded turns.id rest.opening) workers.old }
     ensures ran { Ran rest.opening (stand_of result.history result.pending result.log result.waiting (D.faults result.disk) (D.tells result.disk).honest) workers.old }
+    ensures reached { IsReached D.Disk R.scheme M.moment M.already rest.opening result.disk result.history result.pending }
     ensures workers { length workers.new ≡ length workers.old }
     ensures same { all_shown workers.new ≡ all_shown workers.old }
 {

@@ -1,7 +1,6 @@
 //! How the asks of a docket are read from requests, and its replies written.
 ghost use Rattle.std.specs.Prelude.{◌≡◌, IfOk, IsTrue};
-ghost use Rattle.log_machine.specs.Submits.{is_fault};
-ghost use Rattle.web_workers.specs.NewEntry.{is_added};
+ghost use Rattle.web_workers.specs.NewEntry.{TellsFaults, is_added};
 ghost use Rattle.web_session.specs.Asks.{Scheme};
 
 use log_machine::{LogReply, SingleEntryMachine, StateMachine};
@@ -12,7 +11,7 @@ use web_session::{Api, ApiCall, Status};
 /// How the asks of a docket are read from requests, and its replies written.
 pub trait MachineApi<R: SingleEntryMachine> {
     ghost use Rattle.log_machine.specs.declared.reply.LogReply.{LogReply};
-    ghost use Rattle.web_session.specs.declared.status.Status.TheVariants.{Created, Unavailable};
+    ghost use Rattle.web_session.specs.declared.status.Status.TheVariants.{Created};
 
     /// What a request asks, and what is answered by a reply.
     ghost scheme: { Scheme R.Operation (LogReply R.Response) };
@@ -29,8 +28,8 @@ pub trait MachineApi<R: SingleEntryMachine> {
     fn write(alloc: Global, reply: &LogReply<R::Response>) -> Result<Vec<u8>, AllocError>
         ensures { IfOk result (λ text. text.items ≡ scheme.text reply.now) };
 
-    /// 503 is answered only where the disk failed.
-    ghost unavailable: { (reply : LogReply R.Response) → scheme.status reply ≡ Unavailable → IsTrue (is_fault reply) };
+    /// 503 is answered just where the disk failed.
+    ghost unavailable: { TellsFaults scheme };
 
     /// 201 is answered only where the ask's own entry was added.
     ghost created: { (reply : LogReply R.Response) → scheme.status reply ≡ Created → IsTrue (is_added R.adds reply) };

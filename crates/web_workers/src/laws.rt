@@ -49,7 +49,7 @@ pub fn all_told<R: SingleEntryMachine, T: MachineApi<R>, P: Acceptor>()
 {}
 
 /// Over honest ports the disk's count of faults rose by at least the number of all 503 that were answered, or stands at its
-/// last value.
+/// last value; and where no 503 was answered it stood still.
 pub fn faults_are_counted<R: SingleEntryMachine, T: MachineApi<R>, P: Acceptor>()
     ensures { (stamp : Stamp) (limit : ℕ) (opening closed : Snapshot (Filed (StampedEntry R.Entry))) (before after : List (WorkerView (StampedEntry R.Entry) P)) (served : HasServed (semantics_under stamp R.semantics) (own_under stamp R.own) T.scheme P.tells P.faults limit opening closed before after)
         (told : EachIsTold (semantics_under stamp R.semantics) (own_under stamp R.own) T.scheme P.tells P.faults limit opening closed before after served) → AreCounted (semantics_under stamp R.semantics) (own_under stamp R.own) T.scheme P.tells P.faults limit opening closed before after served told }

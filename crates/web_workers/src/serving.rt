@@ -8,7 +8,7 @@ ghost use Rattle.web_workers.specs.Workers.{HasStopped};
 use crate::{MachineApi, WebEnd, serve_desk};
 use aid_stamps::Stamp;
 use io_traits::Disk;
-use log_desks::SharedList;
+use log_desks::{SharedList, Since};
 use log_lock::{LockHandle, LockedState, TicketLock};
 use log_machine::{Filed, RowName, SingleEntryMachine, StateMachine};
 use log_stamps::{Stampable, StampedEntry, StampedMachine};
@@ -32,10 +32,17 @@ fn is_starved(before: bool, end: End) -> bool
 }
 
 // Serves the next connection of the port, and hands it back. `None`: the port failed.
-fn serve_next<D: Disk, R: Stampable + SingleEntryMachine, T: MachineApi<R>, P: Acceptor, H: Wait>(
+fn serve_next<
+    D: Disk,
+    R: Stampable + SingleEntryMachine,
+    M: Since,
+    T: MachineApi<R>,
+    P: Acceptor,
+    H: Wait,
+>(
     rt: &H,
     alloc: Global,
-    turns: &TicketLock<SharedList<D, StampedMachine<R>>>,
+    turns: &TicketLock<SharedList<D, StampedMachine<R>, M>>,
     handle: LockHandle<Filed<StampedEntry<R::Entry>>>,
     by: RowName,
     stamp: Stamp,
@@ -45,6 +52,7 @@ fn serve_next<D: Disk, R: Stampable + SingleEntryMachine, T: MachineApi<R>, P: A
     ensures served { IfSome result.1 (λ end. ServesNext (semantics_under stamp R.semantics) (own_under stamp R.own) T.scheme by handle result.0 (P.tells port.old) (P.tells port.new) end) }
     ensures failed { IfNone result.1 (FailsNext handle result.0 (P.tells port.old) (P.tells port.new)) }
     ensures cause { IfNone result.1 (Rose (P.faults port.old) (P.faults port.new)) }
+    ensures unmoved { IfSome result.1 (λ end. P.faults port.new ≡ P.faults port.old) }
     ensures later { P.faults port.old ≤ P.faults port.new }
     ensures lock { result.0.lock ≡ handle.lock }
     ensures share { result.0.allowance ≡ handle.allowance }
@@ -53,7 +61,7 @@ fn serve_next<D: Disk, R: Stampable + SingleEntryMachine, T: MachineApi<R>, P: A
     let Ok(mut link) = port.next() else {
         return (handle, None);
     };
-    let (handle, end) = serve_desk::<D, R, T, P::Connection, H>(
+    let (handle, end) = serve_desk::<D, R, M, T, P::Connection, H>(
         rt, alloc, turns, handle, by, stamp, &mut link,
     );
     port.done(link);
@@ -64,13 +72,14 @@ fn serve_next<D: Disk, R: Stampable + SingleEntryMachine, T: MachineApi<R>, P: A
 pub fn serve_all<
     D: Disk,
     R: Stampable + SingleEntryMachine,
+    M: Since,
     T: MachineApi<R>,
     P: Acceptor,
     H: Wait,
 >(
     rt: &H,
     alloc: Global,
-    turns: &TicketLock<SharedList<D, StampedMachine<R>>>,
+    turns: &TicketLock<SharedList<D, StampedMachine<R>, M>>,
     handle: LockHandle<Filed<StampedEntry<R::Entry>>>,
     number: u32,
     stamp: &Stamp,
@@ -93,7 +102,9 @@ pub fn serve_all<
             desk: number,
             row: served + 1,
         };
-        let (back, ended) = serve_next::<D, R, T, P, H>(rt, alloc, turns, handle, by, *stamp, port);
+        let (back, ended) = serve_next::<D, R, M, T, P, H>(
+            rt, alloc, turns, handle, by, *stamp, port,
+        );
         handle = back;
         let Some(end) = ended else {
             let count = ServedCount {

@@ -7,7 +7,7 @@ use crate::serving::serve_all;
 use crate::{MachineApi, WebEnd};
 use aid_stamps::Stamp;
 use io_traits::Disk;
-use log_desks::SharedList;
+use log_desks::{SharedList, Since};
 use log_lock::{LockHandle, LockedState, TicketLock};
 use log_machine::{Filed, SingleEntryMachine, StateMachine};
 use log_stamps::{Stampable, StampedEntry, StampedMachine};
@@ -108,11 +108,11 @@ impl<R: SingleEntryMachine, P: Acceptor> Worker<R, P> {
 impl<R: Stampable + SingleEntryMachine, P: Acceptor> Worker<StampedMachine<R>, P> {
     /// Serves so many connections of the port, one after the other, each by turns of the lock, and files all their asks
     /// under this stamp. It ends early only where the port fails.
-    pub fn work<D: Disk, T: MachineApi<R>, H: Wait>(
+    pub fn work<D: Disk, M: Since, T: MachineApi<R>, H: Wait>(
         &mut self,
         rt: &H,
         alloc: Global,
-        turns: &TicketLock<SharedList<D, StampedMachine<R>>>,
+        turns: &TicketLock<SharedList<D, StampedMachine<R>, M>>,
         sessions: u32,
         stamp: Stamp,
     )
@@ -122,7 +122,7 @@ impl<R: Stampable + SingleEntryMachine, P: Acceptor> Worker<StampedMachine<R>, P
         let Some(handle) = self.handle.take() else {
             return;
         };
-        let (handle, count) = serve_all::<D, R, T, P, H>(
+        let (handle, count) = serve_all::<D, R, M, T, P, H>(
             rt,
             alloc,
             turns,

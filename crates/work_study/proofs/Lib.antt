@@ -1,4 +1,3 @@
-pub mod After
 pub mod AllowedAddsUp
 pub mod Covered
 mod Funds

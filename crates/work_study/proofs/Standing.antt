@@ -28,14 +28,6 @@ pub passes_none : (b : Bool) (n : ℕ) → b ≡ false → if_passes b n ≡ 0
 passes_none true n e = cc
 passes_none false n e = refl
 
-pub passes_all : (b : Bool) (n : ℕ) → b ≡ true → if_passes b n ≡ n
-passes_all true n e = refl
-passes_all false n e = cc
-
-pub passes_most : (b : Bool) (n most : ℕ) → n ≤ most → if_passes b n ≤ most
-passes_most true n most h = h
-passes_most false n most h = zero-le
-
 -- ---- a fund that isn't filed has no dollars
 no_fund_in : (k : ℕ) (b : Bool) (n d old : ℕ) → earlier_or k (cond b (n + 1) 0) ≡ 0 → cond (k == 0) (cond b d 0) old ≡ 0
 no_fund_in k b n d old h =

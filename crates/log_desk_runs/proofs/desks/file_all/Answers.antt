@@ -3,7 +3,8 @@ use Rattle.io_traits.specs.DiskState.{IsHonest}
 use Rattle.log_machine.specs.Kept.{IsSound}
 use Rattle.log_desk_runs.specs.RanDesksOn.{HasFiled}
 use Rattle.log_desks.specs.Shares.{IsReached, stand_of}
-use Rattle.log_desk_runs.proofs.Crew.{has_filed, stand_same}
+use Rattle.log_desks.proofs.Reaching.{stand_same}
+use Rattle.log_desk_runs.proofs.Crew.{has_filed}
 use Rattle.log_desk_runs.proofs.desks.file_all.Goals as goal
 
 pub returns-in-Ok-clause-ran : goal.returns-in-Ok-clause-ran

@@ -18,7 +18,7 @@ use Rattle.log_desk_runs.proofs.desks.file_read.Goals as goal
 
 pub returns-in-Err : goal.returns-in-Err
 returns-in-Err g c =
-    unopened c.in-Err.error c.end_with.result c.in-Err.ensures.unopened c.in-Err.ensures.cause
+    unopened c.in-Err.error c.end_with.result c.in-Err.ensures.unopened c.in-Err.ensures.cause c.in-Err.ensures.unmoved_err
     (subst (λ s. EndsWith g.K.Sink (fault_line (File s)) (status_of (File s)) c.args.out.now c.end_with.new.out c.end_with.result) c.into.ensures c.end_with.ensures)
 
 pub returns-in-Ok-file_all : goal.returns-in-Ok-file_all
@@ -46,5 +46,5 @@ pub returns-in-Err-file_all : goal.returns-in-Err-file_all
 returns-in-Err-file_all g c =
     subst (λ d. FilesAll g.R.StateMachine.scheme g.R.StateMachine.semantics g.R.SingleEntryMachine.own g.C.Copies.copied g.C.EntryMatch.same g.L.Rows.texts g.L.Rows.left g.D.Disk g.K.Sink c.args.disk d c.args.desks.now c.args.out.now c.end_with-in-Err-file_all.new.out c.end_with-in-Err-file_all.result)
     (sym (c.into_disk.ensures.disk ∙ c.in-Err-file_all.ensures.disk))
-    (starved c.in-Ok.kept.history c.end_with-in-Err-file_all.result c.in-Ok.ensures.opened
+    (starved c.in-Ok.kept.history c.end_with-in-Err-file_all.result c.in-Ok.ensures.opened c.in-Ok.ensures.unmoved
     (subst (λ s. EndsWith g.K.Sink (fault_line (File s)) (status_of (File s)) c.args.out.now c.end_with-in-Err-file_all.new.out c.end_with-in-Err-file_all.result) c.into-in-Err-file_all.ensures c.end_with-in-Err-file_all.ensures))

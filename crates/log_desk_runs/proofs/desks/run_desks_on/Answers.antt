@@ -3,7 +3,7 @@ use Rattle.log_runs.specs.Ends.{EndsWith}
 use Rattle.log_runs.specs.Statuses.{fault_line, status_of}
 use Rattle.log_runs.specs.declared.stop.RunStop.TheVariants.{File}
 use Rattle.log_desk_runs.specs.RanDesksOn.{AreNew, FilesAll, read, unasked, unread}
-use Rattle.log_desk_runs.proofs.DesksDone.{desks_done, desks_honest}
+use Rattle.log_desk_runs.proofs.DesksDone.{desks_done, desks_honest, desks_moved}
 use Rattle.log_desk_runs.proofs.Filers.{new_desks}
 use Rattle.log_desk_runs.proofs.desks.run_desks_on.Goals as goal
 
@@ -38,3 +38,15 @@ returns-in-Err-clause-complete g c can none sink_still disk_still =
 pub returns-in-Ok-clause-disk_honest : goal.returns-in-Ok-clause-disk_honest
 returns-in-Ok-clause-disk_honest g c =
     desks_honest g.R.StateMachine.scheme g.R.StateMachine.semantics g.R.SingleEntryMachine.own g.C.Copies.copied g.C.EntryMatch.same g.I.Rows.Rows.texts g.I.Rows.Rows.left g.I.Rows.Rows.rows_of g.I.DeskSource.reads g.D.Disk g.K.Sink c.args.disk c.file_read.result.1 c.args.inputs.now c.read_desks.new.inputs c.args.out.now c.file_read.new.out c.file_read.result.0 (returns-in-Ok-clause-ran g c)
+
+pub returns-then-not-can_file-clause-disk : goal.returns-then-not-can_file-clause-disk
+returns-then-not-can_file-clause-disk g c =
+    desks_moved g.R.StateMachine.scheme g.R.StateMachine.semantics g.R.SingleEntryMachine.own g.C.Copies.copied g.C.EntryMatch.same g.I.Rows.Rows.texts g.I.Rows.Rows.left g.I.Rows.Rows.rows_of g.I.DeskSource.reads g.D.Disk g.K.Sink c.args.disk c.args.disk c.args.inputs.now c.args.inputs.now c.args.out.now c.end_with.new.out c.end_with.result (returns-then-not-can_file-clause-ran g c)
+
+pub returns-in-Ok-clause-disk : goal.returns-in-Ok-clause-disk
+returns-in-Ok-clause-disk g c =
+    desks_moved g.R.StateMachine.scheme g.R.StateMachine.semantics g.R.SingleEntryMachine.own g.C.Copies.copied g.C.EntryMatch.same g.I.Rows.Rows.texts g.I.Rows.Rows.left g.I.Rows.Rows.rows_of g.I.DeskSource.reads g.D.Disk g.K.Sink c.args.disk c.file_read.result.1 c.args.inputs.now c.read_desks.new.inputs c.args.out.now c.file_read.new.out c.file_read.result.0 (returns-in-Ok-clause-ran g c)
+
+pub returns-in-Err-clause-disk : goal.returns-in-Err-clause-disk
+returns-in-Err-clause-disk g c =
+    desks_moved g.R.StateMachine.scheme g.R.StateMachine.semantics g.R.SingleEntryMachine.own g.C.Copies.copied g.C.EntryMatch.same g.I.Rows.Rows.texts g.I.Rows.Rows.left g.I.Rows.Rows.rows_of g.I.DeskSource.reads g.D.Disk g.K.Sink c.args.disk c.args.disk c.args.inputs.now c.read_desks.new.inputs c.args.out.now c.end_with-in-Err.new.out c.end_with-in-Err.result (returns-in-Err-clause-ran g c)

@@ -9,6 +9,7 @@ invariant-loop-rest g l = record {
   left : IsHonest (g.L.Connection.tells l.initial.link) → (g.L.Connection.tells l.link).left ≡ (g.L.Connection.tells l.initial.link).left;
   sent : IsHonest (g.L.Connection.tells l.initial.link) → Sent (g.L.Connection.tells l.initial.link).text (g.L.Connection.tells l.link).text l.bytes l.rest;
   later : g.L.Connection.faults l.initial.link ≤ g.L.Connection.faults l.link;
+  still : g.L.Connection.faults l.link ≡ g.L.Connection.faults l.initial.link;
 }
 
 abbrev pub decreases-loop-rest : goal.decreases-loop-rest

@@ -10,6 +10,7 @@ invariant-loop-scan g l = record {
   bytes : IsHonest (g.L.Connection.tells l.initial.link) → l.held.items ++ (g.L.Connection.tells l.link).left ≡ l.initial.held.items ++ (g.L.Connection.tells l.initial.link).left;
   room : IsHonest (g.L.Connection.tells l.initial.link) → length l.initial.held.items ≤ 86015 → length l.held.items ≤ 86015;
   later : g.L.Connection.faults l.initial.link ≤ g.L.Connection.faults l.link;
+  still : g.L.Connection.faults l.link ≡ g.L.Connection.faults l.initial.link;
   scanned : IsScanned l.scan.state l.scan.count (take 16384 l.held.items);
 }
 

@@ -1,5 +1,6 @@
-use Rattle.std.proofs.Common.{arith, ◌∙◌, ◌++◌, ap, refl, ℕ, List, length}
+use Rattle.std.proofs.Common.{◌≡◌, arith, ◌∙◌, ◌++◌, ap, refl, sym, ℕ, List, None, Some, length}
 use Rattle.web_session.specs.Asks.{Answers, IsAsked}
+use Rattle.web_session.specs.declared.end.End.TheVariants.{ConnectionFault}
 use Rattle.web_session.proofs.Reached.{reach_none, reach_more}
 use Rattle.web_session.proofs.Steps.{near_next, near_limit, held_next, going_next, going_start}
 use Rattle.web_session.proofs.session.serve_up_to.Goals as goal
@@ -11,6 +12,7 @@ loop-room-init g c = record {
   room = λ _. (let none_held = c.new-held.ensures.items in omega (arith, ap (λ (l : List ℕ). length l) none_held));
   reached = reach_none (IsAsked g.C.Handler.asked g.C.Handler.faults g.F.Api.scheme.status) c.args.clerk.now;
   later = omega arith;
+  still = refl;
 }
 
 pub returns-in-Some-clause-exchange : goal.returns-in-Some-clause-exchange
@@ -28,6 +30,7 @@ loop-room-preserved g c = record {
       (c.in_default.ensures.step (c.loop-room.invariant.honest ∙ honest) 0) (c.serve_one.ensures.no_further (c.loop-room.invariant.honest ∙ honest) (c.loop-room.invariant.room honest));
   reached = reach_more (IsAsked g.C.Handler.asked g.C.Handler.faults g.F.Api.scheme.status) _ _ _ c.loop-room.invariant.reached c.serve_one.ensures.reached;
   later = (let a = c.serve_one.ensures.later in let b = c.loop-room.invariant.later in omega (arith, a, b));
+  still = c.serve_one.ensures.unmoved (λ is. let none : None ≡ Some ConnectionFault = sym c.in_default.is ∙ is in let bad : ⊥ = cc in bad) ∙ c.loop-room.invariant.still;
 }
 
 pub returns-in-Some-clause-reached : goal.returns-in-Some-clause-reached
@@ -36,3 +39,6 @@ returns-in-Some-clause-reached g c = reach_more (IsAsked g.C.Handler.asked g.C.H
 pub returns-clause-exchange : goal.returns-clause-exchange
 returns-clause-exchange g c honest =
     near_limit (Answers g.F.Api.scheme g.C.Handler.asked g.C.Handler.faults) _ _ c.loop-room.held.items (g.L.Connection.tells c.loop-room.link).left _ _ _ _ c.loop-room.room (c.loop-room.invariant.going honest) (let t = c.loop-room-test.false in omega (arith, t)) (c.loop-room.invariant.room honest)
+
+pub returns-in-Some-clause-unmoved : goal.returns-in-Some-clause-unmoved
+returns-in-Some-clause-unmoved g c other = c.serve_one.ensures.unmoved (λ is. let same : Some c.in-Some.end ≡ Some ConnectionFault = sym c.in-Some.is ∙ is in let here : c.in-Some.end ≡ ConnectionFault = cc in other here) ∙ c.loop-room.invariant.still

@@ -12,6 +12,7 @@ invariant-loop-room g l = record {
   room : IsHonest (g.L.Connection.tells l.initial.link) → length l.held.items ≤ 86015;
   reached : Reaches (IsAsked g.C.Handler.asked g.C.Handler.faults g.F.Api.scheme.status) l.initial.clerk l.clerk;
   later : g.L.Connection.faults l.initial.link ≤ g.L.Connection.faults l.link;
+  still : g.L.Connection.faults l.link ≡ g.L.Connection.faults l.initial.link;
 }
 
 abbrev pub decreases-loop-room : goal.decreases-loop-room

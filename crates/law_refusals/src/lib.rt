@@ -1,0 +1,94 @@
+//! Calls of the law, each under the one clause that refuses a wrong body. The clause is proved of the call, so what it refuses the
+//! call's own contract refuses. Each edit of `must-fail/` puts a wrong body in the place of a call, and stands here since a check
+//! of this crate costs less than one of the crate whose call it is.
+#![tactic(auto)]
+
+ghost use Rattle.std.specs.Prelude.{◌≡◌, Ok, IfOk};
+ghost use Rattle.aid_types.specs.Ranges.{IsIndex, IsSignedAmount};
+ghost use Rattle.format_books.specs.Text.{numbers_of_text};
+ghost use Rattle.format_kinds.specs.Book.{numbers_of};
+ghost use Rattle.law_pell.specs.Award.{calculated as calculated_of, ceiling_at, income as income_of};
+ghost use Rattle.law_r2t4.specs.Worksheet.{AreInputsInRange, worksheet_of};
+ghost use Rattle.law_rules.specs.InRange.{AreFactsInRange};
+ghost use Rattle.law_rules.specs.Lines.{broken_of, payment_lines};
+ghost use Rattle.law_rules.specs.Quote.{greatest_payment};
+ghost use Rattle.office_history.specs.Answer.{answer_of};
+
+use aid_books::Book;
+use aid_filings::{Filing, Response, What};
+use aid_types::{Application, Formula, Key, Refusal, School, Student, Year};
+use format_books::{BookError, book_of};
+use law_pell::{Ceiling, calculated, ceiling_for, income};
+use law_r2t4::{Inputs, Lines, worksheet};
+use law_rules::{Facts, broken, quote};
+use office_answers::answer;
+use office_history::HistoryView;
+use sorted_rows::Steps;
+use std::alloc::Global;
+use std::sync::ledger::Ledger;
+
+/// The book of a text, each key of which is a book's.
+pub fn year_book(alloc: Global, text: &[u8]) -> Result<Book, BookError>
+    ensures { IfOk result (λ b. numbers_of_text text.now ≡ Ok (numbers_of b)) }
+{
+    book_of(alloc, text)
+}
+
+/// An index below zero adds nothing to a Calculated award.
+pub fn award_calculated(book: &Book, index: i32) -> i64
+    requires { IsIndex index }
+    ensures value { result ≡ calculated_of book.now index }
+    ensures in_range { IsSignedAmount result }
+{
+    calculated(book, index)
+}
+
+/// The ceiling that an index is at or above.
+pub fn ceiling_reached(book: &Book, a: &Application, index: i32) -> Ceiling
+    requires { IsIndex index }
+    ensures { result ≡ ceiling_at book.now a.now index }
+{
+    ceiling_for(book, a, index)
+}
+
+/// The household whose income decides.
+pub fn income_that_decides(book: &Book, formula: Formula, a: &Application) -> i64
+    ensures { result ≡ income_of book.now formula a.now }
+{
+    income(book, formula, a)
+}
+
+/// What a school and a student return.
+pub fn returns(i: &Inputs) -> Lines
+    requires { AreInputsInRange i.now }
+    ensures { result ≡ worksheet_of i.now.completed i.now.total i.now.charges i.now.net i.now.could }
+{
+    worksheet(i)
+}
+
+/// A quote is the greatest payment that breaks no rule, to the dollar.
+pub fn quoted(f: &Facts, school: School, student: Student, year: Year, term: u8) -> u64
+    requires { AreFactsInRange f.now }
+    ensures { result ≡ greatest_payment (payment_lines f.now school student year term 3) }
+{
+    quote(f, school, student, year, term)
+}
+
+/// The first rule that a filing breaks.
+pub fn first_broken(f: &Facts, key: &Key, what: &What) -> Option<Refusal>
+    requires { AreFactsInRange f.now }
+    ensures { result ≡ broken_of f.now key.now what.now }
+{
+    broken(f, key, what)
+}
+
+/// The answer to a filing.
+pub fn answered<P: HistoryView, L: Ledger>(
+    past: &P,
+    filing: &Filing,
+    steps: &mut Steps<L>,
+) -> Response
+    ensures { result ≡ answer_of (P.history past.now) filing.now }
+{
+    answer(past, filing, steps)
+}

@@ -1,0 +1,6 @@
+use Rattle.std.proofs.Common.{refl}
+use Rattle.log_desks.proofs.Reaching.{begins_anyhow}
+use Rattle.web_tests.proofs.connections.serve.Goals as goal
+
+pub new-requires-clause-reached : goal.new-requires-clause-reached
+new-requires-clause-reached g c = begins_anyhow _ _ _ _ refl (λ t file. tt) c.new-shared.result
