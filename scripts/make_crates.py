@@ -19,7 +19,7 @@ PAGE = "docs/ARCHITECTURE.md"
 TABLE = re.compile(r"(?s)(?<=<!-- made by scripts/make_crates.py -->\n).*(?=<!-- end -->)")
 # The layers, lowest first, each with what its crates' names begin with, or the names of some.
 PROGRAMS = "aid_office loan_office work_office sheet_desk audit_desk"
-TESTS = "io_memory specimen whole_runs office_bench"
+TESTS = "io_memory specimen whole_runs office_bench law_refusals"
 LAYERS = [
     ("Values", "aid_ sorted_"),
     ("The outside", "io_"),
@@ -31,7 +31,7 @@ LAYERS = [
     ("Commands", "run_"),
     ("Other desks, and the auditor", "loans work_ clock_hours audit"),
     ("Programs", PROGRAMS),
-    ("Tests and benches", TESTS),
+    ("Tests, planted bugs and benches", TESTS),
 ]
 # What stands on a crate of a later layer, and is meant to.
 MEANT = {("aid_stamps", "io_traits"), ("io_host", "web_session"), ("office_log", "log_")}
