@@ -6,11 +6,13 @@
 #![tactic(auto)]
 
 mod bytes;
+mod joins;
 mod laws;
 mod rows;
 mod rule_laws;
 
 pub use bytes::{files_what_can_be, kept_as_spelled};
+pub use joins::{each_moment_joins, runs_join};
 pub use laws::{recovers_as_kept, recovers_once, row_is_answered};
 pub use rows::{meant_in_range, row_files, row_files_once, row_named, spelled_once};
 pub use rule_laws::{admitted_is_legal, keys_differ, legal_is_admitted, may_follow_is_rules};

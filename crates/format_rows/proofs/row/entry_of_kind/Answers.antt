@@ -17,14 +17,14 @@ returns-then-not-has_fields g c =
     let words = map (λ word. word.now) c.words-words.result.now in
     let rest = slots_of c.args.kind.parts.now in
     let slots = slots_of c.key_parts-key.result.now ++ rest in
-    let same : row_of_slots words c.args.row c.args.kind.code slots texts ≡ row_of_slots g.T.Table.words c.args.row c.args.kind.code (g.T.Table.key ++ rest) texts =
+    let same : row_of_slots words c.args.row c.args.kind.code slots texts ≡ row_of_slots g.T.KindTable.words c.args.row c.args.kind.code (g.T.KindTable.key ++ rest) texts =
     λ i. row_of_slots (c.words-words.ensures i) c.args.row c.args.kind.code (c.key_parts-key.ensures i ++ rest) texts in
     let many : are_as_many words slots texts ≡ false = sym c.has_fields.ensures ∙ c.if-not-has_fields.true in
     ap Err c.refused.ensures ∙ sym (wrong_count words c.args.row c.args.kind.code slots texts many) ∙ same
 
 pub numbers_of-requires-clause-table : goal.numbers_of-requires-clause-table
 numbers_of-requires-clause-table g c =
-    IsTable-told g.T.Table.key (slots_of c.key_parts-key.result.now) g.T.Table.kinds c.args.kind.code (kind_row c.args.kind) g.met.T.Table.sound (sym c.requires.kind) c.key_parts-key.ensures
+    IsTable-told g.T.KindTable.key (slots_of c.key_parts-key.result.now) g.T.KindTable.kinds c.args.kind.code (kind_row c.args.kind) g.met.T.KindTable.sound (sym c.requires.kind) c.key_parts-key.ensures
 
 pub returns-in_err-draft : goal.returns-in_err-draft
 returns-in_err-draft g c =
@@ -32,7 +32,7 @@ returns-in_err-draft g c =
     let words = map (λ word. word.now) c.words-words.result.now in
     let rest = slots_of c.args.kind.parts.now in
     let slots = slots_of c.key_parts-key.result.now ++ rest in
-    let same : row_of_slots words c.args.row c.args.kind.code slots texts ≡ row_of_slots g.T.Table.words c.args.row c.args.kind.code (g.T.Table.key ++ rest) texts =
+    let same : row_of_slots words c.args.row c.args.kind.code slots texts ≡ row_of_slots g.T.KindTable.words c.args.row c.args.kind.code (g.T.KindTable.key ++ rest) texts =
     λ i. row_of_slots (c.words-words.ensures i) c.args.row c.args.kind.code (c.key_parts-key.ensures i ++ rest) texts in
     let many : are_as_many words slots texts ≡ true = sym c.has_fields.ensures ∙ c.if-not-has_fields.false in
     let p = err_from_is_err_and c.from_residual.result c.from_residual.ensures.1 in
@@ -46,7 +46,7 @@ entry-requires g c =
     let rest = slots_of c.args.kind.parts.now in
     let slots = slots_of c.key_parts-key.result.now ++ rest in
     let read = sym c.numbers_of.ensures ∙ ap numbers_drafted c.in_ok-draft.was in
-    IsRow-by g.T.Table.key (slots_of c.key_parts-key.result.now) g.T.Table.kinds c.args.kind.code (kind_row c.args.kind) c.numbers.result.now c.requires.kind c.key_parts-key.ensures
+    IsRow-by g.T.KindTable.key (slots_of c.key_parts-key.result.now) g.T.KindTable.kinds c.args.kind.code (kind_row c.args.kind) c.numbers.result.now c.requires.kind c.key_parts-key.ensures
     (rw c.numbers.ensures.numbers (read-are words c.args.row slots texts _ read))
 
 pub returns : goal.returns
@@ -55,7 +55,7 @@ returns g c =
     let words = map (λ word. word.now) c.words-words.result.now in
     let rest = slots_of c.args.kind.parts.now in
     let slots = slots_of c.key_parts-key.result.now ++ rest in
-    let same : row_of_slots words c.args.row c.args.kind.code slots texts ≡ row_of_slots g.T.Table.words c.args.row c.args.kind.code (g.T.Table.key ++ rest) texts =
+    let same : row_of_slots words c.args.row c.args.kind.code slots texts ≡ row_of_slots g.T.KindTable.words c.args.row c.args.kind.code (g.T.KindTable.key ++ rest) texts =
     λ i. row_of_slots (c.words-words.ensures i) c.args.row c.args.kind.code (c.key_parts-key.ensures i ++ rest) texts in
     let many : are_as_many words slots texts ≡ true = sym c.has_fields.ensures ∙ c.if-not-has_fields.false in
     let read = sym c.numbers_of.ensures ∙ ap numbers_drafted c.in_ok-draft.was in

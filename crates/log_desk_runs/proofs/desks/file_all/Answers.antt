@@ -13,9 +13,9 @@ returns-in-Ok-clause-ran g c =
     let closed = c.close_desks.result in
     let parts = c.into_parts.ensures in (
       closed.waiting,
-      subst (λ s. HasFiled g.R.StateMachine.semantics g.R.SingleEntryMachine.own g.C.Copies.copied g.L.Rows.texts g.L.Rows.left (stand_of c.args.kept.history None [] None (g.D.Disk.faults c.args.kept.disk) (g.D.Disk.tells c.args.kept.disk).honest) s c.args.desks.now c.close_desks.new.desks)
+      subst (λ s. HasFiled g.R.StateMachine.semantics g.R.SingleEntryMachine.own g.C.EntryCopies.copied g.L.Rows.texts g.L.Rows.left (stand_of c.args.kept.history None [] None (g.D.Disk.faults c.args.kept.disk) (g.D.Disk.tells c.args.kept.disk).honest) s c.args.desks.now c.close_desks.new.desks)
           (sym (stand_same g.D.Disk closed.history _ closed.pending _ closed.log _ closed.waiting closed.disk _ parts.history parts.pending parts.log parts.disk))
-          (has_filed g.R.StateMachine.semantics g.R.SingleEntryMachine.own g.C.Copies.copied g.L.Rows.texts g.L.Rows.left c.in-Ok.turns.id c.in-Ok.rest.opening _ _ c.args.desks.now c.open_desks.new.desks c.work_all.new.desks c.close_desks.new.desks
+          (has_filed g.R.StateMachine.semantics g.R.SingleEntryMachine.own g.C.EntryCopies.copied g.L.Rows.texts g.L.Rows.left c.in-Ok.turns.id c.in-Ok.rest.opening _ _ c.args.desks.now c.open_desks.new.desks c.work_all.new.desks c.close_desks.new.desks
           e.opening c.open_desks.ensures.desks c.work_all.ensures.desks c.open_desks.ensures.same e.ready c.work_all.ensures.works c.close_desks.ensures.ran c.close_desks.ensures.same),
     )
 

@@ -34,7 +34,7 @@ returns-in-Ok-file_all g c =
     let moments : IsHonest (g.D.Disk.tells kept.disk) → EachMoment (g.D.Disk.tells at.disk) (g.D.Disk.tells kept.disk) (RecoversBetween g.R.StateMachine.scheme at.history (with_entry kept.pending kept.history)) =
     λ is. moments_of g.D.Disk g.R.StateMachine.scheme (g.D.Disk.tells at.disk).moment (λ t file. (g.D.Disk.tells at.disk).image_since t file) (stand_of at.history None [] None (g.D.Disk.faults at.disk) (g.D.Disk.tells at.disk).honest) at.history at.disk kept.disk kept.history kept.pending
     refl (λ t file has. has) (first is) (entries_filed at.history []) e.reached is in
-    files_worked g.R.StateMachine.scheme g.R.StateMachine.semantics g.R.SingleEntryMachine.own g.C.Copies.copied g.C.EntryMatch.same g.L.Rows.texts g.L.Rows.left g.D.Disk g.K.Sink c.args.disk at.disk kept.disk c.close.result.1 c.args.desks.now c.file_all.new.desks at.history kept.history kept.pending (reverse log.items) e.ran.0
+    files_worked g.R.StateMachine.scheme g.R.StateMachine.semantics g.R.SingleEntryMachine.own g.C.EntryCopies.copied g.C.EntryMatch.same g.L.Rows.texts g.L.Rows.left g.D.Disk g.K.Sink c.args.disk at.disk kept.disk c.close.result.1 c.args.desks.now c.file_all.new.desks at.history kept.history kept.pending (reverse log.items) e.ran.0
     c.front-front.result c.close.result.0 c.args.out.now c.close.new.out c.requires opened c.in-Ok.ensures.unmoved e.ran.1 c.close.ensures.disk
     (subst (λ d. IsHonest (g.D.Disk.tells d) → IsSound g.R.StateMachine.scheme (g.D.Disk.tells d) kept.history kept.pending) (sym c.close.ensures.disk) e.sound) moments
     (c.front-front.ensures.value ∙ ap length c.machine.ensures)
@@ -44,7 +44,7 @@ returns-in-Ok-file_all g c =
 
 pub returns-in-Err-file_all : goal.returns-in-Err-file_all
 returns-in-Err-file_all g c =
-    subst (λ d. FilesAll g.R.StateMachine.scheme g.R.StateMachine.semantics g.R.SingleEntryMachine.own g.C.Copies.copied g.C.EntryMatch.same g.L.Rows.texts g.L.Rows.left g.D.Disk g.K.Sink c.args.disk d c.args.desks.now c.args.out.now c.end_with-in-Err-file_all.new.out c.end_with-in-Err-file_all.result)
+    subst (λ d. FilesAll g.R.StateMachine.scheme g.R.StateMachine.semantics g.R.SingleEntryMachine.own g.C.EntryCopies.copied g.C.EntryMatch.same g.L.Rows.texts g.L.Rows.left g.D.Disk g.K.Sink c.args.disk d c.args.desks.now c.args.out.now c.end_with-in-Err-file_all.new.out c.end_with-in-Err-file_all.result)
     (sym (c.into_disk.ensures.disk ∙ c.in-Err-file_all.ensures.disk))
     (starved c.in-Ok.kept.history c.end_with-in-Err-file_all.result c.in-Ok.ensures.opened c.in-Ok.ensures.unmoved
     (subst (λ s. EndsWith g.K.Sink (fault_line (File s)) (status_of (File s)) c.args.out.now c.end_with-in-Err-file_all.new.out c.end_with-in-Err-file_all.result) c.into-in-Err-file_all.ensures c.end_with-in-Err-file_all.ensures))

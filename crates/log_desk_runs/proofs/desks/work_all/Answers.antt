@@ -15,4 +15,4 @@ returns-clause-ended g c opening ready k d lt =
 pub returns-clause-works : goal.returns-clause-works
 returns-clause-works g c k d lt =
     let h = (c.for_each_mut.ensures k d lt).1 in
-    subst (λ j. Works g.R.StateMachine.semantics g.R.SingleEntryMachine.own g.C.Copies.copied g.L.Rows.texts g.L.Rows.left c.args.turns.now.id j (slice_index_or c.for_each_mut.new.s k d)) h.argument_is (subst (Works g.R.StateMachine.semantics g.R.SingleEntryMachine.own g.C.Copies.copied g.L.Rows.texts g.L.Rows.left c.args.turns.now.id h.argument.now) {y = slice_index_or c.for_each_mut.new.s k d} h.left h.call)
+    subst (λ j. Works g.R.StateMachine.semantics g.R.SingleEntryMachine.own g.C.EntryCopies.copied g.L.Rows.texts g.L.Rows.left c.args.turns.now.id j (slice_index_or c.for_each_mut.new.s k d)) h.argument_is (subst (Works g.R.StateMachine.semantics g.R.SingleEntryMachine.own g.C.EntryCopies.copied g.L.Rows.texts g.L.Rows.left c.args.turns.now.id h.argument.now) {y = slice_index_or c.for_each_mut.new.s k d} h.left h.call)

@@ -11,16 +11,16 @@ use Rattle.run_rules.proofs.run.run_ruled.Goals as goal
 
 pub returns-clause-ran : goal.returns-clause-ran
 returns-clause-ran g c =
-    let ruling = g.R.Rules.ruling in
-    let texts = table_texts g.R.Entries.code_of g.R.Entries.numbers_of g.R.OutcomeText.outcome_text in
-    let rows_of = table_rows g.R.Table.words g.R.Table.key g.R.Table.kinds in
+    let ruling = g.R.OfficeRules.ruling in
+    let texts = table_texts g.R.EntryCodec.code_of g.R.EntryCodec.numbers_of g.R.OutcomeText.outcome_text in
+    let rows_of = table_rows g.R.KindTable.words g.R.KindTable.key g.R.KindTable.kinds in
     let done = c.run_list.ensures in
     let ran = rw c.command_of.ensures at done.ran in
     let moments = rw c.command_of.ensures at done.moments in
     let stands = rw c.command_of.ensures at done.stands in
     let complete = rw c.command_of.ensures at done.complete in record {
-      within = λ file history is. g.met.R.Rules.legal_within history is.legal;
-      one = λ file history other is also. recovers_once (scheme_of g.R.Rules.ruling) (alone g.R.Rules.ruling g.R.Table.key g.R.Table.kinds g.R.Entries.code_of g.R.Entries.numbers_of g.met.R.Rules.rows g.met.R.Table.sound g.met.R.Entries.one) file history other is also;
+      within = λ file history is. g.met.R.OfficeRules.legal_within history is.legal;
+      one = λ file history other is also. recovers_once (scheme_of g.R.OfficeRules.ruling) (alone g.R.OfficeRules.ruling g.R.KindTable.key g.R.KindTable.kinds g.R.EntryCodec.code_of g.R.EntryCodec.numbers_of g.met.R.OfficeRules.rows g.met.R.KindTable.sound g.met.R.EntryCodec.one) file history other is also;
       ran = ran;
       founded = λ is well honest. stands Found [] is well honest tt;
       keeps = λ past honest each. keeps (scheme_of ruling) (semantics_of ruling) texts rows_of g.D.Disk _ _ past _ _ (moments past honest each);

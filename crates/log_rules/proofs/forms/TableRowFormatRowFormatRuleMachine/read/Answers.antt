@@ -16,7 +16,7 @@ returns-clause-few g c =
       arith,
       c.requires.short,
       ap length c.new.ensures,
-      meanings_from-length (row_meaning g.R.Table.words g.R.Table.key g.R.Table.kinds) 1 (records default_config (strip_bom text)),
+      meanings_from-length (row_meaning g.R.KindTable.words g.R.KindTable.key g.R.KindTable.kinds) 1 (records default_config (strip_bom text)),
       rows_few text,
       count_by-le-length ends_a_line (zip text (drop 1 text)),
       length-zip text (drop 1 text),
