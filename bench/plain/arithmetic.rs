@@ -1,4 +1,4 @@
-// The same arithmetic as crates aid_num, sai_parent, sai_index and pell_schedule in plain Rust, for books of form 1,
+// The same arithmetic as crates aid_types, law_sai and law_pell in plain Rust, for books of form 1,
 // and the specimen book.
 
 #[derive(Clone, Copy, PartialEq, Default)]

@@ -1,4 +1,4 @@
-// The worksheet of a withdrawal, as crate withdrawal_returns has it.
+// The worksheet of a withdrawal, as crate law_r2t4 has it.
 
 use super::filings::{FSEOG, PELL, PROGRAMS};
 
