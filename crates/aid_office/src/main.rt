@@ -22,6 +22,7 @@ use std::net::{Ipv4Addr, Net, TcpListener, TcpStream};
 use std::process::ExitCode;
 use std::sync::Wait;
 use std::thread::Threads;
+use std::time::Clock;
 
 // How the program is used.
 const USAGE: &str = "\
@@ -122,7 +123,10 @@ fn run_alone<K: Sink>(
 }
 
 // Serves on a port of this machine alone. All workers take their connections from one listener.
-fn serve<H: Net<Listener = TcpListener, Stream = TcpStream> + Threads + Wait + Sync, K: Sink>(
+fn serve<
+    H: Net<Listener = TcpListener, Stream = TcpStream> + Clock + Threads + Wait + Sync,
+    K: Sink,
+>(
     rt: &H,
     alloc: Global,
     port: u16,
@@ -137,7 +141,7 @@ fn serve<H: Net<Listener = TcpListener, Stream = TcpStream> + Threads + Wait + S
     };
     let mut ports = Vec::new(alloc);
     for _ in 0..workers {
-        if ports.push(HostAcceptor::new(&listener)).is_err() {
+        if ports.push(HostAcceptor::new(rt, &listener)).is_err() {
             return end(Err(RunStop::File(ReadStop::NoMemory.into())), out);
         }
     }
@@ -186,7 +190,7 @@ fn main(rt: HostRuntime) -> ExitCode {
         say(&rt, "the journal's folder can't be written for good");
         return disk_fault;
     }
-    let disk = HostDisk::new(file);
+    let disk = HostDisk::at_path(&rt, file, path);
     let status = match row {
         MainRow::Run => match run_alone(&rt, &words, disk, &mut out) {
             Ok(status) => status,

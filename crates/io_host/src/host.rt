@@ -1,6 +1,7 @@
 //! The edges of the process: what std reads and writes. They tell nothing of content.
 ghost use Rattle.std.specs.Prelude.{◌≡◌, false};
 
+use crate::retried::{read_some, write_some};
 use io_traits::{Failed, Sink, Source};
 use std::io::{Read, Write};
 
@@ -31,7 +32,7 @@ impl<R: Read> Source for HostReader<R> {
     ghost faults = { λ e. e.faults };
 
     fn read(&mut self, buffer: &mut [u8]) -> Result<usize, Failed> {
-        match self.inner.read(buffer) {
+        match read_some(&mut self.inner, buffer) {
             Ok(count) => Ok(count),
             Err(_) => {
                 self.faults = self.faults.saturating_add(1);
@@ -68,7 +69,7 @@ impl<W: Write> Sink for HostWriter<W> {
     ghost faults = { λ e. e.faults };
 
     fn write(&mut self, bytes: &[u8]) -> Result<usize, Failed> {
-        match self.inner.write(bytes) {
+        match write_some(&mut self.inner, bytes) {
             Ok(count) if count > 0 || bytes.is_empty() => Ok(count),
             _ => {
                 self.faults = self.faults.saturating_add(1);

@@ -9,6 +9,7 @@
 //! not kept, the first page and the last ones, are then written again as they read, and synced: what stays in memory gets to the
 //! medium, and of the others nothing changes.
 use crate::files::hold;
+use crate::retried::read_some_at;
 use std::fs::File;
 use std::io;
 use std::os::fd::AsRawFd;
@@ -58,14 +59,14 @@ fn forget(file: &File) -> io::Result<()> {
 // Whether a journal begins so.
 fn is_journal(file: &File) -> io::Result<bool> {
     let mut front = [0u8; 9];
-    let read = file.read_at(&mut front, 0)?;
+    let read = read_some_at(file, 0, &mut front)?;
     Ok(read == front.len() && front == FRONT)
 }
 
 // Writes a page again as it reads.
 fn write_page(file: &File, at: u64) -> io::Result<()> {
     let mut page = [0u8; PAGE];
-    let read = file.read_at(&mut page, at)?;
+    let read = read_some_at(file, at, &mut page)?;
     file.write_all_at(&page[..read], at)
 }
 

@@ -10,6 +10,6 @@ mod run;
 
 pub use copies::FilingEntryCopies;
 pub use desks::{RuleDeskInput, run_ruled_desks};
-pub use program::{Opened, close_program, open_program};
+pub use program::{Opened, close_program, open_program, open_reader};
 pub use ruled::run_ruled_words;
 pub use run::run_ruled;

@@ -2,7 +2,7 @@
 #![tactic(auto)]
 
 use io_host::HostWriter;
-use run_rules::{Opened, close_program, open_program};
+use run_rules::{Opened, close_program, open_reader};
 use run_sheets::run_sheets;
 use std::process::ExitCode;
 
@@ -19,7 +19,7 @@ usage: sheet_desk JOURNAL list
 
 fn main(rt: HostRuntime) -> ExitCode {
     let mut out = HostWriter::new(rt.stdout());
-    match open_program(&rt, USAGE, &mut out) {
+    match open_reader(&rt, USAGE, &mut out) {
         Ok(
             Opened {
                 words,

@@ -22,6 +22,7 @@ use std::process::Abort;
 use std::sync::Wait;
 use std::test::Fail;
 use std::thread::join;
+use std::time::Clock;
 use web_session::{Connection, End};
 use web_workers::serve_desk;
 use whole_runs::disk;
@@ -658,13 +659,13 @@ fn file_twice(mut peer: TcpStream) -> io::Result<bool> {
 }
 
 // The session over a socket, which is closed then.
-fn serve_socket<H: Wait>(
+fn serve_socket<H: Clock + Wait>(
     rt: &H,
     alloc: Global,
     disk: MemoryDisk,
     stream: TcpStream,
 ) -> Option<End> {
-    let mut link = HostConnection::new(stream);
+    let mut link = HostConnection::new(rt, stream);
     let ended = serve(rt, alloc, disk, &mut link);
     link.close();
     ended
