@@ -18,7 +18,7 @@ mod laws;
 mod limits;
 mod names;
 mod nets;
-mod outcome;
+mod outcome_text;
 mod parts;
 mod rows;
 mod rules;

@@ -1,6 +1,6 @@
 use Rattle.std.proofs.Common.{arith}
 use Rattle.desk_tests.specs.MarkLaws.{legal_within}
-use Rattle.desk_tests.proofs.rules.MarksRules.judge.Goals as goal
+use Rattle.desk_tests.proofs.rules.MarksOfficeRules.judge.Goals as goal
 
 pub overflow_add-all : goal.overflow_add-all
 overflow_add-all c = omega (arith, c.total-kept.ensures, legal_within c.args.index.now.list c.requires)

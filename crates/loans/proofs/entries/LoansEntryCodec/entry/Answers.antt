@@ -1,5 +1,5 @@
 use Rattle.loans.proofs.Fit.{row_parted}
-use Rattle.loans.proofs.entries.LoansEntries.entry.Goals as goal
+use Rattle.loans.proofs.entries.LoansEntryCodec.entry.Goals as goal
 
 pub key_of-requires : goal.key_of-requires
 key_of-requires c = record { in_range = rw c.split_at.ensures.front (row_parted c.args.code c.args.numbers.now c.requires).1 }

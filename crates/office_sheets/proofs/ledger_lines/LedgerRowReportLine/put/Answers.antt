@@ -5,7 +5,7 @@ use Rattle.office_reports.specs.Columns.{left, right}
 use Rattle.office_sheets.specs.LedgerLines.{number_text, word_text}
 use Rattle.office_sheets.specs.Lists.{clerk_text}
 use Rattle.office_sheets.proofs.Ahead.{eight_first}
-use Rattle.office_sheets.proofs.ledger_lines.LedgerRowLine.put.Goals as goal
+use Rattle.office_sheets.proofs.ledger_lines.LedgerRowReportLine.put.Goals as goal
 
 pub returns : goal.returns
 returns c =

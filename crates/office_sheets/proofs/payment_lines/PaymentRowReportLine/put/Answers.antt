@@ -6,7 +6,7 @@ use Rattle.law_terms.specs.Days.{day_text}
 use Rattle.office_sheets.specs.LedgerLines.{moved_text, movement_text}
 use Rattle.office_sheets.specs.Lists.{clerk_text}
 use Rattle.office_sheets.proofs.Ahead.{joined_line}
-use Rattle.office_sheets.proofs.payment_lines.PaymentRowLine.put.Goals as goal
+use Rattle.office_sheets.proofs.payment_lines.PaymentRowReportLine.put.Goals as goal
 
 pub returns : goal.returns
 returns c =
