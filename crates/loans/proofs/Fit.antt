@@ -18,10 +18,10 @@ use Rattle.format_table.specs.Tables.{IsRow, KindRow, kind_at, slots_in}
 use Rattle.format_table.specs.declared.field.Form.TheVariants.{U32}
 use Rattle.format_table.specs.declared.field.Limit.TheVariants.{Between}
 use Rattle.format_kinds.specs.Kinds.{key_slots}
-use Rattle.loans.specs.Ranges.{EachIsDollars, HaveLevels, is_dollars, is_loan}
-use Rattle.loans.specs.declared.filing.LimitFacts.{LimitFacts}
-use Rattle.loans.specs.declared.filing.LoanWhat.{LoanWhat}
-use Rattle.loans.specs.declared.filing.LoanWhat.TheVariants.{Limits, Borrower, Before, Lend, Cancel}
+use Rattle.law_loans.specs.Ranges.{EachIsDollars, HaveLevels, is_dollars, is_loan}
+use Rattle.law_loans.specs.declared.filing.LimitFacts.{LimitFacts}
+use Rattle.law_loans.specs.declared.filing.LoanWhat.{LoanWhat}
+use Rattle.law_loans.specs.declared.filing.LoanWhat.TheVariants.{Limits, Borrower, Before, Lend, Cancel}
 use Rattle.loans.specs.Kinds.{limit_slots, limits_slots, loan_kinds}
 use Rattle.loans.specs.Numbers.{code_of_what, dollar_numbers, key_numbers, limits_in, limits_numbers, what_numbers}
 use Rattle.loans.specs.Parts.{FitAnywhere, FitSomewhere, dollar_slots, slots_of_what}

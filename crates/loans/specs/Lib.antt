@@ -1,10 +1,3 @@
-pub mod Changes
-pub mod Loans
-pub mod Ranges
-pub mod Register
-pub mod Rows
-pub mod Rules
-pub mod Within
 pub mod Kinds
 pub mod Numbers
 pub mod Outcomes

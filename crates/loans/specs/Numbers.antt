@@ -2,13 +2,13 @@
 use Rattle.std.specs.Prelude.{ℕ, ℤ, pos, Bool, true, false, List, [], ◌∷◌, ◌++◌, map}
 use Rattle.aid_types.specs.Programs.{rank}
 use Rattle.aid_types.specs.declared.number.Key.{Key}
-use Rattle.loans.specs.declared.filing.BeforeFacts.{BeforeFacts}
-use Rattle.loans.specs.declared.filing.BorrowerFacts.{BorrowerFacts}
-use Rattle.loans.specs.declared.filing.LimitFacts.{LimitFacts}
-use Rattle.loans.specs.declared.filing.LoanAmount.{LoanAmount}
-use Rattle.loans.specs.declared.filing.LoanFiling.{LoanFiling}
-use Rattle.loans.specs.declared.filing.LoanWhat.{LoanWhat}
-use Rattle.loans.specs.declared.filing.LoanWhat.TheVariants.{Limits, Borrower, Before, Lend, Cancel}
+use Rattle.law_loans.specs.declared.filing.BeforeFacts.{BeforeFacts}
+use Rattle.law_loans.specs.declared.filing.BorrowerFacts.{BorrowerFacts}
+use Rattle.law_loans.specs.declared.filing.LimitFacts.{LimitFacts}
+use Rattle.law_loans.specs.declared.filing.LoanAmount.{LoanAmount}
+use Rattle.law_loans.specs.declared.filing.LoanFiling.{LoanFiling}
+use Rattle.law_loans.specs.declared.filing.LoanWhat.{LoanWhat}
+use Rattle.law_loans.specs.declared.filing.LoanWhat.TheVariants.{Limits, Borrower, Before, Lend, Cancel}
 
 -- a yes by 1
 abbrev pub flag_number : Bool → ℤ

@@ -4,8 +4,8 @@ use Rattle.format_table.specs.Columns.{one}
 use Rattle.format_table.specs.Layout.{AreNumbers}
 use Rattle.format_table.specs.Parts.{Slot}
 use Rattle.format_table.specs.declared.field.Form.TheVariants.{U32}
-use Rattle.loans.specs.declared.filing.LoanWhat.{LoanWhat}
-use Rattle.loans.specs.declared.filing.LoanWhat.TheVariants.{Limits, Borrower, Before, Lend, Cancel}
+use Rattle.law_loans.specs.declared.filing.LoanWhat.{LoanWhat}
+use Rattle.law_loans.specs.declared.filing.LoanWhat.TheVariants.{Limits, Borrower, Before, Lend, Cancel}
 use Rattle.loans.specs.Kinds.{before_slots, borrower_slots, limits_slots, loan_slots}
 
 -- numbers of these fields behind some numbers

@@ -5,12 +5,12 @@ use Rattle.log_rules.specs.Rows.{SpellsRows, ruling_by}
 use Rattle.log_rules.specs.Ruled.{IsLegal}
 use Rattle.log_rules.specs.Ruling.{Ruling}
 use Rattle.log_rules.specs.RowLaws.{rows_by}
-use Rattle.loans.specs.declared.filing.LoanFiling.{LoanFiling}
-use Rattle.loans.specs.Rules.{AreAllowed, breaks, outcome_of}
-use Rattle.loans.specs.Within.{IsWithinLoans}
-use Rattle.loans.specs.declared.facts.LoanOutcome.{LoanOutcome}
-use Rattle.loans.proofs.AllowedWithin.{allowed_within}
-use Rattle.loans.proofs.Holding.{has_room}
+use Rattle.law_loans.specs.declared.filing.LoanFiling.{LoanFiling}
+use Rattle.law_loans.specs.Rules.{AreAllowed, breaks, outcome_of}
+use Rattle.law_loans.specs.Within.{IsWithinLoans}
+use Rattle.law_loans.specs.declared.facts.LoanOutcome.{LoanOutcome}
+use Rattle.law_loans.proofs.AllowedWithin.{allowed_within}
+use Rattle.law_loans.proofs.Holding.{has_room}
 use Rattle.loans.specs.Kinds.{loan_kinds}
 use Rattle.loans.specs.Numbers.{code_of_loan, numbers_of_loan}
 use Rattle.loans.specs.Same.{same_loan}

@@ -6,15 +6,15 @@ use Rattle.aid_types.specs.declared.number.Key.{Key}
 use Rattle.aid_types.specs.declared.number.Program.{Program}
 use Rattle.aid_types.specs.declared.number.Program.TheVariants.{Unsub, Sub, Plus, Pell, Fseog, Teach}
 use Rattle.aid_types.proofs.Same.{key_parts, key_whole}
-use Rattle.loans.specs.Ranges.{HaveLevels, is_loan}
-use Rattle.loans.specs.declared.filing.BeforeFacts.{BeforeFacts}
-use Rattle.loans.specs.declared.filing.BorrowerFacts.{BorrowerFacts}
-use Rattle.loans.specs.declared.filing.LimitFacts.{LimitFacts}
-use Rattle.loans.specs.declared.filing.LoanAmount.{LoanAmount}
-use Rattle.loans.specs.declared.filing.LoanFiling.{LoanFiling}
-use Rattle.loans.specs.declared.filing.LoanWhat.{LoanWhat}
-use Rattle.loans.specs.declared.filing.LoanWhat.TheVariants.{Limits, Borrower, Before, Lend, Cancel}
-use Rattle.loans.proofs.SameLoan.{LimitParts, before_parts, before_whole, borrower_parts, borrower_whole, limit_parts, limit_whole, loan_parts, loan_whole}
+use Rattle.law_loans.specs.Ranges.{HaveLevels, is_loan}
+use Rattle.law_loans.specs.declared.filing.BeforeFacts.{BeforeFacts}
+use Rattle.law_loans.specs.declared.filing.BorrowerFacts.{BorrowerFacts}
+use Rattle.law_loans.specs.declared.filing.LimitFacts.{LimitFacts}
+use Rattle.law_loans.specs.declared.filing.LoanAmount.{LoanAmount}
+use Rattle.law_loans.specs.declared.filing.LoanFiling.{LoanFiling}
+use Rattle.law_loans.specs.declared.filing.LoanWhat.{LoanWhat}
+use Rattle.law_loans.specs.declared.filing.LoanWhat.TheVariants.{Limits, Borrower, Before, Lend, Cancel}
+use Rattle.law_loans.proofs.SameLoan.{LimitParts, before_parts, before_whole, borrower_parts, borrower_whole, limit_parts, limit_whole, loan_parts, loan_whole}
 use Rattle.loans.specs.Numbers.{before_numbers, borrower_numbers, code_of_loan, code_of_what, dollar_numbers, flag_number, key_numbers, limits_in, limits_numbers, loan_numbers, numbers_of_loan, what_numbers}
 
 -- the numbers of equal lists, and what they are of

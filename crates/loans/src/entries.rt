@@ -6,13 +6,13 @@ ghost use Rattle.loans.specs.Numbers.{code_of_loan, code_of_what, numbers_of_loa
 ghost use Rattle.loans.specs.Parts.{FitAnywhere, FitSomewhere, slots_of_what};
 ghost use Rattle.loans.specs.Same.{same_loan};
 
-use crate::desk_facts::{
+use crate::facts::{
     before_of, borrower_of, key_of, loan_of, put_before, put_borrower, put_key, put_loan,
 };
 use crate::limits::{limits_of, put_limits};
 use crate::table::Loans;
-use crate::{LoanFiling, LoanWhat};
 use format_table::{EntryCodec, Numbers};
+use law_loans::{LoanFiling, LoanWhat};
 
 impl EntryCodec for Loans {
     type Entry = LoanFiling;

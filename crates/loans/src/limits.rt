@@ -2,15 +2,15 @@
 ghost use Rattle.std.specs.Prelude.{◌≡◌, ◌+◌, ◌≤◌, [], ◌∷◌, ◌++◌, length, pos};
 ghost use Rattle.format_table.specs.Columns.{year as year_slot};
 ghost use Rattle.format_table.specs.Forms.{most_numbers};
-ghost use Rattle.loans.specs.Ranges.{EachIsDollars};
+ghost use Rattle.law_loans.specs.Ranges.{EachIsDollars};
 ghost use Rattle.loans.specs.Kinds.{limits_slots};
 ghost use Rattle.loans.specs.Numbers.{dollar_numbers, limits_numbers};
 ghost use Rattle.loans.specs.Parts.{FitAnywhere, FitSomewhere, dollar_slots};
 
-use crate::LimitFacts;
 use crate::scalar::{dollars_from, number_of_year, year_from};
 use aid_types::Year;
 use format_table::{Numbers, add_numbers};
+use law_loans::LimitFacts;
 
 pub(crate) fn put_limits(limits: &LimitFacts, numbers: &mut Numbers)
     requires room { length numbers.old.items + 17 ≤ most_numbers }

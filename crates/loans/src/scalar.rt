@@ -2,7 +2,7 @@
 ghost use Rattle.std.specs.Prelude.{◌≡◌, ◌≤◌, IsTrue, pos};
 ghost use Rattle.aid_types.specs.Programs.{rank};
 ghost use Rattle.format_table.specs.Limits.{is_between};
-ghost use Rattle.loans.specs.Ranges.{is_loan};
+ghost use Rattle.law_loans.specs.Ranges.{is_loan};
 ghost use Rattle.loans.specs.Numbers.{flag_number};
 
 use aid_types::{Program, Student, Year};

@@ -6,10 +6,10 @@ use Rattle.law_funds.specs.Rounds.{AreWithinNeeds}
 use Rattle.law_funds.specs.declared.candidate.Candidate.{Candidate}
 use Rattle.work_rounds.specs.Plans.{AreAwarded, IsAwarded}
 use Rattle.work_rounds.specs.declared.words.RoundRequest.{RoundRequest}
-use Rattle.work_study.specs.declared.filing.WorkFiling.{WorkFiling}
-use Rattle.work_study.specs.declared.filing.WorkWhat.{WorkWhat}
-use Rattle.work_study.specs.declared.filing.WorkWhat.TheVariants.{Fund, Award, Earn, Release}
-use Rattle.work_study.specs.Funds.{dollars_of, fund, fund_at, is_fund, rest}
+use Rattle.law_work.specs.declared.filing.WorkFiling.{WorkFiling}
+use Rattle.law_work.specs.declared.filing.WorkWhat.{WorkWhat}
+use Rattle.law_work.specs.declared.filing.WorkWhat.TheVariants.{Fund, Award, Earn, Release}
+use Rattle.law_work.specs.Funds.{dollars_of, fund, fund_at, is_fund, rest}
 
 -- an award within its candidate's need is none, or one of 100 to 4,000 dollars
 pub award_in_range : (cs : List Candidate) (awards : List ℕ) → AreWithinNeeds cs awards → (i : ℕ) (award : ℕ) → i < length cs → award ≡ get_or awards i award → 0 < award → (100 ≤ award) × (award ≤ 4000)

@@ -24,8 +24,8 @@ use Rattle.work_rounds.specs.Rows.{is_of, repeated_line, round_line, round_lines
 use Rattle.work_rounds.specs.declared.gather.Gathered.{Gathered}
 use Rattle.work_rounds.specs.declared.rows.RoundSaid.{RoundSaid}
 use Rattle.work_rounds.specs.declared.words.RoundRequest.{RoundRequest}
-use Rattle.work_study.specs.declared.filing.WorkFiling.{WorkFiling}
-use Rattle.work_study.specs.Funds.{award_at}
+use Rattle.law_work.specs.declared.filing.WorkFiling.{WorkFiling}
+use Rattle.law_work.specs.Funds.{award_at}
 
 abbrev Row : Type 0
 Row = Result RoundSaid RowError

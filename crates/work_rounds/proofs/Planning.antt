@@ -9,8 +9,8 @@ use Rattle.work_rounds.specs.Rows.{round_lines, round_rows}
 use Rattle.work_rounds.specs.declared.gather.Gathered.{Gathered}
 use Rattle.work_rounds.specs.declared.rows.RoundSaid.{RoundSaid}
 use Rattle.work_rounds.specs.declared.words.RoundRequest.{RoundRequest}
-use Rattle.work_study.specs.declared.filing.WorkFiling.{WorkFiling}
-use Rattle.work_study.specs.Funds.{rest}
+use Rattle.law_work.specs.declared.filing.WorkFiling.{WorkFiling}
+use Rattle.law_work.specs.Funds.{rest}
 
 pub planned : (gives : ℕ → ℤ → ℕ → ℕ → Type 0) (r : RoundRequest) (text : List ℕ) (past : List WorkFiling) (rows : List (Result RoundSaid RowError)) (g : Gathered) (cs ds es : List Candidate) (awards given : List ℕ) (fs left_filings : List WorkFiling) (whole left : ℕ) (closing : List ℕ)
     → rows ≡ round_rows text → IsGathered past r rows g → AreCandidates past r rows cs → whole ≡ rest past r.school r.year → ds ≡ cs → IsRound gives whole ds awards left → es ≡ cs → given ≡ awards

@@ -18,7 +18,7 @@ use Rattle.work_rounds.specs.Plans.{IsPlanned, policies_give, round_plans, round
 use Rattle.work_rounds.specs.Runs.{CanBeDone, MayRecoverWork, RanWork, RecoversWork, SchoolGives, StandsWork, StoodBefore, reads_input, work_semantics, work_rows, work_scheme, work_texts}
 use Rattle.work_rounds.specs.Words.{WorkCommand, OfList, OfRound, or_list, policy_of}
 use Rattle.work_rounds.specs.declared.words.RoundRequest.{RoundRequest}
-use Rattle.work_study.specs.declared.filing.WorkFiling.{WorkFiling}
+use Rattle.law_work.specs.declared.filing.WorkFiling.{WorkFiling}
 
 some_command : (x y : WorkCommand) → ◌≡◌ {A = Option WorkCommand} (Some x) (Some y) → x ≡ y
 some_command x y e = ap (λ (o : Option WorkCommand). elim o [ Some z ↦ z | None ↦ x ]) e

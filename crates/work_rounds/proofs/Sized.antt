@@ -11,12 +11,12 @@ use Rattle.aid_types.specs.RuleLines.{first_broken, told_by}
 use Rattle.aid_types.specs.declared.line.RuleLine.{RuleLine}
 use Rattle.work_rounds.specs.Plans.{AreAwarded, IsAwarded}
 use Rattle.work_rounds.specs.declared.words.RoundRequest.{RoundRequest}
-use Rattle.work_study.specs.declared.filing.DollarFacts.{DollarFacts}
-use Rattle.work_study.specs.declared.filing.WorkFiling.{WorkFiling}
-use Rattle.work_study.specs.declared.filing.WorkWhat.{WorkWhat}
-use Rattle.work_study.specs.declared.filing.WorkWhat.TheVariants.{Award}
-use Rattle.work_study.specs.Rules.{breaks, facts_of, is_no_award, kind_lines, rule_210}
-use Rattle.work_study.specs.declared.facts.WorkFacts.{WorkFacts}
+use Rattle.law_work.specs.declared.filing.DollarFacts.{DollarFacts}
+use Rattle.law_work.specs.declared.filing.WorkFiling.{WorkFiling}
+use Rattle.law_work.specs.declared.filing.WorkWhat.{WorkWhat}
+use Rattle.law_work.specs.declared.filing.WorkWhat.TheVariants.{Award}
+use Rattle.law_work.specs.Rules.{breaks, facts_of, is_no_award, kind_lines, rule_210}
+use Rattle.law_work.specs.declared.facts.WorkFacts.{WorkFacts}
 
 -- the first of lines of which none with a number is broken has another number
 other_rule : (number : ℕ) (lines : List RuleLine) → AllByRecursion (λ line. line.is_broken ≡ true → line.rule ≢ number) lines → (refusal : Refusal) → first_broken lines ≡ Some refusal → refusal.rule ≢ number

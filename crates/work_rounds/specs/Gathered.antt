@@ -10,7 +10,7 @@ use Rattle.work_rounds.specs.Rows.{is_of, round_lines}
 use Rattle.work_rounds.specs.declared.gather.Gathered.{Gathered}
 use Rattle.work_rounds.specs.declared.rows.RoundSaid.{RoundSaid}
 use Rattle.work_rounds.specs.declared.words.RoundRequest.{RoundRequest}
-use Rattle.work_study.specs.declared.filing.WorkFiling.{WorkFiling}
+use Rattle.law_work.specs.declared.filing.WorkFiling.{WorkFiling}
 
 -- their lines, those who are candidates by them, and the students of those that were read
 pub record IsGathered (past : List WorkFiling) (r : RoundRequest) (rows : List (Result RoundSaid RowError)) (g : Gathered) : Type 0 where

@@ -13,11 +13,11 @@ use Rattle.work_rounds.specs.Rows.{is_of, round_lines, round_rows, said_of_candi
 use Rattle.work_rounds.specs.Words.{policy_of}
 use Rattle.work_rounds.specs.declared.rows.RoundSaid.{RoundSaid}
 use Rattle.work_rounds.specs.declared.words.RoundRequest.{RoundRequest}
-use Rattle.work_study.specs.declared.filing.DollarFacts.{DollarFacts}
-use Rattle.work_study.specs.declared.filing.WorkFiling.{WorkFiling}
-use Rattle.work_study.specs.declared.filing.WorkWhat.TheVariants.{Award}
-use Rattle.work_study.specs.Funds.{award_at, rest}
-use Rattle.work_study.specs.declared.facts.WorkOutcome.{WorkOutcome}
+use Rattle.law_work.specs.declared.filing.DollarFacts.{DollarFacts}
+use Rattle.law_work.specs.declared.filing.WorkFiling.{WorkFiling}
+use Rattle.law_work.specs.declared.filing.WorkWhat.TheVariants.{Award}
+use Rattle.law_work.specs.Funds.{award_at, rest}
+use Rattle.law_work.specs.declared.facts.WorkOutcome.{WorkOutcome}
 use Rattle.work_study.specs.Outcomes.{work_text}
 
 -- a candidate is what the first row of a student says who has no award of the school in the year

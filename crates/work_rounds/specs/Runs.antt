@@ -21,8 +21,8 @@ use Rattle.log_rules.specs.Ruled.{semantics_of, scheme_of}
 use Rattle.log_rules.specs.declared.response.RuleResponse.{RuleResponse}
 use Rattle.work_rounds.specs.Plans.{round_plans, round_texts}
 use Rattle.work_rounds.specs.Words.{WorkCommand, OfList, OfRound}
-use Rattle.work_study.specs.declared.filing.WorkFiling.{WorkFiling}
-use Rattle.work_study.specs.declared.facts.WorkOutcome.{WorkOutcome}
+use Rattle.law_work.specs.declared.filing.WorkFiling.{WorkFiling}
+use Rattle.law_work.specs.declared.facts.WorkOutcome.{WorkOutcome}
 use Rattle.work_study.specs.Kinds.{work_kinds}
 use Rattle.work_study.specs.Numbers.{code_of_work, numbers_of_work}
 use Rattle.work_study.specs.Outcomes.{work_text}

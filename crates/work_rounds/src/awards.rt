@@ -7,8 +7,8 @@ ghost use Rattle.work_rounds.specs.Plans.{AreAwarded};
 use crate::words::RoundRequest;
 use aid_types::Key;
 use law_funds::Candidate;
+use law_work::{DollarFacts, WorkFiling, WorkWhat};
 use std::alloc::{AllocError, Global};
-use work_study::{DollarFacts, WorkFiling, WorkWhat};
 
 /// The filings of the awards above 0, in the order of the candidates, under consecutive numbers of the school. An `Err` is want
 /// of memory.

@@ -4,8 +4,8 @@ ghost use Rattle.std.specs.List.{Contains};
 ghost use Rattle.aid_types.specs.declared.award.Refusal.{Refusal};
 ghost use Rattle.work_rounds.specs.Plans.{IsPlanned};
 ghost use Rattle.work_rounds.specs.declared.words.RoundRequest.{RoundRequest};
-ghost use Rattle.work_study.specs.declared.filing.WorkFiling.{WorkFiling};
-ghost use Rattle.work_study.specs.Rules.{breaks};
+ghost use Rattle.law_work.specs.declared.filing.WorkFiling.{WorkFiling};
+ghost use Rattle.law_work.specs.Rules.{breaks};
 
 use law_funds::{Policy, Rule};
 

@@ -13,12 +13,13 @@ use crate::words::RoundRequest;
 use crate::{PlannedRound, RoundPlan};
 use format_rows::{RowError, TextRows, put_error};
 use law_funds::{Policy, Rule, round};
+use law_work::{WorkFiling, WorkOutcome};
 use log_machine::Rows;
 use log_rules::{RuleMachine, RuleResponse, put_answer};
 use log_runs::number_line;
 use std::alloc::{AllocError, Global};
 use std::vec::IntoIter;
-use work_study::{FundBalances, WorkFiling, WorkOutcome, WorkStudy};
+use work_study::{FundBalances, WorkStudy};
 
 /// The awards of a round that weren't filed yet.
 #[derive(Drop)]

@@ -6,8 +6,8 @@ ghost use Rattle.log_runs.specs.Counts.{Shows};
 ghost use Rattle.work_rounds.specs.Plans.{policies_give};
 ghost use Rattle.work_rounds.specs.Runs.{CanBeDone, MayRecoverWork, RanWork, RecoversWork, StandsWork, StoodBefore, reads_input};
 ghost use Rattle.work_rounds.specs.Words.{WorkCommand, command_in};
-ghost use Rattle.work_study.specs.declared.filing.WorkFiling.{WorkFiling};
-ghost use Rattle.work_study.specs.AddsUp.{AddsUp};
+ghost use Rattle.law_work.specs.declared.filing.WorkFiling.{WorkFiling};
+ghost use Rattle.law_work.specs.AddsUp.{AddsUp};
 
 use crate::plan::WorkRound;
 use crate::run_headed_round;

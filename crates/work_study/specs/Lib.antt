@@ -1,9 +1,3 @@
-pub mod AddsUp
-pub mod Changes
-pub mod Funds
-pub mod Register
-pub mod Rows
-pub mod Rules
 pub mod Kinds
 pub mod Numbers
 pub mod Outcomes

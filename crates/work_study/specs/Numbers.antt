@@ -1,12 +1,12 @@
 -- A work-study filing as the list of its numbers, in the order of its kind's fields, those of its key first. Own format.
 use Rattle.std.specs.Prelude.{ℕ, ℤ, pos, List, [], ◌∷◌, ◌++◌}
 use Rattle.aid_types.specs.declared.number.Key.{Key}
-use Rattle.work_study.specs.declared.filing.DollarFacts.{DollarFacts}
-use Rattle.work_study.specs.declared.filing.EarnFacts.{EarnFacts}
-use Rattle.work_study.specs.declared.filing.FundFacts.{FundFacts}
-use Rattle.work_study.specs.declared.filing.WorkFiling.{WorkFiling}
-use Rattle.work_study.specs.declared.filing.WorkWhat.{WorkWhat}
-use Rattle.work_study.specs.declared.filing.WorkWhat.TheVariants.{Fund, Award, Earn, Release}
+use Rattle.law_work.specs.declared.filing.DollarFacts.{DollarFacts}
+use Rattle.law_work.specs.declared.filing.EarnFacts.{EarnFacts}
+use Rattle.law_work.specs.declared.filing.FundFacts.{FundFacts}
+use Rattle.law_work.specs.declared.filing.WorkFiling.{WorkFiling}
+use Rattle.law_work.specs.declared.filing.WorkWhat.{WorkWhat}
+use Rattle.law_work.specs.declared.filing.WorkWhat.TheVariants.{Fund, Award, Earn, Release}
 
 -- the school of a key, and the number
 abbrev pub key_numbers : Key → List ℤ

@@ -5,12 +5,12 @@ use Rattle.log_rules.specs.Rows.{SpellsRows, ruling_by}
 use Rattle.log_rules.specs.Ruled.{IsLegal}
 use Rattle.log_rules.specs.Ruling.{Ruling}
 use Rattle.log_rules.specs.RowLaws.{rows_by}
-use Rattle.work_study.specs.declared.filing.WorkFiling.{WorkFiling}
-use Rattle.work_study.specs.AddsUp.{AddsUp}
-use Rattle.work_study.specs.Rules.{AreAllowed, breaks, outcome_of}
-use Rattle.work_study.specs.declared.facts.WorkOutcome.{WorkOutcome}
-use Rattle.work_study.proofs.AllowedAddsUp.{allowed_adds_up}
-use Rattle.work_study.proofs.Holding.{has_room}
+use Rattle.law_work.specs.declared.filing.WorkFiling.{WorkFiling}
+use Rattle.law_work.specs.AddsUp.{AddsUp}
+use Rattle.law_work.specs.Rules.{AreAllowed, breaks, outcome_of}
+use Rattle.law_work.specs.declared.facts.WorkOutcome.{WorkOutcome}
+use Rattle.law_work.proofs.AllowedAddsUp.{allowed_adds_up}
+use Rattle.law_work.proofs.Holding.{has_room}
 use Rattle.work_study.specs.Kinds.{work_kinds}
 use Rattle.work_study.specs.Numbers.{code_of_work, numbers_of_work}
 use Rattle.work_study.specs.Same.{same_work}

@@ -3,13 +3,13 @@ use Rattle.std.proofs.Common.{◌≡◌, ℕ, ℤ, pos, List, drop, take, ap, ar
 use Rattle.std.specs.Prelude.{slice_index_or, unsigned_abs}
 use Rattle.aid_types.specs.declared.number.Key.{Key}
 use Rattle.aid_types.proofs.Same.{key_parts, key_whole}
-use Rattle.work_study.specs.declared.filing.DollarFacts.{DollarFacts}
-use Rattle.work_study.specs.declared.filing.EarnFacts.{EarnFacts}
-use Rattle.work_study.specs.declared.filing.FundFacts.{FundFacts}
-use Rattle.work_study.specs.declared.filing.WorkFiling.{WorkFiling}
-use Rattle.work_study.specs.declared.filing.WorkWhat.{WorkWhat}
-use Rattle.work_study.specs.declared.filing.WorkWhat.TheVariants.{Fund, Award, Earn, Release}
-use Rattle.work_study.proofs.SameWork.{dollar_parts, dollar_whole, earn_parts, earn_whole, fund_parts, fund_whole}
+use Rattle.law_work.specs.declared.filing.DollarFacts.{DollarFacts}
+use Rattle.law_work.specs.declared.filing.EarnFacts.{EarnFacts}
+use Rattle.law_work.specs.declared.filing.FundFacts.{FundFacts}
+use Rattle.law_work.specs.declared.filing.WorkFiling.{WorkFiling}
+use Rattle.law_work.specs.declared.filing.WorkWhat.{WorkWhat}
+use Rattle.law_work.specs.declared.filing.WorkWhat.TheVariants.{Fund, Award, Earn, Release}
+use Rattle.law_work.proofs.SameWork.{dollar_parts, dollar_whole, earn_parts, earn_whole, fund_parts, fund_whole}
 use Rattle.work_study.specs.Numbers.{code_of_what, code_of_work, dollar_numbers, earn_numbers, fund_numbers, key_numbers, numbers_of_work, what_numbers}
 
 -- the natural numbers at a place of equal lists

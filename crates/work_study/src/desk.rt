@@ -1,7 +1,7 @@
 //! What a round asks of a desk.
 ghost use Rattle.std.specs.Prelude.{◌≡◌, List, nat_lt};
-ghost use Rattle.work_study.specs.declared.filing.WorkFiling.{WorkFiling};
-ghost use Rattle.work_study.specs.Funds.{award_at, rest as rest_of};
+ghost use Rattle.law_work.specs.declared.filing.WorkFiling.{WorkFiling};
+ghost use Rattle.law_work.specs.Funds.{award_at, rest as rest_of};
 
 use crate::table::WorkStudy;
 use aid_types::{School, Student, Year};

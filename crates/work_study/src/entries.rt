@@ -5,9 +5,9 @@ ghost use Rattle.work_study.specs.Numbers.{code_of_work, key_numbers, numbers_of
 ghost use Rattle.work_study.specs.Same.{same_work};
 
 use crate::table::WorkStudy;
-use crate::{DollarFacts, EarnFacts, FundFacts, WorkFiling, WorkWhat};
 use aid_types::{Key, School, Student, Year};
 use format_table::{EntryCodec, Numbers, add_numbers};
+use law_work::{DollarFacts, EarnFacts, FundFacts, WorkFiling, WorkWhat};
 
 // The numbers of a key, and those behind them.
 macro_rules! numbers_of {

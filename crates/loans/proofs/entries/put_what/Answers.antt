@@ -1,4 +1,4 @@
-use Rattle.loans.specs.declared.filing.LoanWhat.TheVariants.{Limits, Borrower, Before, Lend, Cancel}
+use Rattle.law_loans.specs.declared.filing.LoanWhat.TheVariants.{Limits, Borrower, Before, Lend, Cancel}
 use Rattle.loans.proofs.Fit.{what_fits}
 use Rattle.loans.proofs.entries.put_what.Goals as goal
 

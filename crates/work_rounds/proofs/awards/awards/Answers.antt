@@ -1,6 +1,6 @@
 use Rattle.std.proofs.Common.{◌≡◌, ◌+◌, ◌<◌, ℕ, List, length, get_or, arith, ap, refl, sym, subst, ◌∙◌}
 use Rattle.std.proofs.lemmas.List.{drop_all, get_or_default}
-use Rattle.work_study.specs.declared.filing.WorkFiling.{WorkFiling}
+use Rattle.law_work.specs.declared.filing.WorkFiling.{WorkFiling}
 use Rattle.work_rounds.proofs.Awarding.{AreSoFar, award_end, award_in_range, award_none, award_one, longer, sum_from}
 use Rattle.work_rounds.proofs.awards.awards.Goals as goal
 use Rattle.work_rounds.proofs.awards.awards.Goals.{then-award-gt0+in_ok-push, else-award-gt0}

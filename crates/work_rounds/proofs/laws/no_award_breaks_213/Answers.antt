@@ -1,7 +1,7 @@
 use Rattle.law_funds.proofs.Rounded.{round-within}
 use Rattle.work_rounds.proofs.Sized.{awards_sized, never_213}
 use Rattle.work_rounds.proofs.laws.no_award_breaks_213.Goals as goal
-use Rattle.work_study.specs.Funds.{rest}
+use Rattle.law_work.specs.Funds.{rest}
 
 pub returns : goal.returns
 returns g c r text past heading filings closing is filing among standing refusal e =

@@ -1,5 +1,0 @@
-use Rattle.loans.proofs.Holding.{has_room}
-use Rattle.loans.proofs.laws.room_left.Goals as goal
-
-pub returns : goal.returns
-returns c = has_room
