@@ -13,4 +13,4 @@ pub mod SpelledLines
 pub mod Facts
 pub mod Lines
 pub mod Tests
-mod Joins
+mod AfterRuns

@@ -1,5 +1,5 @@
 use Rattle.std.proofs.Common.{refl}
-use Rattle.run_claims.proofs.Joins.{nothing_more}
+use Rattle.run_claims.proofs.AfterRuns.{nothing_more}
 use Rattle.run_claims.proofs.joins.runs_join.Goals as goal
 
 pub returns : goal.returns
