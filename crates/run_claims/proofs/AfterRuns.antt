@@ -1,5 +1,5 @@
 -- The end of a run over rows that was done.
-use Rattle.std.proofs.Common.{◌≡◌, ⊥, absurd, ℕ, List, [], ◌∷◌, refl}
+use Rattle.std.proofs.Common.{◌≡◌, ℕ, List, [], ◌∷◌}
 use Rattle.aid_filings.specs.declared.filing.Filing.{Filing}
 use Rattle.aid_stamps.specs.declared.stamp.Stamp.{Stamp}
 use Rattle.io_traits.specs.DiskState.{DiskState, EachMoment}
