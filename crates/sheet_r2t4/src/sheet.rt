@@ -1,5 +1,5 @@
 //! The worksheet of a withdrawal, written.
-ghost use Rattle.std.specs.Prelude.{◌≡◌, ◌≤◌, ◌++◌, OnOk, Some, decimal};
+ghost use Rattle.std.specs.Prelude.{◌≡◌, ◌≤◌, ◌++◌, OnOk, Some, codes, decimal};
 ghost use Rattle.std.specs.List.{flat_map};
 ghost use Rattle.office_reports.specs.Columns.{right};
 ghost use Rattle.office_reports.specs.Lines.{due_text};
@@ -119,8 +119,16 @@ fn put_due(school: u64, determined: Day, out: &mut Vec<u8>) -> Result<(), AllocE
     ensures { OnOk result (out.new.items ≡ out.old.items ++ due_words school determined) }
 {
     if school == 0 {
-        return Ok(());
+        Ok(())
+    } else {
+        put_due_behind(determined, out)
     }
+}
+
+// Appends the day on which a return is due, behind what stands before it.
+fn put_due_behind(determined: Day, out: &mut Vec<u8>) -> Result<(), AllocError>
+    ensures { OnOk result (out.new.items ≡ out.old.items ++ codes ", return due " ++ due_text (due_day determined)) }
+{
     put_text(b", return due ", out)?;
     put_due_day(determined, out)
 }
