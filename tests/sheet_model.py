@@ -189,6 +189,19 @@ def since(history, kind, place):
     return [sum(filing.cents for filing in filed if filing.program == program) for program in model.PROGRAMS]
 
 
+def form_lines(before, both, lines):
+    """Boxes R to U of the Department's worksheet: what the student repays of loans, and returns of grants."""
+    loans = sum(before[program] - lines.returned[program] for program in model.PROGRAMS if program not in model.GRANTS)
+    grants = max(0, sum(lines.laid) - loans)
+    half = model.nearest(sum(both[program] for program in model.GRANTS), 2)
+    return [
+        figure("R", "loans the student repays", desk.money(loans)),
+        figure("S", "grants to return, at first", desk.money(grants)),
+        figure("T", "half of both, of all grants", desk.money(half)),
+        figure("U", "grants the student returns", desk.money(max(0, grants - half))),
+    ]
+
+
 def return_lines(history, position):
     """The lines of the withdrawal at a position: the worksheet on the filings before it, and what came of it on all."""
     past, withdrawal, after = history[:position - 1], history[position - 1], history[position:]
@@ -196,10 +209,11 @@ def return_lines(history, position):
     _, term = model.term_at(past, withdrawal.school, withdrawal.year, withdrawal.term)
     before, now = ([model.net(filed, program=program, **place) for program in model.PROGRAMS] for filed in (past, history))
     repaid, unearned = since(history, model.Repayment, place), 1_000 - lines.percent
+    both = [one + other for one, other in zip(before, could)]
     return [
         by_program("E", "disbursed, net", before),
         by_program("", "could have been disbursed", could),
-        by_program("G", "both", [one + other for one, other in zip(before, could)]),
+        by_program("G", "both", both),
         figure("", "days of the term", model.days_up_to(term, term.last)),
         figure("", "days completed", model.days_up_to(term, withdrawal.last)),
         figure("H", "percent earned", desk.percent_text(lines.percent)),
@@ -211,10 +225,11 @@ def return_lines(history, position):
         figure("N", "unearned part of the charges", desk.money(model.nearest(withdrawal.charges * unearned, 1_000))),
         by_program("O", "the school returns", lines.returned),
         by_program("Q", "laid on the student", lines.laid),
+        *form_lines(before, both, lines),
         by_program("", "half of both, of grants", [
-            model.nearest(before[program] + could[program], 2) if program in model.GRANTS else 0 for program in model.PROGRAMS
+            model.nearest(both[program], 2) if program in model.GRANTS else 0 for program in model.PROGRAMS
         ]),
-        by_program("", "the student owes", lines.owed),
+        by_program("", "owed, program by program", lines.owed),
         by_program("", "repaid since", repaid),
         by_program("", "still owed", [max(0, owed - paid) for owed, paid in zip(lines.owed, repaid)]),
         by_program("", "paid since", since(after, model.Payment, place)),
@@ -228,10 +243,11 @@ def withdrawal_sheet(history, school, student, year, term):
     if found is None:
         return "none\n"
     due = model.due_day(found)
+    returned = sum(model.sheet_at(history, position).returned)
     return "".join([
         f"Return of funds: student {student}, school {school}, award year {year}, term {term}\n",
-        f"withdrawal at {position}, number {found.number}: last day {found.last.isoformat()}, determined {found.determined.isoformat()}, "
-        f"return due {due.isoformat() if due else 'none'}\n",
+        f"withdrawal at {position}, number {found.number}: last day {found.last.isoformat()}, determined {found.determined.isoformat()}"
+        + (f", return due {due.isoformat() if due else 'none'}\n" if returned else "\n"),
         " " * 30 + "".join(f"{word:>11}" for word in [*desk.PROGRAM_WORDS, "all"]) + "\n",
         *return_lines(history, position),
     ])
@@ -293,7 +309,8 @@ def asset_lines(book, household, married, age, share):
         ("+", "adjusted net worth of a business", business),
     ) + "".join([
         line("=", "net worth", worth), line("-", f"asset protection allowance, age {age}", protected),
-        line("=", "discretionary net worth", worth - protected), line(" ", f"contribution from assets, {rate(share)} percent", found),
+        line("=", "discretionary net worth", worth - protected),
+        line(" ", "contribution from assets, none below 0" if worth < protected else f"contribution from assets, {rate(share)} percent", found),
     ])
 
 
@@ -307,6 +324,12 @@ def assessed_lines(book, household, married, living, age, share):
         income_lines(household), allowances, assets, line(" ", "adjusted available income", available + found),
         line(" ", "contribution, by the schedule", contribution),
     ])
+
+
+def from_income_line(book, from_income):
+    """A student's contribution from income: the rate, or that it is the least."""
+    least = from_income == book.lowest_student
+    return line(" ", "least contribution from income" if least else f"contribution from income, {rate(book.student_rate)} percent", from_income)
 
 
 def dependent_lines(book, application):
@@ -327,7 +350,7 @@ def dependent_lines(book, application):
     )
     return from_parents + from_income + from_assets, "".join([
         "parents\n", lines, "student\n", income_lines(own), allowances,
-        line(" ", f"contribution from income, {rate(book.student_rate)} percent", from_income), assets,
+        from_income_line(book, from_income), assets,
         line("=", "net worth", worth), line(" ", f"contribution from assets, {rate(book.dependent_rate)} percent", from_assets),
     ])
 
@@ -342,8 +365,7 @@ def single_lines(book, application):
     age = model.age_of(book, application)
     from_assets, assets = asset_lines(book, own, married, age, book.no_dependents_rate)
     return from_income + from_assets, "".join([
-        "student\n", income_lines(own), allowances,
-        line(" ", f"contribution from income, {rate(book.student_rate)} percent", from_income), assets,
+        "student\n", income_lines(own), allowances, from_income_line(book, from_income), assets,
     ])
 
 
@@ -363,7 +385,10 @@ def award_lines(book, application, raw):
     must_file = application.parents_must_file if which == "A" else application.student_must_file
     barred = application.graduate or application.bachelor
     income = household.gross_income + (household.foreign_income if book.ceiling else 0)
-    words = "adjusted gross income and foreign income" if book.ceiling else "adjusted gross income"
+    who = "parents" if which == "A" else "student"
+    whose = "parents'" if which == "A" else "student's"
+    words = f"{whose} adjusted gross and foreign income" if book.ceiling else f"{whose} adjusted gross income"
+    taken = "0 for the index" if found < 0 else "the index"
     guideline = model.by_size(book.poverty[application.region], application.family, 1)
     most, least = model.maximum_percent(book, application), model.minimum_percent(book, application)
     decided = model.decision(book, application)
@@ -371,13 +396,13 @@ def award_lines(book, application, raw):
     return "".join([
         line("=", "sum of the contributions", raw), line(" ", "Student Aid Index, -1500 to 999999", found),
         amounts((" ", "ceiling: no award from this index on", ceiling)),
-        line(" ", "required to file a tax return", "yes" if must_file else "no"),
+        line(" ", f"{who} required to file a tax return", "yes" if must_file else "no"),
         line(" ", "graduate student, or has a bachelor's degree", "yes" if barred else "no"),
         line(" ", words, income), line(" ", f"poverty guideline, family of {application.family}", guideline),
         line(" ", f"maximum award up to {most} percent", most * guideline // 100),
         line(" ", f"minimum award up to {least} percent", least * guideline // 100),
-        line(" ", f"{book.maximum} less the index, to the nearest 5", model.to_five(book.maximum - max(found, 0))),
-        line(" ", "minimum award of the year", book.minimum), line("=", f"Scheduled Award: {decided.way}", decided.award),
+        line(" ", f"{book.maximum} less {taken}, to the nearest 5", model.to_five(book.maximum - max(found, 0))),
+        line(" ", "minimum award of the year", book.minimum), line(" ", f"Scheduled Award: {decided.way}", decided.award),
         line(" ", "final Student Aid Index", decided.index),
     ])
 

@@ -14,7 +14,7 @@ NAMES = {
     "fseog": "Supplemental Grant (FSEOG)", "teach": "TEACH Grant",
 }
 LOANS, GRANTS = ("unsub", "sub", "plus"), ("pell", "fseog", "teach")
-HEAD = re.compile(r"withdrawal at \d+, number \d+: last day (\S+), determined (\S+), return due (\S+)")
+HEAD = re.compile(r"withdrawal at \d+, number \d+: last day (\S+), determined ([^\s,]+)(?:, return due (\S+))?")
 LINE = re.compile(r"([A-Z]|) ?\s*(\S.*?)\s{2,}(\S.*)")
 UNEARNED = "dollars were not earned, and the school doesn't send them back (box Q)."
 WIDTH = 78
@@ -45,7 +45,7 @@ class Worksheet:
     @property
     def owes(self):
         """The grants of which the student owes something."""
-        return self.of("the student owes", GRANTS)
+        return self.of("owed, program by program", GRANTS)
 
 
 def is_above(figure):
@@ -119,7 +119,7 @@ def owed(sheet):
         )
         yield from [*list_of(loans, "box Q"), ""]
     for program, figure in laid.items():
-        half, owes = (sheet.figures[name][program] for name in ("half of both, of grants", "the student owes"))
+        half, owes = (sheet.figures[name][program] for name in ("half of both, of grants", "owed, program by program"))
         if program in sheet.owes:
             yield from paragraph(
                 f"{NAMES[program]}: {figure} {UNEARNED} You may keep {half}, half of the grant. So you owe {owes}, of which you repaid "
@@ -170,8 +170,7 @@ def letter(office, school, student, year, term):
     sheet = Worksheet(ids.text_of(office, ["withdrawal", school, student, year, term]).splitlines())
     if len(sheet.owes) > 1:
         refuse(
-            f"student {student} owes of more than one grant: only box U of the Department's worksheet may be asked then, which the sheet hasn't, so "
-            "write by hand",
+            f"student {student} owes of more than one grant: only box U of the Department's worksheet may be asked then, so write by hand",
         )
     for line in page(sheet, known, school, student, year, term):
         print(line)

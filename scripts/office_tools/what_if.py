@@ -149,7 +149,7 @@ class Terms:
 
 def award_of(lines):
     """The Scheduled Award of a worksheet, in dollars."""
-    return next(int(line.split()[-1]) for line in reversed(lines) if "= Scheduled Award" in line)
+    return next(int(line.split()[-1]) for line in reversed(lines) if line.lstrip().startswith("Scheduled Award: "))
 
 
 def say_stuck(terms, kept, bound):

@@ -72,7 +72,7 @@ class Sheets(unittest.TestCase):
         ])
 
     def test_the_award(self):
-        self.assertEqual(what_if.award_of(["x", " = Scheduled Award: calculated     2290", "   final Student Aid Index   5"]), 2290)
+        self.assertEqual(what_if.award_of(["x", "   Scheduled Award: calculated     2290", "   final Student Aid Index   5"]), 2290)
 
     def test_refusals(self):
         self.assertEqual(what_if.refusal("1 18 refused 93 114500 85500"), (93, 114500, 85500))

@@ -10,3 +10,5 @@ mod audits;
 mod clock_rows;
 #[cfg(test)]
 mod sheets;
+#[cfg(test)]
+mod texts;

@@ -7,12 +7,23 @@ use std::process::Abort;
 use std::test::Fail;
 use whole_runs::{EMPTY, disk, ran, words_of};
 
-// The file of an office in which the book, and then these rows, were filed with these answers.
+// The file of an office in which the specimen book, and then these rows, were filed with these answers.
 fn office(rt: &impl Abort, alloc: Global, inputs: &[(&str, &str)]) -> Result<MemoryDisk, Fail> {
+    office_with(rt, alloc, BOOK_TEXT, "file", inputs)
+}
+
+// The same with this book, and with the rows filed by these words.
+pub(crate) fn office_with(
+    rt: &impl Abort,
+    alloc: Global,
+    book: &str,
+    words: &str,
+    inputs: &[(&str, &str)],
+) -> Result<MemoryDisk, Fail> {
     let empty = disk(alloc, EMPTY, &[], None)?;
-    let (_, _, mut kept) = ran(alloc, "book 1", BOOK_TEXT.as_bytes(), empty, &[])?;
+    let (_, _, mut kept) = ran(alloc, "book 1", book.as_bytes(), empty, &[])?;
     for &(rows, answers) in inputs {
-        let (status, sink, next) = ran(alloc, "file", rows.as_bytes(), kept, &[])?;
+        let (status, sink, next) = ran(alloc, words, rows.as_bytes(), kept, &[])?;
         assert_eq!(rt; sink.text(), answers.as_bytes());
         assert_eq!(rt; status, 0);
         kept = next;
@@ -20,8 +31,8 @@ fn office(rt: &impl Abort, alloc: Global, inputs: &[(&str, &str)]) -> Result<Mem
     Ok(kept)
 }
 
-// Asserts the status and the text of a run over a file with these bytes, of which these calls fail to write.
-fn assert_sheet(
+// Asserts the status and the text of a run over a file with these bytes.
+pub(crate) fn assert_sheet(
     rt: &impl Abort,
     alloc: Global,
     image: &[u8],
@@ -179,8 +190,12 @@ M percent unearned                                                              
 N unearned part of the charges                                                                        65.30\n\
 O the school returns                 0.00       0.00       0.00      65.30       0.00       0.00      65.30\n\
 Q laid on the student                0.00       0.00       0.00     432.94       0.00       0.00     432.94\n\
+R loans the student repays                                                                             0.00\n\
+S grants to return, at first                                                                         432.94\n\
+T half of both, of all grants                                                                        381.50\n\
+U grants the student returns                                                                          51.44\n\
 \x20 half of both, of grants            0.00       0.00       0.00     381.50       0.00       0.00     381.50\n\
-\x20 the student owes                   0.00       0.00       0.00      51.44       0.00       0.00      51.44\n\
+\x20 owed, program by program           0.00       0.00       0.00      51.44       0.00       0.00      51.44\n\
 \x20 repaid since                       0.00       0.00       0.00      51.44       0.00       0.00      51.44\n\
 \x20 still owed                         0.00       0.00       0.00       0.00       0.00       0.00       0.00\n\
 \x20 paid since                         0.00       0.00       0.00       0.00       0.00       0.00       0.00\n\
@@ -204,8 +219,12 @@ M percent unearned                                                              
 N unearned part of the charges                                                                        65.30\n\
 O the school returns                 0.00       0.00       0.00      65.30       0.00       0.00      65.30\n\
 Q laid on the student                0.00       0.00       0.00     432.94       0.00       0.00     432.94\n\
+R loans the student repays                                                                             0.00\n\
+S grants to return, at first                                                                         432.94\n\
+T half of both, of all grants                                                                        381.50\n\
+U grants the student returns                                                                          51.44\n\
 \x20 half of both, of grants            0.00       0.00       0.00     381.50       0.00       0.00     381.50\n\
-\x20 the student owes                   0.00       0.00       0.00      51.44       0.00       0.00      51.44\n\
+\x20 owed, program by program           0.00       0.00       0.00      51.44       0.00       0.00      51.44\n\
 \x20 repaid since                       0.00       0.00       0.00       0.00       0.00       0.00       0.00\n\
 \x20 still owed                         0.00       0.00       0.00      51.44       0.00       0.00      51.44\n\
 \x20 paid since                         0.00       0.00       0.00       0.00       0.00       0.00       0.00\n\
@@ -284,22 +303,22 @@ student\n\
 \x20+ parents' adjusted income below 0                       0\n\
 \x20= allowances                                         12229\n\
 \x20  available income                                   -6229\n\
-\x20  contribution from income, 50.00 percent            -1500\n\
+\x20  least contribution from income                     -1500\n\
 \x20  cash, savings and checking                           900\n\
 \x20= net worth                                            900\n\
 \x20  contribution from assets, 20.00 percent              180\n\
 award\n\
 \x20= sum of the contributions                            5104\n\
 \x20  Student Aid Index, -1500 to 999999                  5104\n\
-\x20  required to file a tax return                        yes\n\
+\x20  parents required to file a tax return                yes\n\
 \x20  graduate student, or has a bachelor's degree          no\n\
-\x20  adjusted gross income                              85000\n\
+\x20  parents' adjusted gross income                     85000\n\
 \x20  poverty guideline, family of 4                     30000\n\
 \x20  maximum award up to 175 percent                    52500\n\
 \x20  minimum award up to 275 percent                    82500\n\
 \x20  7395 less the index, to the nearest 5               2290\n\
 \x20  minimum award of the year                            740\n\
-\x20= Scheduled Award: calculated                         2290\n\
+\x20  Scheduled Award: calculated                         2290\n\
 \x20  final Student Aid Index                             5104\n";
 
 // Formula B, of a student who earned 20,000 dollars.
@@ -324,15 +343,15 @@ student\n\
 award\n\
 \x20= sum of the contributions                             -20\n\
 \x20  Student Aid Index, -1500 to 999999                   -20\n\
-\x20  required to file a tax return                        yes\n\
+\x20  student required to file a tax return                yes\n\
 \x20  graduate student, or has a bachelor's degree          no\n\
-\x20  adjusted gross income                              20000\n\
+\x20  student's adjusted gross income                    20000\n\
 \x20  poverty guideline, family of 1                     14580\n\
 \x20  maximum award up to 175 percent                    25515\n\
 \x20  minimum award up to 275 percent                    40095\n\
-\x20  7395 less the index, to the nearest 5               7395\n\
+\x20  7395 less 0 for the index, to the nearest 5         7395\n\
 \x20  minimum award of the year                            740\n\
-\x20= Scheduled Award: maximum                            7395\n\
+\x20  Scheduled Award: maximum                            7395\n\
 \x20  final Student Aid Index                              -20\n";
 
 // Formula C, of a student with a dependent who earned 60,000 dollars.
@@ -358,13 +377,13 @@ student\n\
 award\n\
 \x20= sum of the contributions                            -707\n\
 \x20  Student Aid Index, -1500 to 999999                  -707\n\
-\x20  required to file a tax return                        yes\n\
+\x20  student required to file a tax return                yes\n\
 \x20  graduate student, or has a bachelor's degree          no\n\
-\x20  adjusted gross income                              60000\n\
+\x20  student's adjusted gross income                    60000\n\
 \x20  poverty guideline, family of 2                     19720\n\
 \x20  maximum award up to 225 percent                    44370\n\
 \x20  minimum award up to 400 percent                    78880\n\
-\x20  7395 less the index, to the nearest 5               7395\n\
+\x20  7395 less 0 for the index, to the nearest 5         7395\n\
 \x20  minimum award of the year                            740\n\
-\x20= Scheduled Award: calculated                         7395\n\
+\x20  Scheduled Award: calculated                         7395\n\
 \x20  final Student Aid Index                             -707\n";

@@ -1,3 +1,4 @@
+pub mod Adding
 pub mod NeedFound
 pub mod NeedPieces
 pub mod NeedSame

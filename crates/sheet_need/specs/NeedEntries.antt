@@ -1,9 +1,11 @@
 -- The lines of a worksheet, section by section (HEA 401(b), 475 to 478, 480). An amount has no line where it is 0.
-use Rattle.std.specs.Prelude.{ℕ, ℤ, pos, ◌*ℤ◌, ◌/◌, unsigned_abs, ◌==◌, Bool, List, [], ◌∷◌, ◌++◌, if◌then◌else◌}
+use Rattle.std.specs.Prelude.{ℕ, ℤ, pos, ◌*ℤ◌, ◌/◌, unsigned_abs, ◌==◌, int_lt, Bool, List, [], ◌∷◌, ◌++◌, if◌then◌else◌}
+use Rattle.std.specs.Ordering.{int_eq}
 use Rattle.aid_books.specs.declared.book.Book.{Book}
 use Rattle.aid_types.specs.declared.application.Application.{Application}
 use Rattle.aid_types.specs.declared.application.Side.{Side}
 use Rattle.aid_types.specs.declared.award.Formula.{Formula}
+use Rattle.aid_types.specs.declared.award.Formula.TheVariants.{A}
 use Rattle.law_sai.specs.declared.lines.ParentLines.{ParentLines}
 use Rattle.law_sai.specs.Index.{age, shortfall}
 use Rattle.law_sai.specs.declared.IndexLines.{IndexLines}
@@ -11,7 +13,7 @@ use Rattle.law_pell.specs.Award.{calculated, ceiling_bound, guideline, income, i
 use Rattle.law_pell.specs.declared.Decision.{Decision}
 use Rattle.sheet_need.specs.declared.entry.Entry.{Entry}
 use Rattle.sheet_need.specs.declared.entry.Label.{Label}
-use Rattle.sheet_need.specs.declared.entry.Label.TheVariants.{Agi, Ira, Interest, IraUntaxed, Pension, Foreign, Grants, Credits, WorkStudy, TotalIncome, Tax, Payroll, Protection, FamilyProtection, Employment, Shortfall, Allowances, Available, FromIncome, Support, Cash, Investments, Business, AdjustedBusiness, NetWorth, AssetProtection, Discretionary, FromAssets, Adjusted, BySchedule, Contributions, Index, Ceiling, MustFile, Barred, AgiAndForeign, Guideline, MaximumUpTo, MinimumUpTo, Calculated, MinimumAward, Scheduled, FinalIndex}
+use Rattle.sheet_need.specs.declared.entry.Label.TheVariants.{Agi, Ira, Interest, IraUntaxed, Pension, Foreign, Grants, Credits, WorkStudy, TotalIncome, Tax, Payroll, Protection, FamilyProtection, Employment, Shortfall, Allowances, Available, FromIncome, LeastFromIncome, Support, Cash, Investments, Business, AdjustedBusiness, NetWorth, AssetProtection, Discretionary, FromAssets, NoneFromAssets, Adjusted, BySchedule, Contributions, Index, Ceiling, ParentsMustFile, StudentMustFile, Barred, ParentsAgi, StudentAgi, ParentsAgiAndForeign, StudentAgiAndForeign, Guideline, MaximumUpTo, MinimumUpTo, Calculated, CalculatedAtZero, MinimumAward, Scheduled, FinalIndex}
 use Rattle.sheet_need.specs.declared.entry.Mark.{Mark}
 use Rattle.sheet_need.specs.declared.entry.Mark.TheVariants.{Blank, Equals, Plus, Minus}
 use Rattle.sheet_need.specs.declared.entry.Part.{Part}
@@ -57,9 +59,11 @@ employment l = worked Plus Employment l.employment
 abbrev pub below_zero : ParentLines → Entry
 below_zero parent = worked Plus Shortfall (shortfall parent)
 
--- a student's contribution from income
+-- a student's contribution from income, by its rate or as the least that the book allows (HEA 475(g), 476(b))
 abbrev pub from_income : Book → IndexLines → Entry
-from_income book l = worked_with Blank FromIncome (Rate book.schedule.student_rate) l.from_income
+from_income book l =
+    if int_eq l.from_income book.schedule.lowest_student then worked Blank LeastFromIncome l.from_income
+    else worked_with Blank FromIncome (Rate book.schedule.student_rate) l.from_income
 
 -- a household's assets, and its net worth
 abbrev pub worth_entries : Side → ParentLines → List Entry
@@ -67,14 +71,19 @@ worth_entries s l =
     amount Blank Support s.support ∷ amount Plus Cash s.cash ∷ amount Plus Investments s.investments
     ∷ amount Plus AdjustedBusiness l.business ∷ worked Equals NetWorth l.worth ∷ []
 
--- what is protected of it at an age, and what a rate takes of the rest
+-- what a rate takes of assets, and the same where nothing is taken of a rest below 0
 abbrev pub from_assets : ℤ → ParentLines → Entry
 from_assets rate l = worked_with Blank FromAssets (Rate rate) l.from_assets
+
+abbrev pub from_assets_above : ℤ → ParentLines → Entry
+from_assets_above rate l = if int_lt l.discretionary (pos 0) then worked Blank NoneFromAssets l.from_assets else from_assets rate l
+
+-- what is protected of it at an age, and what a rate takes of the rest
 
 abbrev pub asset_entries : ℤ → ℤ → ParentLines → List Entry
 asset_entries age rate l =
     worked_with Minus AssetProtection (Number age) l.asset_protection ∷ worked Equals Discretionary l.discretionary
-    ∷ from_assets rate l ∷ []
+    ∷ from_assets_above rate l ∷ []
 
 -- a dependent student's assets, and what a rate takes of them
 abbrev pub dependent_assets : Side → ℤ → ParentLines → List Entry
@@ -122,8 +131,12 @@ abbrev pub ceiling_entry : Book → Entry
 ceiling_entry book = amount Blank Ceiling (pos (ceiling_bound book))
 
 -- the answers that decide before an income does (HEA 401(b)(1), (d)(1))
+abbrev pub filing_label : Formula → Label
+filing_label A = ParentsMustFile
+filing_label f = StudentMustFile
+
 abbrev pub filing_entry : Formula → Application → Entry
-filing_entry f a = answer MustFile (must_file f a)
+filing_entry f a = answer (filing_label f) (must_file f a)
 
 abbrev pub barred_entry : Application → Entry
 barred_entry a = answer Barred (is_barred a)
@@ -131,9 +144,10 @@ barred_entry a = answer Barred (is_barred a)
 abbrev pub index_entries : Formula → Book → Application → IndexLines → List Entry
 index_entries f book a l = raw_entry l ∷ index_entry l ∷ ceiling_entry book ∷ filing_entry f a ∷ barred_entry a ∷ []
 
--- which income counts: the foreign income too, where the year has a ceiling
-abbrev pub income_label : Book → Label
-income_label book = if book.ceiling == 0 then Agi else AgiAndForeign
+-- whose income counts, and which: the foreign income too, where the year has a ceiling
+abbrev pub income_label : Formula → Book → Label
+income_label A book = if book.ceiling == 0 then ParentsAgi else ParentsAgiAndForeign
+income_label f book = if book.ceiling == 0 then StudentAgi else StudentAgiAndForeign
 
 -- the greatest whole income of at most so many percent of a guideline
 abbrev pub most_within : ℤ → ℤ → ℤ
@@ -144,7 +158,7 @@ abbrev pub percent_entry : Label → ℤ → ℤ → Entry
 percent_entry label percent guideline = worked_with Blank label (Number percent) (most_within percent guideline)
 
 abbrev pub income_entry : Formula → Book → Application → Entry
-income_entry f book a = worked Blank (income_label book) (income book f a)
+income_entry f book a = worked Blank (income_label f book) (income book f a)
 
 abbrev pub guideline_entry : Book → Application → Entry
 guideline_entry book a = worked_with Blank Guideline (Number (pos a.family)) (guideline book a)
@@ -158,16 +172,19 @@ at_least_entry f book a = percent_entry MinimumUpTo (minimum_percent book.percen
 abbrev pub guideline_entries : Formula → Book → Application → List Entry
 guideline_entries f book a = income_entry f book a ∷ guideline_entry book a ∷ maximum_entry f book a ∷ at_least_entry f book a ∷ []
 
--- what the index leaves of the Maximum, the year's Minimum, the Scheduled Award with its way, and the final index
--- (HEA 401(b)(1))
+-- what the index leaves of the Maximum, where one below 0 counts as 0; the year's Minimum, the Scheduled Award with its way, and the
+-- final index (HEA 401(b)(1))
+abbrev pub calculated_label : IndexLines → Label
+calculated_label l = if int_lt l.index (pos 0) then CalculatedAtZero else Calculated
+
 abbrev pub calculated_entry : Book → IndexLines → Entry
-calculated_entry book l = worked_with Blank Calculated (Number book.pell.maximum) (calculated book l.index)
+calculated_entry book l = worked_with Blank (calculated_label l) (Number book.pell.maximum) (calculated book l.index)
 
 abbrev pub minimum_entry : Book → Entry
 minimum_entry book = worked Blank MinimumAward book.pell.minimum
 
 abbrev pub scheduled_entry : Decision → Entry
-scheduled_entry d = worked_with Equals Scheduled (WayTaken d.way) (pos d.scheduled)
+scheduled_entry d = worked_with Blank Scheduled (WayTaken d.way) (pos d.scheduled)
 
 abbrev pub final_entry : Decision → Entry
 final_entry d = worked Blank FinalIndex d.sai

@@ -4,7 +4,7 @@ use Rattle.aid_types.specs.Cents.{cents_text}
 use Rattle.aid_types.specs.Whole.{whole_text}
 use Rattle.aid_types.specs.Words.{way_text}
 use Rattle.sheet_need.specs.declared.entry.Label.{Label}
-use Rattle.sheet_need.specs.declared.entry.Label.TheVariants.{Agi, Ira, Interest, IraUntaxed, Pension, Foreign, Grants, Credits, WorkStudy, TotalIncome, Tax, Payroll, Protection, FamilyProtection, Employment, Shortfall, Allowances, Available, FromIncome, Support, Cash, Investments, Business, AdjustedBusiness, NetWorth, AssetProtection, Discretionary, FromAssets, Adjusted, BySchedule, Contributions, Index, Ceiling, MustFile, Barred, AgiAndForeign, Guideline, MaximumUpTo, MinimumUpTo, Calculated, MinimumAward, Scheduled, FinalIndex}
+use Rattle.sheet_need.specs.declared.entry.Label.TheVariants.{Agi, Ira, Interest, IraUntaxed, Pension, Foreign, Grants, Credits, WorkStudy, TotalIncome, Tax, Payroll, Protection, FamilyProtection, Employment, Shortfall, Allowances, Available, FromIncome, LeastFromIncome, Support, Cash, Investments, Business, AdjustedBusiness, NetWorth, AssetProtection, Discretionary, FromAssets, NoneFromAssets, Adjusted, BySchedule, Contributions, Index, Ceiling, ParentsMustFile, StudentMustFile, Barred, ParentsAgi, StudentAgi, ParentsAgiAndForeign, StudentAgiAndForeign, Guideline, MaximumUpTo, MinimumUpTo, Calculated, CalculatedAtZero, MinimumAward, Scheduled, FinalIndex}
 use Rattle.sheet_need.specs.declared.entry.Mark.{Mark}
 use Rattle.sheet_need.specs.declared.entry.Mark.TheVariants.{Blank, Equals, Plus, Minus}
 use Rattle.sheet_need.specs.declared.entry.Part.{Part}
@@ -37,6 +37,7 @@ words_before Shortfall = codes "parents' adjusted income below 0"
 words_before Allowances = codes "allowances"
 words_before Available = codes "available income"
 words_before FromIncome = codes "contribution from income, "
+words_before LeastFromIncome = codes "least contribution from income"
 words_before Support = codes "child support received"
 words_before Cash = codes "cash, savings and checking"
 words_before Investments = codes "net worth of investments"
@@ -46,18 +47,24 @@ words_before NetWorth = codes "net worth"
 words_before AssetProtection = codes "asset protection allowance, age "
 words_before Discretionary = codes "discretionary net worth"
 words_before FromAssets = codes "contribution from assets, "
+words_before NoneFromAssets = codes "contribution from assets, none below 0"
 words_before Adjusted = codes "adjusted available income"
 words_before BySchedule = codes "contribution, by the schedule"
 words_before Contributions = codes "sum of the contributions"
 words_before Index = codes "Student Aid Index, -1500 to 999999"
 words_before Ceiling = codes "ceiling: no award from this index on"
-words_before MustFile = codes "required to file a tax return"
+words_before ParentsMustFile = codes "parents required to file a tax return"
+words_before StudentMustFile = codes "student required to file a tax return"
 words_before Barred = codes "graduate student, or has a bachelor's degree"
-words_before AgiAndForeign = codes "adjusted gross income and foreign income"
+words_before ParentsAgi = codes "parents' adjusted gross income"
+words_before StudentAgi = codes "student's adjusted gross income"
+words_before ParentsAgiAndForeign = codes "parents' adjusted gross and foreign income"
+words_before StudentAgiAndForeign = codes "student's adjusted gross and foreign income"
 words_before Guideline = codes "poverty guideline, family of "
 words_before MaximumUpTo = codes "maximum award up to "
 words_before MinimumUpTo = codes "minimum award up to "
 words_before Calculated = []
+words_before CalculatedAtZero = []
 words_before MinimumAward = codes "minimum award of the year"
 words_before Scheduled = codes "Scheduled Award: "
 words_before FinalIndex = codes "final Student Aid Index"
@@ -69,6 +76,7 @@ words_behind FromAssets = codes " percent"
 words_behind MaximumUpTo = codes " percent"
 words_behind MinimumUpTo = codes " percent"
 words_behind Calculated = codes " less the index, to the nearest 5"
+words_behind CalculatedAtZero = codes " less 0 for the index, to the nearest 5"
 words_behind _ = []
 
 -- what stands within the words

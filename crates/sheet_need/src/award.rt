@@ -1,5 +1,5 @@
 //! The lines of the award of a worksheet.
-ghost use Rattle.std.specs.Prelude.{◌≡◌, ◌++◌, ◌↔◌, ◌≤ℤ◌, ℤ, pos, IsTrue, OnOk};
+ghost use Rattle.std.specs.Prelude.{◌≡◌, ◌++◌, ◌↔◌, ◌≤ℤ◌, ℤ, pos, IsTrue, OnOk, if◌then◌else◌};
 ghost use Rattle.aid_types.specs.Ranges.{IsIndex};
 ghost use Rattle.law_pell.specs.Award.{is_within};
 ghost use Rattle.sheet_need.specs.NeedEntries.{
@@ -8,6 +8,7 @@ ghost use Rattle.sheet_need.specs.NeedEntries.{
   award_entries,
   barred_entry,
   calculated_entry,
+  calculated_label as calculated_label_of,
   ceiling_entry,
   decision_entries,
   filing_entry,
@@ -15,6 +16,7 @@ ghost use Rattle.sheet_need.specs.NeedEntries.{
   guideline_entries,
   guideline_entry,
   income_entry,
+  filing_label as filing_label_of,
   income_label as income_label_of,
   index_entries,
   index_entry,
@@ -99,7 +101,18 @@ fn ceiling_line(book: &Book) -> Entry
 fn filing_line(formula: Formula, a: &Application) -> Entry
     ensures { result ≡ filing_entry formula a.now }
 {
-    answer(Label::MustFile, must_file(formula, a))
+    answer(filing_label(formula), must_file(formula, a))
+}
+
+// Whose return it is.
+fn filing_label(formula: Formula) -> Label
+    ensures { result ≡ filing_label_of formula }
+{
+    match formula {
+        Formula::A => Label::ParentsMustFile,
+        Formula::B => Label::StudentMustFile,
+        Formula::C => Label::StudentMustFile,
+    }
 }
 
 // Whether the student has no award.
@@ -125,7 +138,7 @@ fn guideline_lines(formula: Formula, book: &Book, a: &Application) -> [Entry; 4]
 fn income_line(formula: Formula, book: &Book, a: &Application) -> Entry
     ensures { result ≡ income_entry formula book.now a.now }
 {
-    let label = income_label(book);
+    let label = income_label(formula, book);
     let income = income(book, formula, a);
     worked(Mark::Blank, label, income)
 }
@@ -176,10 +189,21 @@ fn calculated_line(book: &Book, lines: &IndexLines) -> Entry
     let maximum = Part::Number(book.pell.maximum);
     worked_with(
         Mark::Blank,
-        Label::Calculated,
+        calculated_label(lines),
         maximum,
         calculated(book, lines.index),
     )
+}
+
+// Whether the index counts, or 0 in its stead.
+fn calculated_label(lines: &IndexLines) -> Label
+    ensures { result ≡ calculated_label_of lines.now }
+{
+    if lines.index < 0 {
+        Label::CalculatedAtZero
+    } else {
+        Label::Calculated
+    }
 }
 
 // The year's Minimum.
@@ -195,7 +219,7 @@ fn scheduled_line(decision: &Decision) -> Entry
 {
     let way = Part::WayTaken(decision.way);
     worked_with(
-        Mark::Equals,
+        Mark::Blank,
         Label::Scheduled,
         way,
         i64::from(decision.scheduled),
@@ -209,15 +233,23 @@ fn final_line(decision: &Decision) -> Entry
     worked(Mark::Blank, Label::FinalIndex, i64::from(decision.sai))
 }
 
-// Which income counts: the foreign income too, where the year has a ceiling.
-fn income_label(book: &Book) -> Label
-    ensures { result ≡ income_label_of book.now }
+// Whose income counts, and which: the foreign income too, where the year has a ceiling.
+fn income_label(formula: Formula, book: &Book) -> Label
+    ensures { result ≡ income_label_of formula book.now }
 {
-    if book.ceiling == 0 {
-        Label::Agi
-    } else {
-        Label::AgiAndForeign
+    let agi_alone = book.ceiling == 0;
+    match formula {
+        Formula::A => label_by(agi_alone, Label::ParentsAgi, Label::ParentsAgiAndForeign),
+        Formula::B => label_by(agi_alone, Label::StudentAgi, Label::StudentAgiAndForeign),
+        Formula::C => label_by(agi_alone, Label::StudentAgi, Label::StudentAgiAndForeign),
     }
+}
+
+// The first of two labels where something holds, and the second where it doesn't.
+fn label_by(holds: bool, first: Label, second: Label) -> Label
+    ensures { result ≡ (if holds then first else second) }
+{
+    if holds { first } else { second }
 }
 
 // Up to which income an award is a Maximum, or a Minimum.

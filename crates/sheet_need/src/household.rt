@@ -13,6 +13,7 @@ ghost use Rattle.sheet_need.specs.NeedEntries.{
   family_entries,
   family_living as family_living_of,
   from_assets as from_assets_of,
+  from_assets_above as from_assets_above_of,
   from_income as from_income_of,
   income_entries,
   own_living as own_living_of,
@@ -201,8 +202,12 @@ fn below_zero(parent: &ParentLines) -> Entry
 fn from_income(book: &Book, lines: &IndexLines) -> Entry
     ensures { result ≡ from_income_of book.now lines.now }
 {
-    let rate = Part::Rate(book.schedule.student_rate);
-    worked_with(Mark::Blank, Label::FromIncome, rate, lines.from_income)
+    if lines.from_income == book.schedule.lowest_student {
+        worked(Mark::Blank, Label::LeastFromIncome, lines.from_income)
+    } else {
+        let rate = Part::Rate(book.schedule.student_rate);
+        worked_with(Mark::Blank, Label::FromIncome, rate, lines.from_income)
+    }
 }
 
 // A household's assets, and its net worth.
@@ -242,8 +247,19 @@ fn assets(age: i64, rate: i64, lines: &ParentLines) -> [Entry; 3]
             lines.asset_protection,
         ),
         worked(Mark::Equals, Label::Discretionary, lines.discretionary),
-        from_assets(rate, lines),
+        from_assets_above(rate, lines),
     ]
+}
+
+// What a rate takes of assets, and that it takes nothing below 0.
+fn from_assets_above(rate: i64, lines: &ParentLines) -> Entry
+    ensures { result ≡ from_assets_above_of rate lines.now }
+{
+    if lines.discretionary < 0 {
+        worked(Mark::Blank, Label::NoneFromAssets, lines.from_assets)
+    } else {
+        from_assets(rate, lines)
+    }
 }
 
 // What a rate takes of assets.

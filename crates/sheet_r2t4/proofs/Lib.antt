@@ -1,2 +1,3 @@
 pub mod ReturnPieces
 pub mod ReturnPlaces
+pub mod ReturnSums

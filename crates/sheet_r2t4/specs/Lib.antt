@@ -1,4 +1,5 @@
 pub mod ReturnEntries
 pub mod ReturnLines
 pub mod ReturnSheet
+pub mod ReturnSums
 pub mod ReturnWords

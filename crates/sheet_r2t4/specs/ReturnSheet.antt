@@ -1,5 +1,5 @@
 -- The worksheet of a student's withdrawal from a term of a school (HEA 484B; 34 CFR 668.22).
-use Rattle.std.specs.Prelude.{ℕ, ◌-◌, List, ◌++◌, codes, decimal, drop, length, replicate, Option, Some, None}
+use Rattle.std.specs.Prelude.{ℕ, ◌-◌, ◌==◌, if◌then◌else◌, List, [], ◌++◌, codes, decimal, drop, length, replicate, Option, Some, None}
 use Rattle.std.specs.List.{flat_map}
 use Rattle.aid_types.specs.Words.{program_text}
 use Rattle.aid_types.specs.declared.number.Key.{Key}
@@ -27,11 +27,15 @@ title key w =
     codes "Return of funds: student " ++ decimal w.student ++ codes ", school " ++ decimal key.school ++ codes ", award year " ++ decimal w.year
     ++ codes ", term " ++ decimal w.term ++ codes "\n"
 
+-- the day on which a return is due, where there is something to return. Own format
+abbrev pub due_words : ℕ → ℕ → List ℕ
+due_words school determined = if school == 0 then [] else codes ", return due " ++ due_text (due_day determined)
+
 -- on which filing it stands, and the days that count. Own format
-abbrev pub places : ℕ → Key → WithdrawFacts → List ℕ
-places position key w =
+abbrev pub places : ℕ → Key → WithdrawFacts → ℕ → List ℕ
+places position key w school =
     codes "withdrawal at " ++ decimal position ++ codes ", number " ++ decimal key.number ++ codes ": last day " ++ day_text w.last
-    ++ codes ", determined " ++ day_text w.determined ++ codes ", return due " ++ due_text (due_day w.determined) ++ codes "\n"
+    ++ codes ", determined " ++ day_text w.determined ++ due_words school w.determined ++ codes "\n"
 
 -- the heads of the columns. Own format
 unfoldable pub heading : List ℕ
@@ -40,7 +44,7 @@ heading = replicate 30 32 ++ flat_map (λ program. right 11 (program_text progra
 -- the sheet of the withdrawal at a position; `past` are the filings before it, `now` all of them
 abbrev pub return_text : List Filing → List Filing → ℕ → Key → WithdrawFacts → List ℕ
 return_text past now position key w =
-    title key w ++ places position key w ++ heading ++ lines_text (return_entries past now key w (sheet past key w))
+    title key w ++ places position key w (sheet past key w).school ++ heading ++ lines_text (return_entries past now key w (sheet past key w))
 
 -- that of the filing at a position, `none` where it's no withdrawal
 abbrev pub sheet_of : List Filing → ℕ → Key → What → List ℕ

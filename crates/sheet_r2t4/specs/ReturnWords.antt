@@ -1,7 +1,7 @@
 -- The words of a worksheet's lines. The letters are those of the Department's worksheet for credit-hour programs.
 use Rattle.std.specs.Prelude.{ℕ, List, codes}
 use Rattle.sheet_r2t4.specs.declared.entry.Label.{Label}
-use Rattle.sheet_r2t4.specs.declared.entry.Label.TheVariants.{Disbursed, CouldHaveBeen, Both, TermDays, CompletedDays, PercentEarned, Earned, PostWithdrawal, Unearned, Charges, PercentUnearned, UnearnedCharges, SchoolReturns, LaidOnStudent, HalfOfGrants, StudentOwes, RepaidSince, StillOwed, PaidSince, NetNow}
+use Rattle.sheet_r2t4.specs.declared.entry.Label.TheVariants.{Disbursed, CouldHaveBeen, Both, TermDays, CompletedDays, PercentEarned, Earned, PostWithdrawal, Unearned, Charges, PercentUnearned, UnearnedCharges, SchoolReturns, LaidOnStudent, LoansLeft, GrantsAtFirst, GrantsKept, GrantsReturned, HalfOfGrants, OwedByProgram, RepaidSince, StillOwed, PaidSince, NetNow}
 
 -- the letter of a line, and a space
 abbrev pub letter_text : Label → List ℕ
@@ -16,6 +16,10 @@ letter_text PercentUnearned = codes "M "
 letter_text UnearnedCharges = codes "N "
 letter_text SchoolReturns = codes "O "
 letter_text LaidOnStudent = codes "Q "
+letter_text LoansLeft = codes "R "
+letter_text GrantsAtFirst = codes "S "
+letter_text GrantsKept = codes "T "
+letter_text GrantsReturned = codes "U "
 letter_text _ = codes "  "
 
 -- its words. Own format
@@ -34,8 +38,12 @@ words_text PercentUnearned = codes "percent unearned"
 words_text UnearnedCharges = codes "unearned part of the charges"
 words_text SchoolReturns = codes "the school returns"
 words_text LaidOnStudent = codes "laid on the student"
+words_text LoansLeft = codes "loans the student repays"
+words_text GrantsAtFirst = codes "grants to return, at first"
+words_text GrantsKept = codes "half of both, of all grants"
+words_text GrantsReturned = codes "grants the student returns"
 words_text HalfOfGrants = codes "half of both, of grants"
-words_text StudentOwes = codes "the student owes"
+words_text OwedByProgram = codes "owed, program by program"
 words_text RepaidSince = codes "repaid since"
 words_text StillOwed = codes "still owed"
 words_text PaidSince = codes "paid since"

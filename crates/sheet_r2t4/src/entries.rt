@@ -3,13 +3,17 @@ ghost use Rattle.std.specs.Prelude.{◌≡◌, ◌≤◌, Some};
 ghost use Rattle.aid_types.specs.Ranges.{EachIsCents};
 ghost use Rattle.law_terms.specs.Terms.{IsLawful};
 ghost use Rattle.sheet_r2t4.specs.ReturnEntries.{
+  both_of as both_of_program,
   charges_entries,
   days_entries,
   disbursed_entries,
   earned_entries,
   entry as entry_of,
+  grants_kept as grants_kept_of,
   half_of as half_of_program,
   halves as halves_of,
+  left_of as left_of_program,
+  loans_left as loans_left_of,
   returned_entries,
   since_entries,
 };
@@ -80,18 +84,72 @@ pub(crate) fn charges(charges: u64, percent: u16) -> [Entry; 3]
     ]
 }
 
-/// What the school returns, what is laid on the student, and what the student owes of it.
-pub(crate) fn returned(net: &ByProgram, could: &ByProgram, lines: &Lines) -> [Entry; 4]
+/// What the school returns, what is laid on the student, what the student repays and returns of it by the Department's worksheet, and
+/// what is owed of each grant by itself.
+pub(crate) fn returned(net: &ByProgram, could: &ByProgram, lines: &Lines) -> [Entry; 8]
     requires net { EachIsCents net.now }
     requires could { EachIsCents could.now }
     ensures { result ≡ returned_entries net.now could.now lines.now }
 {
+    let loans = loans_left(net, &lines.returned);
+    let grants = lines.student.saturating_sub(loans);
+    let kept = grants_kept(net, could);
     [
         entry(Label::SchoolReturns, Figure::ByProgram(lines.returned)),
         entry(Label::LaidOnStudent, Figure::ByProgram(lines.laid)),
+        entry(Label::LoansLeft, Figure::Cents(loans)),
+        entry(Label::GrantsAtFirst, Figure::Cents(grants)),
+        entry(Label::GrantsKept, Figure::Cents(kept)),
+        entry(
+            Label::GrantsReturned,
+            Figure::Cents(grants.saturating_sub(kept)),
+        ),
         entry(Label::HalfOfGrants, Figure::ByProgram(halves(net, could))),
-        entry(Label::StudentOwes, Figure::ByProgram(lines.owed)),
+        entry(Label::OwedByProgram, Figure::ByProgram(lines.owed)),
     ]
+}
+
+// What the school leaves of all loans.
+fn loans_left(net: &ByProgram, returned: &ByProgram) -> u64
+    requires { EachIsCents net.now }
+    ensures { result ≡ loans_left_of net.now returned.now }
+{
+    left_of(net, returned, Program::Unsub)
+        + left_of(net, returned, Program::Sub)
+        + left_of(net, returned, Program::Plus)
+}
+
+// What it leaves of one.
+#[tactic(auto, using(aid_types::proofs::ProgramLemmas::cents_at))]
+fn left_of(net: &ByProgram, returned: &ByProgram, program: Program) -> u64
+    requires { EachIsCents net.now }
+    ensures value { result ≡ left_of_program net.now returned.now program }
+    ensures at_most { result ≤ 99999999 }
+{
+    net.at(program).saturating_sub(returned.at(program))
+}
+
+// Half of all grants that were or could have been disbursed, as one sum.
+fn grants_kept(net: &ByProgram, could: &ByProgram) -> u64
+    requires net { EachIsCents net.now }
+    requires could { EachIsCents could.now }
+    ensures { result ≡ grants_kept_of net.now could.now }
+{
+    let pell = both_of(net, could, Program::Pell);
+    let fseog = both_of(net, could, Program::Fseog);
+    let teach = both_of(net, could, Program::Teach);
+    nearest_whole(pell + fseog + teach, 2)
+}
+
+// All of a program that was or could have been disbursed.
+#[tactic(auto, using(aid_types::proofs::ProgramLemmas::cents_at))]
+fn both_of(net: &ByProgram, could: &ByProgram, program: Program) -> u64
+    requires net { EachIsCents net.now }
+    requires could { EachIsCents could.now }
+    ensures value { result ≡ both_of_program net.now could.now program }
+    ensures at_most { result ≤ 199999998 }
+{
+    net.at(program) + could.at(program)
 }
 
 // Half of all of each grant that was or could have been disbursed.
@@ -111,13 +169,12 @@ fn halves(net: &ByProgram, could: &ByProgram) -> ByProgram
 }
 
 // The same of one.
-#[tactic(auto, using(aid_types::proofs::ProgramLemmas::cents_at))]
 fn half_of(net: &ByProgram, could: &ByProgram, program: Program) -> u64
     requires net { EachIsCents net.now }
     requires could { EachIsCents could.now }
     ensures { result ≡ half_of_program net.now could.now program }
 {
-    nearest_whole(net.at(program) + could.at(program), 2)
+    nearest_whole(both_of(net, could, program), 2)
 }
 
 /// What came of a withdrawal since: what was repaid, what is still owed, what was paid, and the nets now.

@@ -10,5 +10,5 @@ mod sheet;
 mod words;
 mod worked;
 
-pub use laws::repaid_of_owed;
+pub use laws::{repaid_of_owed, worksheet_adds_up};
 pub use on_file::withdrawal;

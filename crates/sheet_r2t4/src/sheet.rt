@@ -1,20 +1,21 @@
 //! The worksheet of a withdrawal, written.
-ghost use Rattle.std.specs.Prelude.{◌≡◌, ◌++◌, OnOk, decimal};
+ghost use Rattle.std.specs.Prelude.{◌≡◌, ◌≤◌, ◌++◌, OnOk, Some, codes, decimal};
 ghost use Rattle.std.specs.List.{flat_map};
 ghost use Rattle.office_reports.specs.Columns.{right};
 ghost use Rattle.office_reports.specs.Lines.{due_text};
 ghost use Rattle.office_reports.specs.Rows.{due_day};
+ghost use Rattle.aid_types.specs.Ranges.{EachIsCents};
 ghost use Rattle.aid_types.specs.Words.{program_text};
 ghost use Rattle.law_terms.specs.Days.{day_text};
-ghost use Rattle.office_history.specs.Net.{sheet as sheet_after};
+ghost use Rattle.law_terms.specs.Terms.{IsLawful};
 ghost use Rattle.office_history.specs.Sheets.{CanBeWorkedOut};
-ghost use Rattle.sheet_r2t4.specs.ReturnEntries.{return_entries};
+ghost use Rattle.sheet_r2t4.specs.ReturnEntries.{entries_on};
 ghost use Rattle.sheet_r2t4.specs.ReturnLines.{lines_text};
-ghost use Rattle.sheet_r2t4.specs.ReturnSheet.{heading, places as places_of, return_text, title as title_of};
+ghost use Rattle.sheet_r2t4.specs.ReturnSheet.{due_words, heading, places as places_of, return_text, title as title_of};
 
 use crate::entries::{charges, days_of_term, disbursed, earned, returned, since};
 use crate::lines::{put_blanks, put_digits, put_lines, put_right, put_text};
-use crate::worked::worked_out;
+use crate::worked::{WorkedOut, worked_out};
 use aid_filings::WithdrawFacts;
 use aid_types::{Day, Key, Program, School, Student, Year, program_name};
 use law_terms::{due, put_day};
@@ -34,10 +35,11 @@ pub(crate) fn put_return(
     requires { CanBeWorkedOut past.now key.now withdrawal.now }
     ensures { OnOk result (out.new.items ≡ out.old.items ++ return_text past.now office.now.history position key.now withdrawal.now) }
 {
+    let worked = worked_out(past, key, withdrawal);
     put_title(key, withdrawal, out)?;
-    put_places(position, key, withdrawal, out)?;
+    put_places(position, key, withdrawal, worked.lines.school, out)?;
     put_heading(out)?;
-    put_figures(past, office, key, withdrawal, out)
+    put_figures(&worked, office, key, withdrawal, out)
 }
 
 // Appends whose sheet it is.
@@ -83,14 +85,15 @@ fn put_term(term: u8, out: &mut Vec<u8>) -> Result<(), AllocError>
     put_digits(u64::from(term), out)
 }
 
-// Appends on which filing it stands, and the days that count.
+// Appends on which filing it stands, and the days that count, where the school returns so much.
 fn put_places(
     position: u32,
     key: &Key,
     withdrawal: &WithdrawFacts,
+    school: u64,
     out: &mut Vec<u8>,
 ) -> Result<(), AllocError>
-    ensures { OnOk result (out.new.items ≡ out.old.items ++ places_of position key.now withdrawal.now) }
+    ensures { OnOk result (out.new.items ≡ out.old.items ++ places_of position key.now withdrawal.now school) }
 {
     put_text(b"withdrawal at ", out)?;
     put_position(position, out)?;
@@ -100,8 +103,7 @@ fn put_places(
     put_day(withdrawal.last, out)?;
     put_text(b", determined ", out)?;
     put_day(withdrawal.determined, out)?;
-    put_text(b", return due ", out)?;
-    put_due(withdrawal.determined, out)?;
+    put_due(school, withdrawal.determined, out)?;
     put_text(b"\n", out)
 }
 
@@ -112,8 +114,27 @@ fn put_position(position: u32, out: &mut Vec<u8>) -> Result<(), AllocError>
     put_digits(u64::from(position), out)
 }
 
+// Appends the day on which a return is due, where there is something to return.
+fn put_due(school: u64, determined: Day, out: &mut Vec<u8>) -> Result<(), AllocError>
+    ensures { OnOk result (out.new.items ≡ out.old.items ++ due_words school determined) }
+{
+    if school == 0 {
+        Ok(())
+    } else {
+        put_due_behind(determined, out)
+    }
+}
+
+// Appends the day on which a return is due, behind what stands before it.
+fn put_due_behind(determined: Day, out: &mut Vec<u8>) -> Result<(), AllocError>
+    ensures { OnOk result (out.new.items ≡ out.old.items ++ codes ", return due " ++ due_text (due_day determined)) }
+{
+    put_text(b", return due ", out)?;
+    put_due_day(determined, out)
+}
+
 // Appends the day on which a return is due, or none.
-fn put_due(determined: Day, out: &mut Vec<u8>) -> Result<(), AllocError>
+fn put_due_day(determined: Day, out: &mut Vec<u8>) -> Result<(), AllocError>
     ensures { OnOk result (out.new.items ≡ out.old.items ++ due_text (due_day determined)) }
 {
     match due(determined) {
@@ -145,16 +166,18 @@ fn put_programs(programs: &[Program], out: &mut Vec<u8>) -> Result<(), AllocErro
 
 // Appends the lines.
 fn put_figures(
-    past: &PlainHistory<'_>,
+    worked: &WorkedOut,
     office: &Office,
     key: &Key,
     withdrawal: &WithdrawFacts,
     out: &mut Vec<u8>,
 ) -> Result<(), AllocError>
-    requires { CanBeWorkedOut past.now key.now withdrawal.now }
-    ensures { OnOk result (out.new.items ≡ out.old.items ++ lines_text (return_entries past.now office.now.history key.now withdrawal.now (sheet_after past.now key.now withdrawal.now))) }
+    requires lawful { IsLawful worked.now.term }
+    requires begun { worked.now.term.first ≤ withdrawal.now.last }
+    requires inside { withdrawal.now.last ≤ worked.now.term.last }
+    requires cents { EachIsCents worked.now.net }
+    ensures { OnOk result (out.new.items ≡ out.old.items ++ lines_text (entries_on (Some worked.now.term) worked.now.net worked.now.lines office.now.history key.now withdrawal.now)) }
 {
-    let worked = worked_out(past, key, withdrawal);
     let (net, could, lines) = (&worked.net, &withdrawal.could, &worked.lines);
     put_lines(&disbursed(net, could), out)?;
     put_lines(&days_of_term(&worked.term, withdrawal.last), out)?;

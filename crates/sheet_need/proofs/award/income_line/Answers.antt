@@ -11,4 +11,4 @@ returns c =
     let fits : FitsSigned w64 c.income-income.result = search rules in
     let dollars = to_z-of_z w64 c.income-income.result fits ∙ c.income-income.ensures in
     c.worked.ensures ∙ ap (λ (k : Label). worked Blank k (to_z w64 (of_z w64 c.income-income.result))) c.income_label-label.ensures
-    ∙ ap (worked Blank (income_label book)) dollars
+    ∙ ap (worked Blank (income_label c.args.formula book)) dollars

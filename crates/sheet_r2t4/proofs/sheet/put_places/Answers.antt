@@ -11,6 +11,5 @@ returns c =
     let t5 = chained c.args.out.now.items _ _ c.put_text-3.new.out.items c.put_day.new.out.items t4 c.in_ok-put_day.ensures.text in
     let t6 = chained c.args.out.now.items _ _ c.put_day.new.out.items c.put_text-4.new.out.items t5 c.in_ok-put_text-4.ensures in
     let t7 = chained c.args.out.now.items _ _ c.put_text-4.new.out.items c.put_day-2.new.out.items t6 c.in_ok-put_day-2.ensures.text in
-    let t8 = chained c.args.out.now.items _ _ c.put_day-2.new.out.items c.put_text-5.new.out.items t7 c.in_ok-put_text-5.ensures in
-    let t9 = chained c.args.out.now.items _ _ c.put_text-5.new.out.items c.put_due.new.out.items t8 c.in_ok-put_due.ensures in
-    on_ok_weaker c.put_text-6.result (λ last. chained c.args.out.now.items _ _ c.put_due.new.out.items _ t9 last) c.put_text-6.ensures
+    let t8 = chained c.args.out.now.items _ _ c.put_day-2.new.out.items c.put_due.new.out.items t7 c.in_ok-put_due.ensures in
+    on_ok_weaker c.put_text-5.result (λ last. chained c.args.out.now.items _ _ c.put_due.new.out.items _ t8 last) c.put_text-5.ensures
