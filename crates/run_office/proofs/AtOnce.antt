@@ -319,9 +319,9 @@ module _ {D S K : Type 0} (disk : Ghosts D) (source : SourceGhosts S) (sink : Si
       (is.moments honest (subst (λ (l : List (StampedEntry Filing)). EachImage (disk.tells old) (λ file. kept.Recovers file l)) (sym same) kept_images)))
 
   of_files : (before : List View) → AreRead left_of rows_under (reads_of source) (length inputs) inputs inputs' before → FilesAll disk sink old new before out out' status → AtOnce
-  of_files before has_read (unopened error _ is rose still ends) =
+  of_files before has_read (unopened error _ is _ _ ends) =
       idle_by (open_line error) (open_status error) (open_fault error (is.complete honest past (kept_images (disk.tells old).reads (here old honest)))) (plainly (is.moments honest past kept_images)) ends
-  of_files before has_read (starved list _ opened still ends) = idle_by (codes "fault memory\n") 9 memory_fault (moments_of_opened list opened) ends
+  of_files before has_read (starved list _ opened _ ends) = idle_by (codes "fault memory\n") 9 memory_fault (moments_of_opened list opened) ends
   of_files before has_read (worked after list history pending log waiting at _ opened ran sound between ends) = filed_by before after has_read list history pending log waiting at opened ran sound between ends
 
   of_run : RanDesks disk source sink old new inputs inputs' out out' status → AtOnce

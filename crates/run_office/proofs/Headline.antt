@@ -23,6 +23,7 @@ use Rattle.log_session.specs.Edges.{Input}
 use Rattle.log_session.specs.Links.{IsLink, Runs}
 use Rattle.log_session.specs.Links as links
 use Rattle.log_session.specs.Sessions.{Files, Opens, Session, all, ended_filing, faulted, opened, read, starved, unopened, unread, unwritten}
+use Rattle.log_machine.specs.Recovers.{RecoversEither}
 use Rattle.log_machine.specs.Texts.{after_row, after_rows, lines_of, row_line}
 use Rattle.log_session.specs.declared.stop.FileStop.{FileStop}
 use Rattle.log_session.specs.declared.stop.FileStop.TheVariants as filing
@@ -160,10 +161,10 @@ module _ {D : Type 0} (stamp : Stamp) (disk : Ghosts D) (only : (d : D) (c : Lis
   is_legal : (at : D) (past : List (StampedEntry Filing)) → IsHonest (disk.tells at) → Each at past → IsLegal (entries past)
   is_legal at past honest each = (each (disk.tells at).reads (here at honest)).legal
 
-  submit : (old new : D) (past after : List (StampedEntry Filing)) → EachMoment (disk.tells old) (disk.tells new) (kept.RecoversEither past after)
+  submit : (old new : D) (past after : List (StampedEntry Filing)) → EachMoment (disk.tells old) (disk.tells new) (RecoversEither office_scheme past after)
       → EachMoment (disk.tells old) (disk.tells new) (λ file. Recovers file past ⊎ Recovers file after)
   submit old new past after moments =
-      weaken (disk.tells old) (disk.tells new) (kept.RecoversEither past after) (λ file. Recovers file past ⊎ Recovers file after)
+      weaken (disk.tells old) (disk.tells new) (RecoversEither office_scheme past after) (λ file. Recovers file past ⊎ Recovers file after)
       (λ c r. ⊎_elim (λ one. inl (from_kept c past one)) (λ other. inr (from_kept c after other)) r) moments
 
   -- these rows in front were answered, and what the others say is this
@@ -216,7 +217,7 @@ module _ {D : Type 0} (stamp : Stamp) (disk : Ghosts D) (only : (d : D) (c : Lis
   -- the turn of a row at which a session stopped
   stopped_within : (number place : ℕ) (texts : List Row) (row : ReadRow) (rest : List Told) (past : List (StampedEntry Filing)) (old new : D) (text : List ℕ) → number ≡ place
       → said_from stamp number texts ≡ said_under said_by row ∷ rest → IsLegal (entries past)
-      → EachMoment (disk.tells old) (disk.tells new) (kept.RecoversEither past (after_row office_semantics past row))
+      → EachMoment (disk.tells old) (disk.tells new) (RecoversEither office_scheme past (after_row office_semantics past row))
       → (cut : List ℕ) × (IsFault text cut ⊎ ((text ++ cut ≡ row_line office_semantics (stamped_texts desk_texts) past place row) × (cut ≢ [])))
       → Stops stamp past place (disk.tells old) (disk.tells new) texts text
   stopped_within number place [] row rest past old new text same is legal moments part = absurd (let bad : ⊥ = cc in bad)
@@ -270,7 +271,7 @@ module _ {D : Type 0} (stamp : Stamp) (disk : Ghosts D) (only : (d : D) (c : Lis
     -- in the turn of a row
     comes_within : (past : List (StampedEntry Filing)) (begun mid : D) (front : List ReadRow) (row : ReadRow) (rest : List Told) (stop : List ℕ)
         → Front 1 (rows_in input.before) (said_under said_by row ∷ rest) front past begun mid → Stays old begun past → IsLegal (entries (after_rows office_semantics past front))
-        → EachMoment (disk.tells mid) (disk.tells new) (kept.RecoversEither (after_rows office_semantics past front) (after_row office_semantics (after_rows office_semantics past front) row))
+        → EachMoment (disk.tells mid) (disk.tells new) (RecoversEither office_scheme (after_rows office_semantics past front) (after_row office_semantics (after_rows office_semantics past front) row))
         → sink.text out' ≡ (sink.text out ++ lines_of office_semantics (stamped_texts desk_texts) past 1 front) ++ stop
         → (cut : List ℕ) × (IsFault stop cut ⊎ ((stop ++ cut ≡ row_line office_semantics (stamped_texts desk_texts) (after_rows office_semantics past front) (length front + 1) row) × (cut ≢ [])))
         → Allowed status → Comes past
@@ -323,7 +324,7 @@ module _ {D : Type 0} (stamp : Stamp) (disk : Ghosts D) (only : (d : D) (c : Lis
           let f = fronts 1 (rows_in input.before) (said_under said_by row ∷ rest) front past begun last sure each (is ∙ one_more front row rest) runs in
           let (text, cut, more_wrote, line_whole, fine) = behind_lines (filing.DiskFault undecided) (early (filing.DiskFault undecided) refl) in
           comes_within past begun last front row rest text f opens (legal_behind front last runs)
-          (subst (λ (h : List (StampedEntry Filing)). EachMoment (disk.tells last) (disk.tells new) (kept.RecoversEither (after_rows office_semantics past front) h)) (sym fault.adds) (fault.moments (sure_behind front last runs)))
+          (subst (λ (h : List (StampedEntry Filing)). EachMoment (disk.tells last) (disk.tells new) (RecoversEither office_scheme (after_rows office_semantics past front) h)) (sym fault.adds) (fault.moments (sure_behind front last runs)))
           (more_wrote ∙ ap (λ (l : List ℕ). l ++ text) (wrote sound)) (let (cut, fault) = fault_front (ending.Filing (filing.DiskFault undecided)) text cut line_whole in (cut, inl fault)) fine
       comes_of_files ended rows rest is whole done early (starved _ runs wrote) =
           let f = fronts 1 (rows_in input.before) rest rows past begun new sure each is runs in
