@@ -258,7 +258,7 @@ module _ {D K P : Type 0} (disk : Ghosts D) (sink : SinkGhosts K) (tells : P →
   ports_still (unasked _ cannot same still_ports e) is k p lt = ap (λ l. faults (get_or l k p)) still_ports
   ports_still (unopened error _ could u cause still_disk same_ports e) is k p lt = ap (λ l. faults (get_or l k p)) same_ports
   ports_still (starved past _ could opened still_disk same_ports e) is k p lt = ap (λ l. faults (get_or l k p)) same_ports
-  ports_still (served past history pending log waiting at workers _ could opened has ports sound moments e) is = all_still tells faults sessions stamp _ _ before after workers has ports (zero_by sink out out' status (any_starved workers) (any_failed workers) e is)
+  ports_still (served past history pending log waiting at workers _ could opened has ports sound moments e) is k p lt = all_still tells faults sessions stamp _ _ before after workers has ports (zero_by sink out out' status (any_starved workers) (any_failed workers) e is) k p lt
 
   pub complete : RanWeb disk sink tells faults sessions stamp old new before after out out' status → CanServe (length before) sessions → IsHonest (disk.tells old) → (past : List (StampedEntry Filing)) → Recovers office_scheme (disk.tells old).reads past
       → IsUnrisen (disk.faults old) (disk.faults new) → IsUnrisen (sink.faults out) (sink.faults out') → (HasAcceptorFault faults before after → ⊥) → (status ≡ 0) ⊎ (status ≡ 9)

@@ -1,4 +1,4 @@
-use Rattle.std.proofs.Common.{rules, ◌≡◌, ℕ, IsTrue, List, [], ◌++◌, None, length, map, take, drop, refl, ◌∙◌, sym, ap, subst, arith, Err}
+use Rattle.std.proofs.Common.{rules, ◌≡◌, ℕ, IsTrue, List, [], ◌++◌, None, length, map, reverse, take, drop, refl, ◌∙◌, sym, ap, subst, arith, Err}
 use Rattle.std.proofs.lemmas.List.{take_at}
 use Rattle.io_traits.specs.DiskState.{EachMoment, IsHonest}
 use Rattle.log_machine.specs.Kept.{IsSound}
@@ -59,14 +59,14 @@ returns-in-Ok-serve_ports g c =
     let moments : IsHonest (g.D.Disk.tells kept.disk) → EachMoment (g.D.Disk.tells at.disk) (g.D.Disk.tells kept.disk) (RecoversBetween office_scheme at.history (with_entry kept.pending kept.history)) =
     λ is. moments_of g.D.Disk office_scheme (g.D.Disk.tells at.disk).moment (λ t file. (g.D.Disk.tells at.disk).image_since t file) (stand_of at.history None [] None (g.D.Disk.faults at.disk) (g.D.Disk.tells at.disk).honest) at.history at.disk kept.disk kept.history kept.pending
     refl (λ t file has. has) (first is) (entries_filed at.history []) e.reached is in
-    web_served g.D.Disk g.K.Sink g.P.Acceptor.tells g.P.Acceptor.faults c.args.sessions c.args.stamp c.args.disk at.disk kept.disk c.into_disk-in-Ok-serve_ports.result c.args.ports.now.items c.give_back.new.ports.items workers at.history kept.history kept.pending _ e.served.0
+    web_served g.D.Disk g.K.Sink g.P.Acceptor.tells g.P.Acceptor.faults c.args.sessions c.args.stamp c.args.disk at.disk kept.disk c.into_disk-in-Ok-serve_ports.result c.args.ports.now.items c.give_back.new.ports.items workers at.history kept.history kept.pending (reverse c.in-Ok-serve_ports.field-0-1.items) e.served.0
     c.args.out.now c.end-status.new.out c.end-status.result c.web_end.result can opened c.in-Ok.ensures.unmoved
-    (subst (λ before. HasServed (semantics_under c.args.stamp filing_semantics) (own_under c.args.stamp filing_asked) office_web g.P.Acceptor.tells g.P.Acceptor.faults c.args.sessions (stand_of at.history None [] None (g.D.Disk.faults at.disk) (g.D.Disk.tells at.disk).honest) (stand_of kept.history kept.pending _ e.served.0 (g.D.Disk.faults kept.disk) (g.D.Disk.tells kept.disk).honest) before workers) made e.served.1)
+    (subst (λ before. HasServed (semantics_under c.args.stamp filing_semantics) (own_under c.args.stamp filing_asked) office_web g.P.Acceptor.tells g.P.Acceptor.faults c.args.sessions (stand_of at.history None [] None (g.D.Disk.faults at.disk) (g.D.Disk.tells at.disk).honest) (stand_of kept.history kept.pending (reverse c.in-Ok-serve_ports.field-0-1.items) e.served.0 (g.D.Disk.faults kept.disk) (g.D.Disk.tells kept.disk).honest) before workers) made e.served.1)
     back c.into_disk-in-Ok-serve_ports.ensures.disk
     (subst (λ d. IsHonest (g.D.Disk.tells d) → IsSound office_scheme (g.D.Disk.tells d) kept.history kept.pending) (sym c.into_disk-in-Ok-serve_ports.ensures.disk) e.sound) moments ended c.end-status.ensures
 
-pub returns-in-Err-serve_ports : goal.returns-in-Err-serve_ports
-returns-in-Err-serve_ports g c =
+pub returns : goal.returns
+returns g c =
     let ports = c.args.ports.now.items in
     let made : c.deref_mut.result.now ≡ map worker_of ports = c.deref_mut.ensures.value ∙ c.in-Ok-into_workers.ensures.workers in
     let workers = c.serve_ports.new.workers in
