@@ -78,7 +78,7 @@ none_after (f ∷ past) c none =
         paid_in false e = ih
         paid_in true e =
             let off = apart_too past c (cell_of key a) none (told_at (at_school key.school (withdrawal_in a.student a.year a.term)) past e) in
-            ap (λ (b : Bool). cond b a.cents 0 + paid_after past (is_cell c)) off ∙ ih
+            rw (off, ih) refl
     go key (BookFiled b) none ih = ih
     go key (School b) none ih = ih
     go key (Calendar b) none ih = ih
@@ -122,7 +122,7 @@ module _ (past : List Filing) (key : Key) (w : WithdrawFacts) (program : ℕ) wh
       let after = none_after past cell none in
       let owing = none_owed past key.school w.student w.year w.term program none in
       let within = (covered past legal cell).0 in
-      let m : moved (is_cell cell) ms ≡ returned = moved_own key w program 0 program (sheet past key w).returned refl in
+      let m : moved (is_cell cell) ms ≡ returned = moved_own key w program 0 program (sheet past key w).returned (omega arith) in
       let o = onto_is (is_cell cell) ms (taken past (is_cell cell)) in
       omega (arith, after, owing, within, m, o)
 
@@ -141,8 +141,8 @@ module _ (past : List Filing) (key : Key) (w : WithdrawFacts) (program : ℕ) wh
         where
           unwithdrawn : (n : ℕ) → (0 < n → is_some (the_withdrawal now k.school a.student a.year a.term) ≡ true)
               → is_some (the_withdrawal now k.school a.student a.year a.term) ≡ false → n ≡ 0
-          unwithdrawn zero some no = refl
-          unwithdrawn (suc n) some no = let yes = some (omega arith) in absurd cc
+          unwithdrawn zero some untold = refl
+          unwithdrawn (suc n) some untold = let yes = some (omega arith) in absurd cc
   step now k (Adjust a) at ok ih =
       let off = ap (λ (b : Bool). cond b a.cents 0) (apart now cell (cell_of k a) at (adjusted now k a ok).0) in
       omega (arith, ih, off)
