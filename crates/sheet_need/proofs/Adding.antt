@@ -32,7 +32,7 @@ total s = omega (arith, ints)
 
 -- what a rate takes of assets, and the lines below
 taken : (rate : ℤ) (l : ParentLines) (es : List Entry) → AddUp l.from_assets es → AddUp l.discretionary ((if int_lt l.discretionary (pos 0) then worked Blank NoneFromAssets l.from_assets else from_assets rate l) ∷ es)
-taken rate l es below = either (int_lt l.discretionary (pos 0)) l.discretionary (worked Blank NoneFromAssets l.from_assets) (from_assets rate l) es (tt , below) (tt , below)
+taken rate l es below = either (int_lt l.discretionary (pos 0)) l.discretionary (worked Blank NoneFromAssets l.from_assets) (from_assets rate l) es (tt, below) (tt, below)
 
 -- a student's contribution from income, and the lines below
 given : (book : Book) (l : IndexLines) (es : List Entry) → AddUp l.from_income es
@@ -40,21 +40,21 @@ given : (book : Book) (l : IndexLines) (es : List Entry) → AddUp l.from_income
     else worked_with Blank FromIncome (Rate book.schedule.student_rate) l.from_income) ∷ es)
 given book l es below =
     either (int_eq l.from_income book.schedule.lowest_student) l.own.available (worked Blank LeastFromIncome l.from_income)
-    (worked_with Blank FromIncome (Rate book.schedule.student_rate) l.from_income) es (tt , below) (tt , below)
+    (worked_with Blank FromIncome (Rate book.schedule.student_rate) l.from_income) es (tt, below) (tt, below)
 
 -- a household that the schedule assesses
 assessed : (s : Side) (family : ℕ) (years rate : ℤ) (l : ParentLines) → l.total ≡ total_income s → l.allowances ≡ l.tax +ℤ l.payroll +ℤ l.protection +ℤ l.employment
     → l.worth ≡ s.support +ℤ s.cash +ℤ s.investments +ℤ l.business → l.discretionary ≡ l.worth -ℤ l.asset_protection
     → AddUp (pos 0) (assessed_entries s family years rate l)
 assessed s family years rate l income allowed worth rest =
-    (tt , (tt , (tt , (tt , (tt , (tt , (tt , (tt , (tt , (income ∙ total s , (tt , (tt , (tt , (tt , (allowed , (tt , (tt , (tt , (tt , (tt , (worth , (tt , (rest , taken rate l (schedule_entries l) (tt , (tt , tt)))))))))))))))))))))))))
+    (tt, (tt, (tt, (tt, (tt, (tt, (tt, (tt, (tt, (income ∙ total s, (tt, (tt, (tt, (tt, (allowed, (tt, (tt, (tt, (tt, (tt, (worth, (tt, (rest, taken rate l (schedule_entries l) (tt, (tt, tt)))))))))))))))))))))))))
 
 -- a dependent student
 dependent : (book : Book) (a : Application) (l : IndexLines) → l.own.total ≡ total_income a.own
     → l.own.allowances ≡ l.own.tax +ℤ l.own.payroll +ℤ l.own.protection +ℤ shortfall l.parent
     → l.own.worth ≡ a.own.cash +ℤ a.own.investments +ℤ a.own.business → AddUp (pos 0) (dependent_entries book a l)
 dependent book a l income allowed worth =
-    (tt , (tt , (tt , (tt , (tt , (tt , (tt , (tt , (tt , (income ∙ total a.own , (tt , (tt , (tt , (tt , (allowed , (tt , given book l (dependent_assets a.own book.assets.dependent_rate l.own) (tt , (tt , (tt , (worth , (tt , tt)))))))))))))))))))))
+    (tt, (tt, (tt, (tt, (tt, (tt, (tt, (tt, (tt, (income ∙ total a.own, (tt, (tt, (tt, (tt, (allowed, (tt, given book l (dependent_assets a.own book.assets.dependent_rate l.own) (tt, (tt, (tt, (worth, (tt, tt)))))))))))))))))))))
 
 -- a student without dependents
 single : (book : Book) (a : Application) (l : IndexLines) → l.own.total ≡ total_income a.own
@@ -62,7 +62,7 @@ single : (book : Book) (a : Application) (l : IndexLines) → l.own.total ≡ to
     → l.own.worth ≡ a.own.support +ℤ a.own.cash +ℤ a.own.investments +ℤ l.own.business → l.own.discretionary ≡ l.own.worth -ℤ l.own.asset_protection
     → AddUp (pos 0) (single_entries book a l)
 single book a l income allowed worth rest =
-    (tt , (tt , (tt , (tt , (tt , (tt , (tt , (tt , (tt , (income ∙ total a.own , (tt , (tt , (tt , (tt , (allowed , (tt , given book l (worth_entries a.own l.own ++ asset_entries (age book a) book.assets.no_dependents_rate l.own) (tt , (tt , (tt , (tt , (worth , (tt , (rest , taken book.assets.no_dependents_rate l.own [] tt)))))))))))))))))))))))
+    (tt, (tt, (tt, (tt, (tt, (tt, (tt, (tt, (tt, (income ∙ total a.own, (tt, (tt, (tt, (tt, (allowed, (tt, given book l (worth_entries a.own l.own ++ asset_entries (age book a) book.assets.no_dependents_rate l.own) (tt, (tt, (tt, (tt, (worth, (tt, (rest, taken book.assets.no_dependents_rate l.own [] tt)))))))))))))))))))))))
 
 -- the households of a formula
 pub households : (f : Formula) (book : Book) (a : Application) → HouseholdsAddUp f book a (lines_of f book a)
