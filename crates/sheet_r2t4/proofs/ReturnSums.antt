@@ -1,9 +1,7 @@
 -- What was paid and taken of a student's program in a term, before a withdrawal from it and since.
-use Rattle.std.proofs.Common.{◌≡◌, ℕ, zero, suc, ◌+◌, ◌-◌, ◌≤◌, ◌<◌, refl, ap, sym, ◌∙◌, arith, cond, Bool, true, false, List, [], ◌∷◌, ◌++◌, length, None, eq-eqb, min, get_or}
-use Rattle.std.specs.Prelude.{◌==◌, is_some, sum, slice_index}
-use Rattle.aid_types.specs.Programs.{rank}
+use Rattle.std.proofs.Common.{◌≡◌, ℕ, zero, suc, ◌+◌, ◌-◌, ◌<◌, refl, ap, sym, ◌∙◌, arith, cond, Bool, true, false, List, [], ◌∷◌, ◌++◌, length, None, eq-eqb}
+use Rattle.std.specs.Prelude.{is_some, slice_index}
 use Rattle.aid_types.specs.declared.number.Key.{Key}
-use Rattle.aid_filings.specs.declared.filing.Amount.{Amount}
 use Rattle.aid_filings.specs.declared.filing.Filing.{Filing}
 use Rattle.aid_filings.specs.declared.filing.What.{What}
 use Rattle.aid_filings.specs.declared.filing.What.TheVariants.{Book as BookFiled, School, Calendar, Prior, Apply, Enroll, Originate, Pay, Withdraw, Repay, Adjust}
@@ -12,7 +10,7 @@ use Rattle.law_r2t4.specs.Worksheet.{worksheet_of}
 use Rattle.law_r2t4.proofs.Programs.{sum-laid, sum-returned}
 use Rattle.office_history.specs.Answer.{breaks, IsLegal}
 use Rattle.office_history.specs.Net.{Cell, cell_of, is_cell, moved, moves_at, onto, paid, paid_after, repaid, sheet, taken, withdrawn_cell}
-use Rattle.office_history.specs.Past.{at_school, first_of_two, given, if_here, the_withdrawal, withdrawal_in}
+use Rattle.office_history.specs.Past.{at_school, first_of_two, the_withdrawal, withdrawal_in}
 use Rattle.office_history.specs.Positions.{withdrawn_at}
 use Rattle.office_history.proofs.Asked.{some_told, told_at}
 use Rattle.office_history.proofs.Cells.{moved_own, onto_is, same_cell}
