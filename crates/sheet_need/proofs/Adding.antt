@@ -47,57 +47,22 @@ assessed : (s : Side) (family : ℕ) (years rate : ℤ) (l : ParentLines) → l.
     → l.worth ≡ s.support +ℤ s.cash +ℤ s.investments +ℤ l.business → l.discretionary ≡ l.worth -ℤ l.asset_protection
     → AddUp (pos 0) (assessed_entries s family years rate l)
 assessed s family years rate l income allowed worth rest =
-    (tt, tt, tt, tt, tt, tt, tt, tt, tt, income ∙ total s, tt, tt, tt, tt, allowed, tt, tt, tt, tt, tt, worth, tt, rest, taken rate l (schedule_entries l) (tt, tt, tt))
+    (tt, (tt, (tt, (tt, (tt, (tt, (tt, (tt, (tt, (income ∙ total s, (tt, (tt, (tt, (tt, (allowed, (tt, (tt, (tt, (tt, (tt, (worth, (tt, (rest, taken rate l (schedule_entries l) (tt, (tt, tt)))))))))))))))))))))))))
 
 -- a dependent student
 dependent : (book : Book) (a : Application) (l : IndexLines) → l.own.total ≡ total_income a.own
     → l.own.allowances ≡ l.own.tax +ℤ l.own.payroll +ℤ l.own.protection +ℤ shortfall l.parent
     → l.own.worth ≡ a.own.cash +ℤ a.own.investments +ℤ a.own.business → AddUp (pos 0) (dependent_entries book a l)
-dependent book a l income allowed worth = (
-  tt,
-  tt,
-  tt,
-  tt,
-  tt,
-  tt,
-  tt,
-  tt,
-  tt,
-  income ∙ total a.own,
-  tt,
-  tt,
-  tt,
-  tt,
-  allowed,
-  tt,
-  given book l (dependent_assets a.own book.assets.dependent_rate l.own) (tt, tt, tt, worth, tt, tt),
-)
+dependent book a l income allowed worth =
+    (tt, (tt, (tt, (tt, (tt, (tt, (tt, (tt, (tt, (income ∙ total a.own, (tt, (tt, (tt, (tt, (allowed, (tt, given book l (dependent_assets a.own book.assets.dependent_rate l.own) (tt, (tt, (tt, (worth, (tt, tt)))))))))))))))))))))
 
 -- a student without dependents
 single : (book : Book) (a : Application) (l : IndexLines) → l.own.total ≡ total_income a.own
     → l.own.allowances ≡ l.own.tax +ℤ l.own.payroll +ℤ l.own.protection +ℤ l.own.employment
     → l.own.worth ≡ a.own.support +ℤ a.own.cash +ℤ a.own.investments +ℤ l.own.business → l.own.discretionary ≡ l.own.worth -ℤ l.own.asset_protection
     → AddUp (pos 0) (single_entries book a l)
-single book a l income allowed worth rest = (
-  tt,
-  tt,
-  tt,
-  tt,
-  tt,
-  tt,
-  tt,
-  tt,
-  tt,
-  income ∙ total a.own,
-  tt,
-  tt,
-  tt,
-  tt,
-  allowed,
-  tt,
-  given book l (worth_entries a.own l.own ++ asset_entries (age book a) book.assets.no_dependents_rate l.own)
-      (tt, tt, tt, tt, worth, tt, rest, taken book.assets.no_dependents_rate l.own [] tt),
-)
+single book a l income allowed worth rest =
+    (tt, (tt, (tt, (tt, (tt, (tt, (tt, (tt, (tt, (income ∙ total a.own, (tt, (tt, (tt, (tt, (allowed, (tt, given book l (worth_entries a.own l.own ++ asset_entries (age book a) book.assets.no_dependents_rate l.own) (tt, (tt, (tt, (tt, (worth, (tt, (rest, taken book.assets.no_dependents_rate l.own [] tt)))))))))))))))))))))))
 
 -- the households of a formula
 pub households : (f : Formula) (book : Book) (a : Application) → HouseholdsAddUp f book a (lines_of f book a)

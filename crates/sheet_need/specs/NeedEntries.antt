@@ -60,10 +60,11 @@ abbrev pub below_zero : ParentLines → Entry
 below_zero parent = worked Plus Shortfall (shortfall parent)
 
 -- a student's contribution from income, by its rate or as the least that the book allows (HEA 475(g), 476(b))
+abbrev pub least_or_share : ℤ → ℤ → ℤ → Entry
+least_or_share lowest rate n = if int_eq n lowest then worked Blank LeastFromIncome n else worked_with Blank FromIncome (Rate rate) n
+
 abbrev pub from_income : Book → IndexLines → Entry
-from_income book l =
-    if int_eq l.from_income book.schedule.lowest_student then worked Blank LeastFromIncome l.from_income
-    else worked_with Blank FromIncome (Rate book.schedule.student_rate) l.from_income
+from_income book l = least_or_share book.schedule.lowest_student book.schedule.student_rate l.from_income
 
 -- a household's assets, and its net worth
 abbrev pub worth_entries : Side → ParentLines → List Entry

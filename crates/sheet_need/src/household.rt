@@ -16,6 +16,7 @@ ghost use Rattle.sheet_need.specs.NeedEntries.{
   from_assets_above as from_assets_above_of,
   from_income as from_income_of,
   income_entries,
+  least_or_share as least_or_share_of,
   own_living as own_living_of,
   parent_entries,
   schedule_entries,
@@ -202,11 +203,21 @@ fn below_zero(parent: &ParentLines) -> Entry
 fn from_income(book: &Book, lines: &IndexLines) -> Entry
     ensures { result ≡ from_income_of book.now lines.now }
 {
-    if lines.from_income == book.schedule.lowest_student {
-        worked(Mark::Blank, Label::LeastFromIncome, lines.from_income)
+    least_or_share(
+        book.schedule.lowest_student,
+        book.schedule.student_rate,
+        lines.from_income,
+    )
+}
+
+// The least contribution from income, or what a rate takes.
+fn least_or_share(lowest: i64, rate: i64, taken: i64) -> Entry
+    ensures { result ≡ least_or_share_of lowest rate taken }
+{
+    if taken == lowest {
+        worked(Mark::Blank, Label::LeastFromIncome, taken)
     } else {
-        let rate = Part::Rate(book.schedule.student_rate);
-        worked_with(Mark::Blank, Label::FromIncome, rate, lines.from_income)
+        worked_with(Mark::Blank, Label::FromIncome, Part::Rate(rate), taken)
     }
 }
 

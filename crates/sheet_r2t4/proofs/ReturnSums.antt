@@ -1,9 +1,7 @@
 -- What was paid and taken of a student's program in a term, before a withdrawal from it and since.
-use Rattle.std.proofs.Common.{◌≡◌, ℕ, zero, suc, ◌+◌, ◌-◌, ◌≤◌, ◌<◌, refl, ap, sym, ◌∙◌, arith, cond, Bool, true, false, List, [], ◌∷◌, ◌++◌, length, None, eq-eqb, min, get_or}
-use Rattle.std.specs.Prelude.{◌==◌, is_some, sum, slice_index}
-use Rattle.aid_types.specs.Programs.{rank}
+use Rattle.std.proofs.Common.{◌≡◌, ℕ, zero, suc, ◌+◌, ◌-◌, ◌<◌, refl, ap, sym, ◌∙◌, arith, cond, Bool, true, false, List, [], ◌∷◌, ◌++◌, length, None, eq-eqb}
+use Rattle.std.specs.Prelude.{is_some, slice_index}
 use Rattle.aid_types.specs.declared.number.Key.{Key}
-use Rattle.aid_filings.specs.declared.filing.Amount.{Amount}
 use Rattle.aid_filings.specs.declared.filing.Filing.{Filing}
 use Rattle.aid_filings.specs.declared.filing.What.{What}
 use Rattle.aid_filings.specs.declared.filing.What.TheVariants.{Book as BookFiled, School, Calendar, Prior, Apply, Enroll, Originate, Pay, Withdraw, Repay, Adjust}
@@ -12,7 +10,7 @@ use Rattle.law_r2t4.specs.Worksheet.{worksheet_of}
 use Rattle.law_r2t4.proofs.Programs.{sum-laid, sum-returned}
 use Rattle.office_history.specs.Answer.{breaks, IsLegal}
 use Rattle.office_history.specs.Net.{Cell, cell_of, is_cell, moved, moves_at, onto, paid, paid_after, repaid, sheet, taken, withdrawn_cell}
-use Rattle.office_history.specs.Past.{at_school, first_of_two, given, if_here, the_withdrawal, withdrawal_in}
+use Rattle.office_history.specs.Past.{at_school, first_of_two, the_withdrawal, withdrawal_in}
 use Rattle.office_history.specs.Positions.{withdrawn_at}
 use Rattle.office_history.proofs.Asked.{some_told, told_at}
 use Rattle.office_history.proofs.Cells.{moved_own, onto_is, same_cell}
@@ -78,7 +76,7 @@ none_after (f ∷ past) c none =
         paid_in false e = ih
         paid_in true e =
             let off = apart_too past c (cell_of key a) none (told_at (at_school key.school (withdrawal_in a.student a.year a.term)) past e) in
-            ap (λ (b : Bool). cond b a.cents 0 + paid_after past (is_cell c)) off ∙ ih
+            rw (off, ih) refl
     go key (BookFiled b) none ih = ih
     go key (School b) none ih = ih
     go key (Calendar b) none ih = ih
@@ -122,7 +120,7 @@ module _ (past : List Filing) (key : Key) (w : WithdrawFacts) (program : ℕ) wh
       let after = none_after past cell none in
       let owing = none_owed past key.school w.student w.year w.term program none in
       let within = (covered past legal cell).0 in
-      let m : moved (is_cell cell) ms ≡ returned = moved_own key w program 0 program (sheet past key w).returned refl in
+      let m : moved (is_cell cell) ms ≡ returned = moved_own key w program 0 program (sheet past key w).returned (omega arith) in
       let o = onto_is (is_cell cell) ms (taken past (is_cell cell)) in
       omega (arith, after, owing, within, m, o)
 
@@ -141,8 +139,8 @@ module _ (past : List Filing) (key : Key) (w : WithdrawFacts) (program : ℕ) wh
         where
           unwithdrawn : (n : ℕ) → (0 < n → is_some (the_withdrawal now k.school a.student a.year a.term) ≡ true)
               → is_some (the_withdrawal now k.school a.student a.year a.term) ≡ false → n ≡ 0
-          unwithdrawn zero some no = refl
-          unwithdrawn (suc n) some no = let yes = some (omega arith) in absurd cc
+          unwithdrawn zero some untold = refl
+          unwithdrawn (suc n) some untold = let yes = some (omega arith) in absurd cc
   step now k (Adjust a) at ok ih =
       let off = ap (λ (b : Bool). cond b a.cents 0) (apart now cell (cell_of k a) at (adjusted now k a ok).0) in
       omega (arith, ih, off)

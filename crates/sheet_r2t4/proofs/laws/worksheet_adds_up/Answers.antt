@@ -24,5 +24,5 @@ returns-clause-even c w program is =
     let newer = reverse c.args.after.now in
     let key = c.args.filing.now.key in
     let same : newer ++ record { key = key; what = Withdraw w } ∷ past ≡ reverse (c.args.before.now ++ c.args.filing.now ∷ c.args.after.now) =
-    ap (λ (what : What). newer ++ record { key = key; what = what } ∷ past) (sym is) ∙ sym (reverse-middle c.args.before.now c.args.filing.now c.args.after.now) in
+    ap (λ (what : What). newer ++ record { key = key; what = what } ∷ past) (sym is) ∙ sym (reverse-middle c.args.before.now c.args.after.now c.args.filing.now) in
     subst (λ (now : List Filing). IsEven past now key w program) same (even past key w program newer (subst (λ (now : List Filing). IsLegal now) (sym same) c.requires))
