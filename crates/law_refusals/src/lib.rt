@@ -14,6 +14,8 @@ ghost use Rattle.law_rules.specs.Lines.{broken_of, payment_lines};
 ghost use Rattle.law_rules.specs.Quote.{greatest_payment};
 ghost use Rattle.office_history.specs.Answer.{answer_of};
 
+mod limits;
+
 use aid_books::Book;
 use aid_filings::{Filing, Response, What};
 use aid_types::{Application, Formula, Key, Refusal, School, Student, Year};
@@ -21,6 +23,7 @@ use format_books::{BookError, book_of};
 use law_pell::{Ceiling, calculated, ceiling_for, income};
 use law_r2t4::{Inputs, Lines, worksheet};
 use law_rules::{Facts, broken, quote};
+pub use limits::{lifetime_limit, supplemental_limit};
 use office_answers::answer;
 use office_history::HistoryView;
 use sorted_rows::Steps;
