@@ -7,7 +7,7 @@ use io_traits::Sink;
 use log_journal::OpenError;
 use log_runs::{RunStop, end};
 use log_session::ReadStop;
-use std::fs::File;
+use std::fs::{File, metadata};
 use std::io;
 use std::io::ErrorKind;
 use std::process::ExitCode;
@@ -82,6 +82,11 @@ fn open_disk(rt: &HostRuntime, path: String, words: &[String]) -> Option<HostDis
 
 // The journal of a path, held for this program alone, which only reads it. Where there is none, none is made.
 fn open_disk_to_read(rt: &HostRuntime, path: &str) -> Option<HostDiskToRead> {
+    // (a pipe that nobody writes would be waited for as it is opened)
+    if metadata(rt, path).is_ok_and(|there| !there.is_file()) {
+        say(rt, "the journal can't be opened: it is no regular file");
+        return None;
+    }
     let file = said_open(rt, File::open(rt, path))?;
     if take_to_read(rt, &file) {
         Some(HostDiskToRead::new(file))
