@@ -19,7 +19,18 @@ pub fn open_journal(rt: &HostRuntime, path: &str) -> io::Result<File> {
 
 /// Takes the file for this run alone, until it ends. Where another run holds it, standard error says so.
 pub fn hold(rt: &HostRuntime, file: &File) -> bool {
-    match file.try_lock() {
+    is_held(rt, file.try_lock())
+}
+
+/// Keeps runs that may write the file from it until this one ends; others that only read it may run beside this one. Where a run that
+/// may write it holds it, standard error says so.
+pub fn hold_to_read(rt: &HostRuntime, file: &File) -> bool {
+    is_held(rt, file.try_lock_shared())
+}
+
+// Whether the file was locked; else standard error says why not.
+fn is_held(rt: &HostRuntime, locked: Result<(), TryLockError>) -> bool {
+    match locked {
         Ok(()) => true,
         Err(TryLockError::WouldBlock) => {
             say(

@@ -8,7 +8,7 @@
 //! another program reads or has mapped at that moment, and says nothing of it. So the places that an earlier run may have written and
 //! not kept, the first page and the last ones, are then written again as they read, and synced: what stays in memory gets to the
 //! medium, and of the others nothing changes.
-use crate::files::hold;
+use crate::files::{hold, hold_to_read};
 use crate::retried::read_some_at;
 use std::fs::File;
 use std::io;
@@ -31,9 +31,9 @@ pub fn take(rt: &HostRuntime, file: &File) -> bool {
     hold(rt, file) && said(rt, forget(file).and_then(|_| write_again(file)))
 }
 
-/// The same of a file that is only read.
+/// The same of a file that is only read: other runs that only read it may run beside this one.
 pub fn take_to_read(rt: &HostRuntime, file: &File) -> bool {
-    hold(rt, file) && said(rt, forget(file))
+    hold_to_read(rt, file) && said(rt, forget(file))
 }
 
 // Whether that was done; else standard error says why not.

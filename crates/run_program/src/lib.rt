@@ -1,0 +1,13 @@
+//! The program: `start` opens what the plan of its words names, and `perform` makes the one call that the plan needs.
+//!
+//! What `perform` does is proved, by the clauses of the call that it makes. `start` opens, locks and ends, and of that nothing is proved.
+#![tactic(auto)]
+
+mod perform;
+mod start;
+mod task;
+mod usage;
+
+pub use perform::perform;
+pub use start::start;
+pub use task::{KnownPolicies, Task};

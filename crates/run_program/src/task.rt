@@ -1,0 +1,51 @@
+//! What is to be done, with all that was opened for it.
+use aid_stamps::Stamp;
+use law_funds::Policies;
+use run_office::DeskInput;
+use run_rules::RuleDeskInput;
+use work_study::SchoolPolicies;
+
+/// The policies of awards that are known: the aid office's by name, and the work-study desk's by school.
+#[derive(Drop)]
+pub struct KnownPolicies {
+    pub office: Policies,
+    pub schools: SchoolPolicies,
+}
+
+/// What is to be done, over disks, disks that are only read, inputs of desks, and ports from which connections come. What else a
+/// task reads, the words and one input, it shares with the others.
+#[derive(Drop)]
+pub enum Task<D, B, F, P> {
+    /// A run of the aid office.
+    Office(D),
+    /// A run of several desks of the aid office.
+    OfficeDesks {
+        disk: D,
+        desks: Vec<DeskInput<F>>,
+    },
+    /// The server: so many connections of each port, filed under one stamp.
+    Serve {
+        disk: D,
+        ports: Vec<P>,
+        sessions: u32,
+        stamp: Stamp,
+    },
+    /// A journal of version 1 is copied.
+    Upgrade {
+        source: B,
+        target: D,
+    },
+    /// A run of the loan desk.
+    Loans(D),
+    /// A run of several loan desks.
+    LoanDesks {
+        disk: D,
+        desks: Vec<RuleDeskInput<F>>,
+    },
+    /// A run of the work-study desk.
+    Work(D),
+    /// A sheet of the aid office.
+    Sheet(B),
+    /// A run of the auditor.
+    Audit,
+}
