@@ -9,7 +9,7 @@ use aid_stamps::Stamp;
 use run_words::{MOST_DESKS, MainRow, is_found, needs_journal, row_of};
 
 /// Whose words they are that work on a journal.
-#[derive(Clone, Copy, PartialEq, Eq)]
+#[derive(Clone, Copy)]
 pub enum Program {
     /// The aid office's: no word of a desk stands in front.
     Office,
@@ -22,7 +22,7 @@ pub enum Program {
 }
 
 /// How the journal's file is opened.
-#[derive(Clone, Copy, PartialEq, Eq)]
+#[derive(Clone, Copy)]
 pub enum Opening {
     /// For reading alone. Where there is none, none is made.
     Read,
@@ -179,16 +179,16 @@ fn is_found_alone(words: &[String]) -> bool
 }
 
 // How the file of an aid office is opened for these words, which need this call.
-fn office_opening(row: MainRow, words: &[String]) -> Opening
-    requires { (row ≡ MainRow.Upgrade) ↔ ((file : List ℕ) × IsUpgrade (map string_bytes words.now) file) }
+fn office_opening(row: &MainRow, words: &[String]) -> Opening
+    requires { (row.now ≡ MainRow.Upgrade) ↔ ((file : List ℕ) × IsUpgrade (map string_bytes words.now) file) }
     ensures founds { (result ≡ Opening.Found) ↔ IsFounding Program.Office (map string_bytes words.now) }
     ensures written { result ≢ Opening.Read }
-    ensures unheld { result ≡ Opening.Open → IsUnheld row (map string_bytes words.now) }
+    ensures unheld { result ≡ Opening.Open → IsUnheld row.now (map string_bytes words.now) }
 {
     if is_found(words) {
         return Opening::Found;
     }
-    match row {
+    match *row {
         MainRow::Upgrade => Opening::Found,
         MainRow::Desks { .. } | MainRow::Serve { .. } => Opening::Hold,
         MainRow::Run => run_opening(words),
@@ -220,11 +220,11 @@ fn list_opening(words: &[String]) -> Opening
 }
 
 // How the journal's file is opened.
-fn opening_for(program: Program, row: MainRow, words: &[String]) -> Opening
-    requires { (row ≡ MainRow.Upgrade) ↔ ((program ≡ Program.Office) × ((file : List ℕ) × IsUpgrade (map string_bytes words.now) file)) }
+fn opening_for(program: Program, row: &MainRow, words: &[String]) -> Opening
+    requires { (row.now ≡ MainRow.Upgrade) ↔ ((program ≡ Program.Office) × ((file : List ℕ) × IsUpgrade (map string_bytes words.now) file)) }
     ensures founds { (result ≡ Opening.Found) ↔ IsFounding program (map string_bytes words.now) }
     ensures read { (result ≡ Opening.Read) ↔ (program ≡ Program.Sheet) }
-    ensures unheld { result ≡ Opening.Open → (program ≡ Program.Office) × IsUnheld row (map string_bytes words.now) }
+    ensures unheld { result ≡ Opening.Open → (program ≡ Program.Office) × IsUnheld row.now (map string_bytes words.now) }
 {
     match program {
         Program::Office => office_opening(row, words),
@@ -234,21 +234,23 @@ fn opening_for(program: Program, row: MainRow, words: &[String]) -> Opening
 }
 
 // The plan of a run on the journal of a path.
-fn journal_plan(program: Program, path: String, words: Vec<String>) -> JournalPlan
-    ensures program { result.program ≡ program }
-    ensures path { result.path ≡ path }
-    ensures words { result.words ≡ words }
-    ensures suits { Suits program (map string_bytes words.items) result.row result.opening }
+fn journal_plan(
+    program: Program,
+    path: String,
+    words: Vec<String>,
+    row: MainRow,
+    opening: Opening,
+) -> Plan
+    requires { Suits program (map string_bytes words.items) row opening }
+    ensures { IsPlanFromPath program (string_bytes path ∷ map string_bytes words.items) result }
 {
-    let row = row_for(program, &words);
-    let opening = opening_for(program, row, &words);
-    JournalPlan {
+    Plan::Journal(JournalPlan {
         program,
         path,
         words,
         row,
         opening,
-    }
+    })
 }
 
 // The plan of words that aren't the auditor's, from the journal's path on.
@@ -256,10 +258,12 @@ fn plan_from_path(program: Program, words: Vec<String>) -> Plan
     ensures { IsPlanFromPath program (map string_bytes words.items) result }
 {
     let mut rest = words;
-    match take_first(&mut rest) {
-        Some(path) => Plan::Journal(journal_plan(program, path, rest)),
-        None => Plan::NoJournal(program),
-    }
+    let Some(path) = take_first(&mut rest) else {
+        return Plan::NoJournal(program);
+    };
+    let row = row_for(program, &rest);
+    let opening = opening_for(program, &row, &rest);
+    journal_plan(program, path, rest, row, opening)
 }
 
 /// What the words say: `audit` or `clock` in front is the auditor's; `loans`, `work` or `sheet` in front is that desk's word, and the
