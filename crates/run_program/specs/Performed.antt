@@ -38,7 +38,7 @@ use Rattle.run_program.specs.declared.task.Task.{Task}
 use Rattle.run_program.specs.declared.task.Task.TheVariants as task
 
 -- what is known of that on which tasks work: disks, disks that are only read, inputs of desks, ports, and the sink
-pub record Outside (D B F P K : Type 0) : Type 0 where
+pub record Outside (D B F P K : Type 0) : Type 1 where
   pub disk : Ghosts D
   pub to_read : Ghosts B
   pub desk : SourceGhosts F
@@ -55,7 +55,8 @@ pub data Performed {D B F P K Policy : Type 0} (names : List (List ℕ)) (gives 
     : Task D B F P → Task D B F P → ℕ → Type 0 where
   office : (old new : D) (status : ℕ) → Ran names gives of.disk of.sink (counts_of of source out out' old new) words old new input out out' status
       → Performed names gives schools grants of source input words out out' (task.Office old) (task.Office new) status
-  office_desks : (old new : D) (desks desks' : Vec (DeskInput F)) (status : ℕ) → RanDesks of.disk of.desk of.sink old new desks.items desks'.items out out' status
+  -- (`left` are the desks' inputs as they are behind the run)
+  office_desks : (old new : D) (desks desks' : Vec (DeskInput F)) (left : List (DeskInput F)) (status : ℕ) → RanDesks of.disk of.desk of.sink old new desks.items left out out' status
       → Performed names gives schools grants of source input words out out' (task.OfficeDesks old desks) (task.OfficeDesks new desks') status
   serve : (old new : D) (ports ports' : Vec P) (sessions : ℕ) (stamp : Stamp) (status : ℕ)
       → RanWeb of.disk of.sink of.port of.port_faults sessions stamp old new ports.items ports'.items out out' status
@@ -67,8 +68,8 @@ pub data Performed {D B F P K Policy : Type 0} (names : List (List ℕ)) (gives 
       → RanRuled loan_ruling IsWithinLoans (table_texts code_of_loan numbers_of_loan loan_text) (table_rows loan_words key_slots loan_kinds) of.disk of.sink
       (counts_of of source out out' old new) (rule_command words) old new input out out' status
       → Performed names gives schools grants of source input words out out' (task.Loans old) (task.Loans new) status
-  loan_desks : (old new : D) (desks desks' : Vec (RuleDeskInput F)) (status : ℕ)
-      → RanRuledDesks LoanMarker LoanIndex loan_ruling code_of_loan numbers_of_loan loan_text (table_rows loan_words key_slots loan_kinds) of.disk of.desk of.sink old new desks.items desks'.items out out' status
+  loan_desks : (old new : D) (desks desks' : Vec (RuleDeskInput F)) (left : List (RuleDeskInput F)) (status : ℕ)
+      → RanRuledDesks LoanMarker LoanIndex loan_ruling code_of_loan numbers_of_loan loan_text (table_rows loan_words key_slots loan_kinds) of.disk of.desk of.sink old new desks.items left out out' status
       → Performed names gives schools grants of source input words out out' (task.LoanDesks old desks) (task.LoanDesks new desks') status
   work : (old new : D) (status : ℕ)
       → RanWork grants of.disk of.sink (counts_of of source out out' old new) old new input out out' (work_command schools words) status

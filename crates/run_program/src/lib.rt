@@ -3,11 +3,11 @@
 //! What `perform` does is proved, by the clauses of the call that it makes. `start` opens, locks and ends, and of that nothing is proved.
 #![tactic(auto)]
 
-mod perform;
-mod start;
+mod calls;
+mod outside;
 mod task;
 mod usage;
 
-pub use perform::perform;
-pub use start::start;
+pub use calls::perform;
+pub use outside::start;
 pub use task::{KnownPolicies, Task};

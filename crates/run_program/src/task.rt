@@ -1,4 +1,6 @@
 //! What is to be done, with all that was opened for it.
+ghost use Rattle.std.specs.Prelude.{◌≡◌};
+
 use aid_stamps::Stamp;
 use law_funds::Policies;
 use run_office::DeskInput;
@@ -48,4 +50,32 @@ pub enum Task<D, B, F, P> {
     Sheet(B),
     /// A run of the auditor.
     Audit,
+}
+
+impl<D, B, F, P> Task<D, B, F, P> {
+    // Several desks of the aid office, with their disk.
+    pub(crate) fn of_desks(disk: D, desks: Vec<DeskInput<F>>) -> Self
+        ensures { result ≡ Task.OfficeDesks disk desks }
+    {
+        Task::OfficeDesks { disk, desks }
+    }
+
+    // The server, with its disk and ports.
+    pub(crate) fn of_server(disk: D, ports: Vec<P>, sessions: u32, stamp: Stamp) -> Self
+        ensures { result ≡ Task.Serve disk ports sessions stamp }
+    {
+        Task::Serve {
+            disk,
+            ports,
+            sessions,
+            stamp,
+        }
+    }
+
+    // Several loan desks, with their disk.
+    pub(crate) fn of_loan_desks(disk: D, desks: Vec<RuleDeskInput<F>>) -> Self
+        ensures { result ≡ Task.LoanDesks disk desks }
+    {
+        Task::LoanDesks { disk, desks }
+    }
 }

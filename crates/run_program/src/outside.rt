@@ -1,5 +1,7 @@
 //! What a plan names is opened, its task is performed, and the program ends. Of the real outside nothing is promised here.
-use crate::perform::perform;
+ghost use Rattle.std.specs.Prelude.{◌≡◌, IfOk, length};
+
+use crate::calls::perform;
 use crate::task::{KnownPolicies, Task};
 use crate::usage::{AUDIT, OFFICE, usage_of};
 use aid_stamps::Stamp;
@@ -9,7 +11,7 @@ use io_host::{
     keep_in_folder, open_input, open_journal, say, take, take_to_read, words_of,
 };
 use io_traits::Sink;
-use law_funds::{Policies, Rule, level, quarter, standard};
+use law_funds::{Rule, level, quarter, standard};
 use log_journal::OpenError;
 use log_runs::{RunStop, end};
 use log_session::ReadStop;
@@ -48,32 +50,6 @@ fn no_memory() -> RunStop {
 // A fault of the disk.
 fn disk_fault() -> RunStop {
     RunStop::File(OpenError::DiskFault.into())
-}
-
-// The two policies, by their names.
-fn policies(alloc: Global) -> Result<Policies, AllocError> {
-    let level_rule: Rule = Box::new(
-        alloc,
-        |need: u32, sai: i32, intensity: u8| level(need, sai, intensity),
-    )?;
-    let quarter_rule: Rule = Box::new(
-        alloc,
-        |need: u32, sai: i32, intensity: u8| quarter(need, sai, intensity),
-    )?;
-    standard(alloc, level_rule, quarter_rule)
-}
-
-// The policies that are known: both by name, and each at its school.
-fn known_policies(alloc: Global) -> Result<KnownPolicies, AllocError> {
-    let office = policies(alloc)?;
-    let mut list = Vec::new(alloc);
-    for (school, policy) in SCHOOLS.iter().zip(policies(alloc)?.list) {
-        list.push((*school, policy))?;
-    }
-    Ok(KnownPolicies {
-        office,
-        schools: SchoolPolicies::new(list),
-    })
 }
 
 // A file that was opened. Where it couldn't be, standard error says so.
@@ -126,27 +102,35 @@ fn open_desk(rt: &HostRuntime, path: &str) -> Result<HostReader<File>, NotOpened
     }
 }
 
-// The inputs of desks of the aid office, which file under one stamp.
+// The inputs of desks of the aid office, one for each file in order, which file under one stamp.
 fn open_desks(
     rt: &HostRuntime,
     paths: &[String],
-    stamp: Stamp,
-) -> Result<Vec<DeskInput<HostReader<File>>>, NotOpened> {
+    stamp: &Stamp,
+) -> Result<Vec<DeskInput<HostReader<File>>>, NotOpened>
+    ensures { IfOk result (λ desks. length desks.items ≡ length paths.now) }
+{
     let mut desks = Vec::new(rt.alloc());
     for path in paths {
         let input = open_desk(rt, path.as_str())?;
-        if desks.push(DeskInput { input, stamp }).is_err() {
+        let desk = DeskInput {
+            input,
+            stamp: *stamp,
+        };
+        if desks.push(desk).is_err() {
             return Err(NotOpened::Told(no_memory()));
         }
     }
     Ok(desks)
 }
 
-// The inputs of loan desks.
+// The inputs of loan desks, one for each file in order.
 fn open_loan_desks(
     rt: &HostRuntime,
     paths: &[String],
-) -> Result<Vec<RuleDeskInput<HostReader<File>>>, NotOpened> {
+) -> Result<Vec<RuleDeskInput<HostReader<File>>>, NotOpened>
+    ensures { IfOk result (λ desks. length desks.items ≡ length paths.now) }
+{
     let mut desks = Vec::new(rt.alloc());
     for path in paths {
         let input = open_desk(rt, path.as_str())?;
@@ -168,13 +152,15 @@ fn listen<H: Net<Listener = TcpListener, Stream = TcpStream>>(
     }
 }
 
-// The ports of all workers, which take their connections from one listener.
+// The ports of so many workers, which take their connections from one listener.
 fn ports_of<'a, H: Clock>(
     host: &'a H,
     alloc: Global,
     listener: &'a TcpListener,
     workers: u8,
-) -> Result<Vec<HostAcceptor<'a, H>>, NotOpened> {
+) -> Result<Vec<HostAcceptor<'a, H>>, NotOpened>
+    ensures { IfOk result (λ ports. length ports.items ≡ workers) }
+{
     let mut ports = Vec::new(alloc);
     for _ in 0..workers {
         if ports.push(HostAcceptor::new(host, listener)).is_err() {
@@ -194,7 +180,7 @@ fn office_task<'a, H>(
     match row {
         MainRow::Desks { stamp, .. } => Ok(Task::OfficeDesks {
             disk,
-            desks: open_desks(rt, desk_files(words), stamp)?,
+            desks: open_desks(rt, desk_files(words), &stamp)?,
         }),
         MainRow::Upgrade => {
             let from = upgrade_file(words).unwrap_or("");
@@ -264,16 +250,59 @@ fn run_plan<
     Ok(perform_host(rt, host, task, &words, out))
 }
 
-// Performs a task over the standard input.
-fn perform_host<
+// Performs a task over the standard input, with both policies by their names, and each at its school.
+fn perform_with_policies<
+    'a,
     H: Net<Listener = TcpListener, Stream = TcpStream> + Clock + Threads + Wait + Sync,
     K: Sink,
->(rt: &HostRuntime, host: &H, task: HostTask<H>, words: &Vec<String>, out: &mut K) -> u8 {
-    let Ok(known) = known_policies(rt.alloc()) else {
-        return end(Err(no_memory()), out);
+>(
+    rt: &HostRuntime,
+    host: &'a H,
+    task: HostTask<'a, H>,
+    words: &Vec<String>,
+    out: &mut K,
+) -> Result<u8, AllocError> {
+    let alloc = rt.alloc();
+    let level_rule: Rule = Box::new(
+        alloc,
+        |need: u32, sai: i32, intensity: u8| level(need, sai, intensity),
+    )?;
+    let quarter_rule: Rule = Box::new(
+        alloc,
+        |need: u32, sai: i32, intensity: u8| quarter(need, sai, intensity),
+    )?;
+    let school_level: Rule = Box::new(
+        alloc,
+        |need: u32, sai: i32, intensity: u8| level(need, sai, intensity),
+    )?;
+    let school_quarter: Rule = Box::new(
+        alloc,
+        |need: u32, sai: i32, intensity: u8| quarter(need, sai, intensity),
+    )?;
+    let office = standard(alloc, level_rule, quarter_rule)?;
+    let by_school = standard(alloc, school_level, school_quarter)?;
+    let mut list = Vec::new(alloc);
+    for (school, policy) in SCHOOLS.iter().zip(by_school.list) {
+        list.push((*school, policy))?;
+    }
+    let known = KnownPolicies {
+        office,
+        schools: SchoolPolicies::new(list),
     };
     let mut input = HostReader::new(rt.stdin());
-    perform(host, rt.alloc(), task, words, &known, &mut input, out).0
+    Ok(perform(host, alloc, task, words, &known, &mut input, out).0)
+}
+
+// Performs a task, and answers the status.
+fn perform_host<
+    'a,
+    H: Net<Listener = TcpListener, Stream = TcpStream> + Clock + Threads + Wait + Sync,
+    K: Sink,
+>(rt: &HostRuntime, host: &'a H, task: HostTask<'a, H>, words: &Vec<String>, out: &mut K) -> u8 {
+    match perform_with_policies(rt, host, task, words, out) {
+        Ok(status) => status,
+        Err(_) => end(Err(no_memory()), out),
+    }
 }
 
 // The status, which standard error explains where it is 2.

@@ -56,7 +56,7 @@ where
         }
         Task::OfficeDesks { disk, mut desks } => {
             let (status, disk) = run_desks(rt, alloc, &mut desks, disk, &NoSyncPoint, out);
-            (status, Task::OfficeDesks { disk, desks })
+            (status, Task::of_desks(disk, desks))
         }
         Task::Serve {
             disk,
@@ -64,14 +64,9 @@ where
             sessions,
             stamp,
         } => {
-            let (status, disk) = run_web(rt, alloc, &mut ports, sessions, stamp, disk, out);
-            let task = Task::Serve {
-                disk,
-                ports,
-                sessions,
-                stamp,
-            };
-            (status, task)
+            let under = stamp;
+            let (status, disk) = run_web(rt, alloc, &mut ports, sessions, under, disk, out);
+            (status, Task::of_server(disk, ports, sessions, stamp))
         }
         Task::Upgrade { source, target } => {
             let (status, source, target) = upgrade(alloc, source, target, out);
@@ -90,7 +85,7 @@ where
                 &NoSyncPoint,
                 out,
             );
-            (status, Task::LoanDesks { disk, desks })
+            (status, Task::of_loan_desks(disk, desks))
         }
         Task::Work(disk) => {
             let (status, disk) = run_work(alloc, words, disk, input, out, &known.schools);

@@ -1,0 +1,36 @@
+use Rattle.run_program.specs.Performed.{audit, loan_desks, loans, office, office_desks, serve, sheet, upgrade, work}
+use Rattle.run_program.proofs.calls.perform.Goals as goal
+
+pub returns-in-Office : goal.returns-in-Office
+returns-in-Office g c = rw c.in-Office.is (office c.in-Office.disk c.run-status.result.1 c.run-status.result.0 c.run-status.ensures.ran)
+
+pub returns-in-OfficeDesks : goal.returns-in-OfficeDesks
+returns-in-OfficeDesks g c = 
+    rw c.in-OfficeDesks.is (rw c.of_desks.ensures (office_desks _ _ _ _ c.run_desks-status.new.desks _ (rw c.deref_mut.ensures.value at c.run_desks-status.ensures.ran)))
+
+pub returns-in-Serve : goal.returns-in-Serve
+returns-in-Serve g c =
+    rw c.in-Serve.is
+    (rw c.of_server.ensures
+    (serve c.in-Serve.disk c.run_web-status.result.1 c.in-Serve.ports c.run_web-status.new.ports c.in-Serve.sessions c.in-Serve.stamp c.run_web-status.result.0 c.run_web-status.ensures))
+
+pub returns-in-Upgrade : goal.returns-in-Upgrade
+returns-in-Upgrade g c =
+    rw c.in-Upgrade.is
+    (upgrade c.in-Upgrade.source c.upgrade-status.result.1 c.in-Upgrade.target c.upgrade-status.result.2 c.upgrade-status.result.0 c.upgrade-status.ensures.upgrades)
+
+pub returns-in-Loans : goal.returns-in-Loans
+returns-in-Loans g c = rw c.in-Loans.is (loans c.in-Loans.disk c.run_ruled-status.result.1 c.run_ruled-status.result.0 c.run_ruled-status.ensures.ran)
+
+pub returns-in-LoanDesks : goal.returns-in-LoanDesks
+returns-in-LoanDesks g c =
+    rw c.in-LoanDesks.is (rw c.of_loan_desks.ensures (loan_desks _ _ _ _ c.run_ruled_desks-status.new.desks _ (rw c.deref_mut-in-LoanDesks.ensures.value at c.run_ruled_desks-status.ensures.ran)))
+
+pub returns-in-Work : goal.returns-in-Work
+returns-in-Work g c = rw c.in-Work.is (work c.in-Work.disk c.run_work-status.result.1 c.run_work-status.result.0 c.run_work-status.ensures.ran)
+
+pub returns-in-Sheet : goal.returns-in-Sheet
+returns-in-Sheet g c = rw c.in-Sheet.is (sheet c.in-Sheet.disk c.run_sheets-status.result.1 c.run_sheets-status.result.0 c.run_sheets-status.ensures.ran)
+
+pub returns-in-Audit : goal.returns-in-Audit
+returns-in-Audit g c = rw c.in-Audit.is (audit c.run_audit.result c.run_audit.ensures.ran)
