@@ -1,2 +1,6 @@
 pub mod WebCauses
 pub mod WebAnswers
+pub mod Target
+pub mod Posting
+pub mod Exchanges
+pub mod InFewWords

@@ -73,13 +73,13 @@ any_none {X} p (x ∷ xs) is k d lt = go (any_none p xs) (p x) refl k lt
     go more false here zero lt = here
     go more false here (suc k) lt = more (sym (ap (λ b. b || list_any p xs) here) ∙ is) k d (omega (arith, lt))
 
-shown_at : {P : Type 0} (xs ys : List (WorkerView (StampedEntry Filing) P)) → all_shown xs ≡ all_shown ys → (k : ℕ) (d : WorkerView (StampedEntry Filing) P) → k < length ys → shown_of (get_or xs k d) ≡ shown_of (get_or ys k d)
+pub shown_at : {P : Type 0} (xs ys : List (WorkerView (StampedEntry Filing) P)) → all_shown xs ≡ all_shown ys → (k : ℕ) (d : WorkerView (StampedEntry Filing) P) → k < length ys → shown_of (get_or xs k d) ≡ shown_of (get_or ys k d)
 shown_at xs [] same k d lt = absurd (omega (arith, lt))
 shown_at [] (y ∷ ys) same k d lt = absurd (let sizes : 0 ≡ suc (length (all_shown ys)) = ap length same in omega (arith, sizes))
 shown_at (x ∷ xs) (y ∷ ys) same zero d lt = ap (λ l. get_or l 0 (shown_of y)) same
 shown_at (x ∷ xs) (y ∷ ys) same (suc k) d lt = shown_at xs ys (ap (drop 1) same) k d (omega (arith, lt))
 
-shown_size : {P : Type 0} (xs ys : List (WorkerView (StampedEntry Filing) P)) → all_shown xs ≡ all_shown ys → length xs ≡ length ys
+pub shown_size : {P : Type 0} (xs ys : List (WorkerView (StampedEntry Filing) P)) → all_shown xs ≡ all_shown ys → length xs ≡ length ys
 shown_size [] [] same = refl
 shown_size [] (y ∷ ys) same = absurd (let sizes : 0 ≡ suc (length (all_shown ys)) = ap length same in omega (arith, sizes))
 shown_size (x ∷ xs) [] same = absurd (let sizes : suc (length (all_shown xs)) ≡ 0 = ap length same in omega (arith, sizes))
@@ -100,7 +100,7 @@ done_still ended.Open n limit old new is ended_so = absurd ended_so
 done_still ended.Done n limit old new is ended_so = ended_so.1
 done_still ended.AcceptorFault n limit old new is ended_so = absurd (let bad : ⊥ = cc in bad)
 
-size_map : {A B : Type 0} (f : A → B) (xs : List A) → length (map f xs) ≡ length xs
+pub size_map : {A B : Type 0} (f : A → B) (xs : List A) → length (map f xs) ≡ length xs
 size_map f [] = refl
 size_map f (x ∷ xs) = ap (λ n. suc n) (size_map f xs)
 
@@ -109,15 +109,16 @@ pub ports_back : {P : Type 0} (ports : List P) → ports_of {Entry = StampedEntr
 ports_back [] = refl
 ports_back (p ∷ ports) = ap (λ l. p ∷ l) (ports_back ports)
 
+-- the port at a place
+pub before_at : {P : Type 0} (before : List P) (k : ℕ) (d : WorkerView (StampedEntry Filing) P) → (get_or (map worker_of before) k d).port ≡ get_or before k d.port
+before_at {P} before k d = sym (get_or-map (λ (d : WorkerView (StampedEntry Filing) P). d.port) (map worker_of before) k d) ∙ ap (λ l. get_or l k d.port) (ports_back before)
+
+pub after_at : {P : Type 0} (after : List P) (workers : List (WorkerView (StampedEntry Filing) P)) → after ≡ ports_of workers → (k : ℕ) (d : WorkerView (StampedEntry Filing) P) → (get_or workers k d).port ≡ get_or after k d.port
+after_at {P} after workers ports k d = sym (get_or-map (λ (d : WorkerView (StampedEntry Filing) P). d.port) workers k d) ∙ ap (λ l. get_or l k d.port) (sym ports)
+
 module _ {P : Type 0} (tells : P → AcceptorState) (faults : P → ℕ) (sessions : ℕ) (stamp : Stamp) (opening closed : Snapshot (Filed (StampedEntry Filing))) (before after : List P) (workers : List (WorkerView (StampedEntry Filing) P)) (has : HasServed (semantics_under stamp filing_semantics) (own_under stamp filing_asked) office_web tells faults sessions opening closed (map worker_of before) workers) (ports : after ≡ ports_of workers) where
   abbrev were : List (WorkerView (StampedEntry Filing) P)
   were = map worker_of before
-
-  before_at : (k : ℕ) (d : WorkerView (StampedEntry Filing) P) → (get_or were k d).port ≡ get_or before k d.port
-  before_at k d = sym (get_or-map (λ (d : WorkerView (StampedEntry Filing) P). d.port) were k d) ∙ ap (λ l. get_or l k d.port) (ports_back before)
-
-  after_at : (k : ℕ) (d : WorkerView (StampedEntry Filing) P) → (get_or workers k d).port ≡ get_or after k d.port
-  after_at k d = sym (get_or-map (λ (d : WorkerView (StampedEntry Filing) P). d.port) workers k d) ∙ ap (λ l. get_or l k d.port) (sym ports)
 
   port_fault : list_any (λ (d : WorkerView (StampedEntry Filing) P). has_failed d.ended) workers ≡ true → HasAcceptorFault faults before after
   port_fault is =
@@ -132,7 +133,7 @@ module _ {P : Type 0} (tells : P → AcceptorState) (faults : P → ℕ) (sessio
         k,
         d.port,
         subst (λ n. k < n) (size_map worker_of before) inside,
-        subst (λ p. Rose (faults p) (faults (get_or after k d.port))) (before_at k d) (subst (λ p. Rose (faults (get_or were k d).port) (faults p)) (sym port_is ∙ after_at k d) rose),
+        subst (λ p. Rose (faults p) (faults (get_or after k d.port))) (before_at before k d) (subst (λ p. Rose (faults (get_or were k d).port) (faults p)) (sym port_is ∙ after_at after workers ports k d) rose),
       )
 
   all_back : list_any (λ (d : WorkerView (StampedEntry Filing) P). has_failed d.ended) workers ≡ false → (k : ℕ) (p : P) → k < length before → HasServedAll tells sessions (get_or before k p) (get_or after k p)
@@ -149,8 +150,8 @@ module _ {P : Type 0} (tells : P → AcceptorState) (faults : P → ℕ) (sessio
       record {
         back = map closed_as one.served.sessions;
         count = size_map closed_as one.served.sessions ∙ (sym one.served.count ∙ all);
-        closed = subst (λ old. IsTrue (tells old).honest → (tells (get_or after k p)).closed ≡ (tells old).closed ++ map closed_as one.served.sessions) (before_at k d)
-            (subst (λ new. IsTrue (tells (get_or were k d).port).honest → (tells new).closed ≡ (tells (get_or were k d).port).closed ++ map closed_as one.served.sessions) (sym port_is ∙ after_at k d) one.served.closed);
+        closed = subst (λ old. IsTrue (tells old).honest → (tells (get_or after k p)).closed ≡ (tells old).closed ++ map closed_as one.served.sessions) (before_at before k d)
+            (subst (λ new. IsTrue (tells (get_or were k d).port).honest → (tells new).closed ≡ (tells (get_or were k d).port).closed ++ map closed_as one.served.sessions) (sym port_is ∙ after_at after workers ports k d) one.served.closed);
       }
 
   all_still : list_any (λ (d : WorkerView (StampedEntry Filing) P). has_failed d.ended) workers ≡ false → (k : ℕ) (p : P) → k < length before → faults (get_or after k p) ≡ faults (get_or before k p)
@@ -164,7 +165,7 @@ module _ {P : Type 0} (tells : P → AcceptorState) (faults : P → ℕ) (sessio
       let ended_is : (get_or workers k d).ended ≡ (get_or has.workers k d).ended = ap (λ s. s.4) shown in
       let port_is : (get_or workers k d).port ≡ (get_or has.workers k d).port = ap (λ s. s.1) shown in
       let same : faults (get_or has.workers k d).port ≡ faults (get_or were k d).port = done_still (get_or has.workers k d).ended _ _ _ _ (ap has_failed (sym ended_is) ∙ any_none (λ (d : WorkerView (StampedEntry Filing) P). has_failed d.ended) workers none k d (omega (arith, lt, size))) one.stopped in
-      subst (λ old. faults (get_or after k p) ≡ faults old) (before_at k d) (subst (λ new. faults new ≡ faults (get_or were k d).port) (sym port_is ∙ after_at k d) same)
+      subst (λ old. faults (get_or after k p) ≡ faults old) (before_at before k d) (subst (λ new. faults new ≡ faults (get_or were k d).port) (sym port_is ∙ after_at after workers ports k d) same)
 
 -- ---- statuses
 -- the status of a run that ended by a stop is that of the stop, or a write failed
