@@ -23,7 +23,10 @@ use format_books::{BookError, book_of};
 use law_pell::{Ceiling, calculated, ceiling_for, income};
 use law_r2t4::{Inputs, Lines, worksheet};
 use law_rules::{Facts, broken, quote};
-pub use limits::{lifetime_limit, supplemental_limit};
+pub use limits::{
+    cost_limit, lifetime_limit, main_terms_limit, supplemental_limit, taken_back_limit, term_limit,
+    two_schools_limit, year_limit,
+};
 use office_answers::answer;
 use office_history::HistoryView;
 use sorted_rows::Steps;

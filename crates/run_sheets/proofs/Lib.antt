@@ -1,3 +1,4 @@
 mod Firsts
 mod Ran
 mod RowLemmas
+mod RunningTotals

@@ -1,5 +1,5 @@
-use Rattle.std.proofs.Common.{◌≡◌, ℕ, ◌+◌, ◌≤◌, ◌∙◌, List, [], ◌∷◌, refl, ap, subst, arith, eq-eqb}
-use Rattle.std.specs.Prelude.{◌==◌, Bool, true}
+use Rattle.std.proofs.Common.{◌≡◌, ℕ, ◌≤◌, ◌∙◌, List, [], ◌∷◌, refl, subst, arith, eq-eqb}
+use Rattle.std.specs.Prelude.{◌==◌, true}
 use Rattle.aid_filings.specs.declared.filing.PriorFacts.{PriorFacts}
 use Rattle.aid_filings.specs.declared.filing.What.TheVariants.{Prior}
 use Rattle.aid_types.specs.declared.number.Key.{Key}

@@ -1,0 +1,2 @@
+pub mod AtEveryLimit
+pub mod Beyond
