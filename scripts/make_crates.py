@@ -18,7 +18,7 @@ import crates
 PAGE = "docs/ARCHITECTURE.md"
 TABLE = re.compile(r"(?s)(?<=<!-- made by scripts/make_crates.py -->\n).*(?=<!-- end -->)")
 # The layers, lowest first, each with what its crates' names begin with, or the names of some.
-PROGRAMS = "aid_office loan_office work_office sheet_desk audit_desk"
+PROGRAM = "run_program aid_office"
 TESTS = "io_memory specimen whole_runs office_bench law_refusals"
 LAYERS = [
     ("Values", "aid_ sorted_"),
@@ -30,7 +30,7 @@ LAYERS = [
     ("Connections", "web_"),
     ("Commands", "run_"),
     ("Other desks, and the auditor", "loans work_ clock_hours audit"),
-    ("Programs", PROGRAMS),
+    ("The program", PROGRAM),
     ("Tests, planted bugs and benches", TESTS),
 ]
 # What stands on a crate of a later layer, and is meant to.
@@ -41,7 +41,7 @@ def layer_of(name):
     """The number of a crate's layer, or None."""
     if name.endswith("_tests") or name in TESTS.split():
         return len(LAYERS) - 1
-    if name in PROGRAMS.split():
+    if name in PROGRAM.split():
         return len(LAYERS) - 2
     return next((at for at, (_, begins) in enumerate(LAYERS[:-2]) if name.startswith(tuple(begins.split()))), None)
 

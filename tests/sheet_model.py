@@ -1,5 +1,5 @@
-"""The sheets of an office in plain Python, on its history and the stamps of its filings: what `sheet_desk` writes, apart from the proved
-code."""
+"""The sheets of an office in plain Python, on its history and the stamps of its filings: what `aid_office sheet` writes, apart from the
+proved code."""
 from datetime import date, timedelta
 
 import desk

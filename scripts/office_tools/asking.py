@@ -4,6 +4,7 @@ import re
 
 from . import TOP, book_line, copies, explain, running
 from .office import Office
+from .program import AUDIT
 from .say import AUDITED, say, say_known
 
 EXAMPLES = os.path.join(TOP, "examples")
@@ -75,10 +76,10 @@ def demo():
     return status
 
 
-def judged(program, words, is_good, explains=None):
-    """The status of a program that judges standard input, and 1 where its last line isn't a good one, which is explained where it can be."""
+def judged(words, paths, is_good, explains=None):
+    """The status of a run that judges standard input, and 1 where its last line isn't a good one, which is explained where it can be."""
     last = [b""]
-    status = running.run(program, words, given=running.INPUT, take=lambda line: last.__setitem__(0, line))
+    status = running.run(words, paths, given=running.INPUT, take=lambda line: last.__setitem__(0, line))
     why = explains(last[0]) if explains else None
     if why:
         say(why)
@@ -87,18 +88,18 @@ def judged(program, words, is_good, explains=None):
 
 def check(words):
     """Judges rows or a book without an office: 1 where something is wrong."""
-    words = [copies.needs_scratch("none.journal"), "check", *words]
-    if words[2:] == ["rows"]:
-        return judged("aid_office", words, rb" errors 0$")
+    line = [copies.needs_scratch("none.journal"), "check", *words]
+    if words == ["rows"]:
+        return judged(line, (0,), rb" errors 0$")
     copies.keep_input("book")
-    return judged("aid_office", words, rb"^1 fine$", book_line.where)
+    return judged(line, (0,), rb"^1 fine$", book_line.where)
 
 
 def audit(word):
     """The auditor, which has no journal: an export is checked, or rows of clock-hour programs are answered. 1 where an export isn't right."""
-    if word == "clock":
-        status = running.run("audit_desk", [word], (), given=running.INPUT)
+    if word == AUDIT:
+        status = judged([word], (), rb"^yes ")
     else:
-        status = judged("audit_desk", [word], rb"^yes ")
+        status = running.run([word], (), given=running.INPUT)
     say_known(AUDITED, status)
     return status

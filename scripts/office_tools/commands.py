@@ -1,10 +1,10 @@
 """The table of commands: the words of each, what it is for, and what runs it. Help, completion, the man page and the judging of words go by it."""
 from dataclasses import dataclass
 
-from . import approval, asking, before, copies, explain, guide, ids, installing, letter, lint, plot, programs, reconcile, rows, serving, settings, show, tables
+from . import approval, asking, before, copies, explain, guide, ids, installing, letter, lint, plot, program, reconcile, rows, serving, settings, show, tables
+from .program import AID, AUDIT, CLOCK, LOANS, SHEET, WORK
 from .words import CLERK, DAY, NUMBER, ROUND_NUMBER, SCHOOL, SOME_SCHOOL, STUDENT, TERM, YEAR, Argument, choice, number, optional, path, rest
 
-AID, SHEETS, LOANS, WORK, AUDIT = programs.PROGRAMS
 NAMES = ("--names", "shows the id and the name of each student, of JOURNAL.ids.csv"),
 NO_NAMES = ("--names", "is refused, since an export goes to an auditor as it is"),
 
@@ -18,7 +18,7 @@ class Command:
     purpose: str
     example: str
     input: str = ""         # what is read from standard input
-    program: str = ""       # the program that these very words are handed to
+    desk: str = ""          # the desk of the program that these very words are handed to
     files: bool = False     # whether it files into the journal
     copy: bool = False      # whether it runs on a copy of it
     flags: tuple = ()       # words with hyphens that may stand behind, each with what it does
@@ -50,14 +50,14 @@ def sheet(office, *_):
     return office.sheet()
 
 
-def filing(name, arguments, purpose, example, given="", program=AID):
+def filing(name, arguments, purpose, example, given="", desk=AID):
     """A command that files."""
-    return Command(name, filed, arguments, purpose, example, given, program, files=True)
+    return Command(name, filed, arguments, purpose, example, given, desk, files=True)
 
 
 def reading(name, arguments, purpose, example, run=read, flags=NAMES):
-    """A command that a program runs on a copy."""
-    return Command(name, run, arguments, purpose, example, program=SHEETS if run is sheet else AID, copy=True, flags=flags)
+    """A command that the program runs on a copy."""
+    return Command(name, run, arguments, purpose, example, desk=SHEET if run is sheet else AID, copy=True, flags=flags)
 
 
 def own(name, run, arguments, purpose, example, copy=True, **more):
@@ -104,7 +104,7 @@ def set_stamps(office, word):
 
 # Of an office in a journal. A stamp may stand in front of each: `at DAY CLERK`.
 ON_JOURNAL = [
-    Command("found", copies.found, (), "founds an office there", "found", program=AID),
+    Command("found", copies.found, (), "founds an office there", "found", desk=AID),
     filing("book", (NUMBER,), "files a year book under school 0 and this number", "book 1 < examples/2025.toml", "BOOK.toml"),
     filing("file", (), "files rows; 1 where one isn't on file", "file < examples/year.csv", "ROWS.csv"),
     own(
@@ -114,7 +114,7 @@ ON_JOURNAL = [
     filing("desks", (FILES,), "files 1 to 16 files at once", "desks examples/first.csv examples/year.csv"),
     filing("fund", FUND, "awards a fund of FSEOG", "fund 110 2025 1 600 level 50"),
     filing("generate", MADE_UP, "files a made-up year, to try it with", "generate 7 20 < examples/2025.toml", "BOOK.toml"),
-    Command("serve", serving.serve, SERVER, "answers HTTP on 127.0.0.1 (docs/HTTP.md)", "serve 8080 4 1000000", program=AID, files=True),
+    Command("serve", serving.serve, SERVER, "answers HTTP on 127.0.0.1 (docs/HTTP.md)", "serve 8080 4 1000000", desk=AID, files=True),
     own("dry", None, (TRIED,), "tries a command that files, on a copy", "dry file < examples/year.csv", flags=(*AGAIN, *TABLE)),
     own("at", None, STAMPED, "stamps what it files with day and name", "at 2025-09-01 brown file < examples/year.csv", copy=False),
     own("upgrade", copies.upgrade, (path("OLD"),), "founds an office of what OLD (version 1) holds", "upgrade old.journal", copy=False),
@@ -124,7 +124,7 @@ ON_JOURNAL = [
         copy=False,
     ),
     reading("quote", PLACE, "the greatest Pell payment in whole dollars", "quote 110 5001 2025 1", asking.quote),
-    own("why", asking.why, PLACE, "that quote, and why not one dollar more", "why 120 5001 2025 1", program=AID),
+    own("why", asking.why, PLACE, "that quote, and why not one dollar more", "why 120 5001 2025 1", desk=AID),
     *(report(which, purpose) for which, purpose in REPORTS.items()),
     report("export", "all filings, for an auditor", NO_NAMES),
     *(report_as_csv(which, purpose) for which, purpose in REPORTS.items()),
@@ -149,13 +149,13 @@ ON_JOURNAL = [
 ]
 
 OF_LOANS = [
-    Command("found", copies.found, (), "founds a loan office there", "found", program=LOANS),
+    Command("found", copies.found, (), "founds a loan office there", "found", desk=LOANS),
     filing("file", (), "files rows", "file < examples/loans.csv", "ROWS.csv", LOANS),
-    filing("desks", (FILES,), "files 1 to 16 files at once", "desks examples/loans.csv", program=LOANS),
+    filing("desks", (FILES,), "files 1 to 16 files at once", "desks examples/loans.csv", desk=LOANS),
 ]
 OF_ROUND = choice("101", "102"), YEAR, ROUND_NUMBER
 OF_WORK = [
-    Command("found", copies.found, (), "founds a work-study office there", "found", program=WORK),
+    Command("found", copies.found, (), "founds a work-study office there", "found", desk=WORK),
     filing("file", (), "files rows", "file < examples/work.csv", "ROWS.csv", WORK),
     Command(
         "round", approval.work_round, OF_ROUND, "awards the rest of a fund", "round 101 2025 10 < examples/work-round.csv", "STUDENTS.csv", WORK,
@@ -166,7 +166,7 @@ OF_WORK = [
         copy=True, flags=TABLE,
     ),
 ]
-DESKS = {"loans": (LOANS, OF_LOANS, "loan office", ""), "work": (WORK, OF_WORK, "work-study office", ", a round under further numbers")}
+OTHER_DESKS = {LOANS: (OF_LOANS, "loan office", ""), WORK: (OF_WORK, "work-study office", ", a round under further numbers")}
 
 # Without a journal.
 TOOLS = [
@@ -174,7 +174,7 @@ TOOLS = [
         "help", guide.help_on, (Argument("COMMAND", "a command", A_WORD, True, 2),), "all words, or those of a command with an example",
         "help report awards",
     ),
-    Command("--version", lambda words: programs.version(), (), "which version, commit and programs these are", "--version"),
+    Command("--version", lambda words: program.version(), (), "which version, commit and program this is", "--version"),
     Command("demo", lambda words: asking.demo(), (), "files a worked year into an office that goes", "demo"),
     Command("check", asking.check, (choice("rows", "book"),), "judges rows or a book; 1 on an error", "check rows < examples/year.csv", "FILE"),
     Command(
@@ -200,10 +200,10 @@ TOOLS = [
         "QUOTES",
     ),
     Command("carry", tables.carry, (NUMBER,), "makes rows of prior use for the next office", "carry 100 < lifetime.txt", "LIFETIME"),
-    Command("audit", lambda words: asking.audit("audit"), (), "checks an export (docs/AUDIT.md)", "audit < export.txt", "EXPORT"),
-    Command("clock", lambda words: asking.audit("clock"), (), "answers rows of clock-hour programs", "clock < rows.csv", "ROWS.csv"),
-    Command("loans", None, (path("JOURNAL"), rest("COMMAND", "found, file or desks")), "the Direct Loan desk (docs/DESKS.md)", "loans loans.journal found"),
-    Command("work", None, (path("JOURNAL"), rest("COMMAND", "found, file, round or dry round")), "the work-study fund (docs/DESKS.md)", "work work.journal found"),
+    Command(AUDIT, lambda words: asking.audit(AUDIT), (), "checks an export (docs/AUDIT.md)", "audit < export.txt", "EXPORT"),
+    Command(CLOCK, lambda words: asking.audit(CLOCK), (), "answers rows of clock-hour programs", "clock < rows.csv", "ROWS.csv"),
+    Command(LOANS, None, (path("JOURNAL"), rest("COMMAND", "found, file or desks")), "the Direct Loan desk (docs/DESKS.md)", "loans loans.journal found"),
+    Command(WORK, None, (path("JOURNAL"), rest("COMMAND", "found, file, round or dry round")), "the work-study fund (docs/DESKS.md)", "work work.journal found"),
     Command("completion", guide.completion, (choice("bash", "zsh"),), "prints what completes these words in a shell", "completion bash > office.bash"),
     Command("man", guide.man, (), "prints this as a manual page", "man > office.1"),
     Command("install", installing.install, (path("PREFIX"),), "puts all of this under a folder, as PREFIX/bin/office", "install ~/.local"),

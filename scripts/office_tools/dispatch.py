@@ -5,7 +5,7 @@ import time
 from dataclasses import dataclass
 
 from . import approval, before, copies, ids, running, settings, what_if
-from .commands import DESKS, JUDGE_THEMSELVES, ON_JOURNAL, TOOLS, first_words, table_of
+from .commands import JUDGE_THEMSELVES, ON_JOURNAL, OTHER_DESKS, TOOLS, first_words, table_of
 from .office import Office
 from .say import refuse, say
 from .words import CLERK, DAY, first_wrong, near, number, rest
@@ -87,7 +87,7 @@ def refuse_wrong(office, command, behind, front):
             front, command, behind = f"{front}{' '.join([command.name, *behind[: len(command.arguments) - 1]])} ", inner, inside
             wrong = first_wrong(command.name, command.arguments, behind)
     if wrong:
-        if command.program and (command.name != "why" or command.fits(behind)):
+        if command.desk and (command.name != "why" or command.fits(behind)):
             office.write(b"fault usage\n")
         refuse(f"{wrong}: {front}{command.usage}", 2)
 
@@ -152,7 +152,7 @@ def on_journal(words, options):
         office.write(b"fault usage\n")
         refuse(f"{wrong}: {front}{'at DAY CLERK COMMAND..' if command is None or command.name != 'upgrade' else command.usage}", 2)
     if command is None or command.name == "at":
-        if not any(name.startswith(f"{''.join(words[:1])} ") and not of.program for name, of in table.items()):
+        if not any(name.startswith(f"{''.join(words[:1])} ") and not of.desk for name, of in table.items()):
             office.write(b"fault usage\n")
         if stamp and find(words[1:], table)[0]:
             refuse(f"at: `{words[0]}` is no command: a clerk's name has no blank: {front}at DAY CLERK COMMAND..", 2)
@@ -182,7 +182,7 @@ def run_on_journal(office, command, behind, options):
 
 def other_desk(desk, words, options):
     """Runs a command of a desk with a journal of its own."""
-    program, commands, what, again = DESKS[desk]
+    commands, what, again = OTHER_DESKS[desk]
     front = f"office {desk} JOURNAL "
     words = options_in(words, options)
     if not words:
@@ -190,7 +190,7 @@ def other_desk(desk, words, options):
     path, words = words[0], options_in(words[1:], options)
     if path.startswith("-"):
         refuse(f"a path may not begin with -: write ./{path} for a file of that name", 2)
-    office = Office(path, words, program, options=options)
+    office = Office(path, words, desk, options=options)
     command, behind = find(words, table_of(commands))
     if command is None:
         refuse(wrong_name(words, table_of(commands), front), 2)
@@ -212,7 +212,7 @@ def run(words):
     options = Options()
     words = options_in(list(words), options) or ["help"]
     name, behind = OTHER_NAMES.get(words[0], words[0]), words[1:]
-    if name in DESKS:
+    if name in OTHER_DESKS:
         return other_desk(name, behind, options)
     tool = table_of(TOOLS).get(name)
     if tool is None:

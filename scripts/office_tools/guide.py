@@ -21,9 +21,9 @@ ALONE = [
 ]
 FRONT = "in front of COMMAND: --lenient (0 for 1), --cut (KEEPING.md), --wait SECONDS"
 FOOT = """\
-Rows: docs/FILINGS.md. Answers: docs/ANSWERS.md. Care: docs/KEEPING.md. OFFICE_,
-AUDIT_, SHEET_, LOANS_ and WORK_PROGRAM name another build. Status 0 is success,
-1 that something was found or isn't on file, 2 other words, 3 to 10 a fault.
+Rows: docs/FILINGS.md. Answers: docs/ANSWERS.md. Care: docs/KEEPING.md.
+OFFICE_PROGRAM names another build. Status 0 is success, 1 that something was
+found or isn't on file, 2 other words, 3 to 10 a fault.
 """
 WIDTH, COLUMN = 80, 29
 
@@ -98,8 +98,8 @@ def help_text():
 
 def of_name(words):
     """The commands that begin with some words, each with what stands in front of it."""
-    from .commands import DESKS, ON_JOURNAL as commands, TOOLS
-    every = [("office JOURNAL ", commands), ("office ", TOOLS), *((f"office {desk} JOURNAL ", table) for desk, (_, table, *_) in DESKS.items())]
+    from .commands import ON_JOURNAL as commands, OTHER_DESKS, TOOLS
+    every = [("office JOURNAL ", commands), ("office ", TOOLS), *((f"office {desk} JOURNAL ", table) for desk, (table, *_) in OTHER_DESKS.items())]
     name = " ".join(words)
     return [(front, command) for front, table in every for command in table if f"{command.name} ".startswith(f"{name} ")]
 

@@ -10,7 +10,7 @@ import os
 import re
 from dataclasses import dataclass
 
-from . import copies, sheet, tables
+from . import copies, program, sheet, tables
 from .say import refuse, say, visible
 
 COLUMNS = ("number", "id", "name")
@@ -155,7 +155,7 @@ def text_of(office, words):
         with contextlib.redirect_stdout(text):
             tables.csv(office, *words[1:])
         return text.getvalue()
-    text = office.needs(words, "sheet_desk" if words[0] in SHEETS else None)
+    text = office.needs(words, program.SHEET if words[0] in SHEETS else None)
     if text.split("\n", 1)[0] == "none":
         refuse(f"there is nothing in {office.journal} to tell of these names, or it has fewer filings")
     return text

@@ -1,11 +1,11 @@
-"""Puts the programs, the scripts, the pages, the manual page and what shells complete under a folder."""
+"""Puts the program, the scripts, the pages, the manual page and what shells complete under a folder."""
 import contextlib
 import io
 import os
 import shutil
 import tempfile
 
-from . import TOP, guide, programs
+from . import TOP, guide, program
 from .say import refuse, say
 
 # What goes along from the top of the checkout.
@@ -26,18 +26,17 @@ def printed(command, words):
     return text.getvalue()
 
 
-def put_programs(folder):
-    """Copies each program: a proved one into programs/, and any other into programs/unproved/."""
-    for name in programs.PROGRAMS:
-        source = programs.place(name)
-        if not source:
-            refuse(f"{name} can't be built here, so nothing was installed", 1)
-        proved = programs.is_proved(name)
-        target = os.path.join(folder, programs.INSTALLED, "" if proved else programs.UNPROVED, name)
-        os.makedirs(os.path.dirname(target), exist_ok=True)
-        shutil.copy2(source, target)
-        if not proved:
-            say(f"{name} isn't proved, and stands in {programs.UNPROVED}/: run rt ci and install again")
+def put_program(folder):
+    """Copies the program: a proved one into programs/, and any other into programs/unproved/."""
+    source = program.place()
+    if not source:
+        refuse(f"{program.NAME} can't be built here, so nothing was installed", 1)
+    proved = program.is_proved()
+    target = os.path.join(folder, program.INSTALLED, "" if proved else program.UNPROVED, program.NAME)
+    os.makedirs(os.path.dirname(target), exist_ok=True)
+    shutil.copy2(source, target)
+    if not proved:
+        say(f"{program.NAME} isn't proved, and stands in {program.UNPROVED}/: run rt ci and install again")
 
 
 def put_tree(folder):
@@ -49,14 +48,14 @@ def put_tree(folder):
             shutil.copytree(source, target, ignore=shutil.ignore_patterns("__pycache__"))
         else:
             shutil.copy2(source, target)
-    put_programs(folder)
-    with open(os.path.join(folder, programs.RELEASE), "w", encoding="utf-8") as file:
-        file.write(programs.release() + "\n")
+    put_program(folder)
+    with open(os.path.join(folder, program.RELEASE), "w", encoding="utf-8") as file:
+        file.write(program.release() + "\n")
 
 
 def look_at(place, link):
     """Refuses a prefix at which something else has these names."""
-    if os.path.lexists(place) and not os.path.isfile(os.path.join(place, programs.RELEASE)):
+    if os.path.lexists(place) and not os.path.isfile(os.path.join(place, program.RELEASE)):
         refuse(f"{place} is there and wasn't installed by this: name another PREFIX, or move it away", 1)
     if os.path.lexists(link) and not (os.path.islink(link) and os.readlink(link) == LINK):
         refuse(f"{link} is there and wasn't installed by this: name another PREFIX, or move it away", 1)

@@ -3,6 +3,7 @@ from dataclasses import dataclass
 
 from . import copies
 from .office import Office
+from .program import SHEET
 
 
 class NotListed(Exception):
@@ -56,12 +57,12 @@ def of_file(status, path):
 def of_journal(journal):
     """The filings of a journal, which is listed on a copy."""
     copies.needs_scratch("copy")
-    return of_file(*copies.run_on_copy(Office(journal, ["list"], "sheet_desk"), journal, ["list"]))
+    return of_file(*copies.run_on_copy(Office(journal, ["list"], SHEET), journal, ["list"]))
 
 
 def of_copy(path):
     """The filings of a copy."""
     text = copies.needs_scratch("list")
     with open(text, "wb") as out:
-        status = Office(path, ["list"], "sheet_desk").run(["list"], out=out)
+        status = Office(path, ["list"], SHEET).run(["list"], out=out)
     return of_file(status, text)

@@ -1,8 +1,9 @@
-"""One command on a journal: what stands in front of it, which program takes it, and how its status is told."""
+"""One command on a journal: what stands in front of it, which desk of the program takes it, and how its status is told."""
 import os
 import sys
 
 from . import copies, filing, journal, running
+from .program import AID, SHEET, front
 from .say import STATUSES, refuse, say, say_known, visible
 
 READS = ("file", "round", "book", "generate")       # commands that read standard input
@@ -11,11 +12,11 @@ READS = ("file", "round", "book", "generate")       # commands that read standar
 class Office:
     """A journal, and the words of a command on it."""
 
-    def __init__(self, path, words, program="aid_office", stamp=(), options=None):
-        self.journal, self.words, self.program, self.stamp = path, words, program, list(stamp)
+    def __init__(self, path, words, desk=AID, stamp=(), options=None):
+        self.journal, self.words, self.desk, self.stamp = path, words, desk, list(stamp)
         self.options, self.flags = options, []
         self.stands = "is answered again"
-        self.takes_stamp = self.salvages = program == "aid_office"
+        self.takes_stamp = self.salvages = desk == AID
 
     @property
     def cut(self):
@@ -28,16 +29,15 @@ class Office:
         return bool(self.options and self.options.lenient)
 
     def line(self, words, path=None):
-        """The words of a program: the journal, or a copy, then the stamp, and these."""
-        path = path or self.journal
-        # a path that begins with a hyphen would be a flag
-        return [f"./{path}" if path.startswith("-") else path, *self.stamp, *words]
+        """The words of the program: the desk, the journal, or a copy, then the stamp, and these."""
+        return [*front(self.desk, path or self.journal), *self.stamp, *words]
 
     def run(self, words, path=None, out=None, given=None, take=None, keeps_on=False):
         """The status of the program on these words, with the stamp in front, and on a copy where its path is said."""
         line = self.line(words, path)
-        files = range(len(line) - len(words) + 1, len(line)) if words[:1] in (["desks"], ["upgrade"]) else ()
-        return running.run(self.program, line, (0, *files), given, out, take=take, keeps_on=keeps_on)
+        journal, command = len(line) - len(words) - len(self.stamp) - 1, len(line) - len(words)
+        files = range(command + 1, len(line)) if words[:1] in (["desks"], ["upgrade"]) else ()
+        return running.run(line, (journal, *files), given, out, take=take, keeps_on=keeps_on)
 
     def say_status(self, status, path=None):
         """A sentence on a status of the program, with the path of the journal, or another one, and the next step."""
@@ -127,7 +127,7 @@ class Office:
 
     def sheet(self):
         """A sheet of a copy. 1 where there is nothing to tell of these names, or there are fewer filings."""
-        self.program, self.stamp = "sheet_desk", []
+        self.desk, self.stamp = SHEET, []
         status = self.read_only()
         if status:
             return status
@@ -136,10 +136,10 @@ class Office:
             refuse(f"there is nothing in {self.journal} to tell of these names, or it has fewer filings", 1)
         return 0
 
-    def needs(self, words, program=None):
+    def needs(self, words, desk=None):
         """The text of a command on a copy, whose status has to be 0."""
-        if program:
-            self.program, self.stamp = program, []
+        if desk:
+            self.desk, self.stamp = desk, []
         status, text = copies.needs_copy(self, words)
         if status:
             print(visible(text.decode("utf-8", "replace"), "\n"), end="", file=sys.stderr)

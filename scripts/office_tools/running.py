@@ -1,4 +1,4 @@
-"""A run of a program: its text streams through untouched, and a signal ends it and leaves nothing behind."""
+"""A run of the program: its text streams through untouched, and a signal ends it and leaves nothing behind."""
 import os
 import signal
 import subprocess
@@ -6,7 +6,7 @@ import sys
 import threading
 import time
 
-from . import programs
+from . import program
 from .say import say
 
 STOPS = {signal.SIGHUP: 129, signal.SIGINT: 130, signal.SIGTERM: 143}
@@ -90,11 +90,11 @@ def ended(child):
     return status if status >= 0 else 128 - status
 
 
-def run(name, words, paths=(0,), given=None, out=None, quiet=False, take=None, keeps_on=False):
-    """The status of a program on these words, of which those at these places are paths. `given` is its input, else none; `out` a file
+def run(words, paths=(0,), given=None, out=None, quiet=False, take=None, keeps_on=False):
+    """The status of the program on these words, of which those at these places are paths. `given` is its input, else none; `out` a file
     that gets its text, and else standard output does, while `take` gets each line. A quiet one's standard error is left out."""
     given = subprocess.DEVNULL if given is None else None if given is INPUT else given
-    line, folder = programs.line_of(name, words, paths)
+    line, folder = program.line_of(words, paths)
     sys.stdout.flush()
     try:
         State.child = child = subprocess.Popen(

@@ -2,14 +2,14 @@
 import os
 import signal
 
-from . import programs, settings
+from . import program, settings
 from .say import refuse, say
 
 
 def serve(office, *_):
     """Becomes the server."""
     _, port, workers, sessions = office.words
-    if not programs.place(office.program):
+    if not program.place():
         refuse("a server needs the built program, since a run of the sources ends after a minute: rt ci proves and builds it", 127)
     office.refuse_hurt(office.journal)
     stamp = f", files at {office.stamp[1]} by {office.stamp[2]}" if office.stamp else ""
@@ -19,7 +19,7 @@ def serve(office, *_):
     )
     if not office.stamp:
         settings.say_unstamped(office)
-    line, _ = programs.line_of(office.program, office.line(office.words), ())
+    line, _ = program.line_of(office.line(office.words))
     for each in (signal.SIGPIPE, signal.SIGXFSZ):
         signal.signal(each, signal.SIG_DFL)
     try:

@@ -11,6 +11,7 @@ import sys
 from . import copies, explain, listing, sheet, tables
 from .amounts import cents, money
 from .office import Office
+from .program import SHEET
 from .say import refuse, say
 
 LIMIT = 93          # the rule that a correction would leave a limit exceeded
@@ -47,7 +48,7 @@ def sheet_of_copy(*words):
     """The lines of a sheet of the copy at hand."""
     text = copies.needs_scratch("sheet")
     with open(text, "wb") as out:
-        status = Office(copies.scratch("copy"), list(words), "sheet_desk").run(list(words), out=out)
+        status = Office(copies.scratch("copy"), list(words), SHEET).run(list(words), out=out)
     if status:
         refuse("the sheet of the copy can't be had", status)
     lines = copies.text_of(text).decode("ascii", "replace").splitlines()

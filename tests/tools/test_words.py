@@ -1,11 +1,12 @@
-"""The words of commands: what is refused, and that the programs refuse the same."""
+"""The words of commands: what is refused, and that the program refuses the same."""
 import os
 import subprocess
 import tempfile
 import unittest
 
-from office_tools import dispatch, guide, programs
-from office_tools.commands import AID, ON_JOURNAL, SHEETS, TOOLS, table_of
+from office_tools import dispatch, guide
+from office_tools.commands import ON_JOURNAL, TOOLS, table_of
+from office_tools.program import AID, FIRST_WORDS, SHEET, front
 from office_tools.words import CLERK, DAY, NUMBER, ROUND_NUMBER, SCHOOL, SOME_SCHOOL, STUDENT, TERM, YEAR, first_wrong, near
 
 # Words by the limits of docs/FILINGS.md, docs/ANSWERS.md and docs/SHEETS.md: those that are right, and those that aren't.
@@ -38,8 +39,8 @@ class Limits(unittest.TestCase):
         self.assertEqual(near("zzz", ["file", "found"]), "")
 
 
-class SameAsPrograms(unittest.TestCase):
-    """A program ends with 2 exactly where the table finds words of its commands wrong."""
+class SameAsProgram(unittest.TestCase):
+    """The program ends with 2 exactly where the table finds words of its commands wrong."""
 
     def tries(self, command):
         """Words that are right, and those in which one is changed, misses or is too many."""
@@ -51,24 +52,33 @@ class SameAsPrograms(unittest.TestCase):
             for word in ["0", "x", "01", "1000000000000", "9", "-1", "1999", "2100", "", "1 "]:
                 yield [*right[:at], word, *right[at + 1 :]]
 
-    def compare(self, program, names):
-        """Runs each try on an office that is founded."""
+    def compare(self, desk, *others):
+        """Runs each try of a desk's commands, but for these others, on an office that is founded."""
         table = table_of(ON_JOURNAL)
+        names = [command.name for command in ON_JOURNAL if command.desk == desk and command.name not in others]
         with tempfile.TemporaryDirectory() as folder:
             path = os.path.join(folder, "journal")
             subprocess.run([os.environ["OFFICE_PROGRAM"], path, "found"], stdout=subprocess.DEVNULL, check=True, timeout=60)
             for name in names:
                 for words in self.tries(table[name]):
-                    line = [os.environ[program], path, *name.split(), *words]
+                    line = [os.environ["OFFICE_PROGRAM"], *front(desk, path), *name.split(), *words]
                     ended = subprocess.run(line, stdin=subprocess.DEVNULL, capture_output=True, timeout=60)
                     wrong = first_wrong(name, table[name].arguments, words)
                     self.assertEqual(ended.returncode == 2, bool(wrong), f"{name} {words}: {ended.returncode}, {wrong!r}")
 
     def test_office(self):
-        self.compare("OFFICE_PROGRAM", [command.name for command in ON_JOURNAL if command.program == AID and command.name not in ("found", "serve", "desks", "why")])
+        self.compare(AID, "found", "serve", "desks", "why")
 
     def test_sheets(self):
-        self.compare("SHEET_PROGRAM", [command.name for command in ON_JOURNAL if command.program == SHEETS and command.name != "upto"])
+        self.compare(SHEET, "upto")
+
+    def test_front(self):
+        """An aid journal that is named like a first word, or like a flag, is told apart from it."""
+        for word in [*FIRST_WORDS, "-j"]:
+            self.assertEqual(front(AID, word), [f"./{word}"])
+        for path in ["./loans", "books/work", "/sheet", "loans.journal"]:
+            self.assertEqual(front(AID, path), [path])
+        self.assertEqual([front(SHEET, path) for path in ("sheet", "-j")], [["sheet", "sheet"], ["sheet", "./-j"]])
 
 
 class Guide(unittest.TestCase):
@@ -87,10 +97,10 @@ class Guide(unittest.TestCase):
             found, behind = dispatch.find(words, table_of(ON_JOURNAL))
             self.assertEqual((found.name, first_wrong(found.name, found.arguments, behind)), (command.name, ""))
 
-    def test_programs(self):
-        """Each command is of a program that there is."""
+    def test_desks(self):
+        """Each command is of a desk that there is."""
         for command in ON_JOURNAL:
-            self.assertIn(command.program, ("", *programs.PROGRAMS))
+            self.assertIn(command.desk, ("", AID, SHEET))
 
 
 if __name__ == "__main__":
