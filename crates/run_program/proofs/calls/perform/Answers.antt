@@ -12,7 +12,7 @@ pub returns-in-Serve : goal.returns-in-Serve
 returns-in-Serve g c =
     rw c.in-Serve.is
     (rw c.of_server.ensures
-    (serve c.in-Serve.disk c.run_web-status.result.1 c.in-Serve.ports c.run_web-status.new.ports c.in-Serve.sessions c.in-Serve.stamp c.run_web-status.result.0 c.run_web-status.ensures))
+    (serve c.in-Serve.disk c.run_web-status.result.1 c.in-Serve.ports c.run_web-status.new.ports c.in-Serve.sessions c.in-Serve.stamp c.run_web-status.result.0 c.run_web-status.ensures.ran))
 
 pub returns-in-Upgrade : goal.returns-in-Upgrade
 returns-in-Upgrade g c =
