@@ -5,7 +5,7 @@ pub returns-in-Office : goal.returns-in-Office
 returns-in-Office g c = rw c.in-Office.is (office c.in-Office.disk c.run-status.result.1 c.run-status.result.0 c.run-status.ensures.ran)
 
 pub returns-in-OfficeDesks : goal.returns-in-OfficeDesks
-returns-in-OfficeDesks g c = 
+returns-in-OfficeDesks g c =
     rw c.in-OfficeDesks.is (rw c.of_desks.ensures (office_desks _ _ _ _ c.run_desks-status.new.desks _ (rw c.deref_mut.ensures.value at c.run_desks-status.ensures.ran)))
 
 pub returns-in-Serve : goal.returns-in-Serve
