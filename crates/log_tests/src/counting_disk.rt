@@ -21,9 +21,14 @@ impl CountingDisk {
         }
     }
 
-    // Its bytes, and how often it was synced.
-    pub(crate) fn into_parts(self) -> (Vec<u8>, u64) {
-        (self.bytes, self.syncs)
+    // Its bytes.
+    pub(crate) fn image(&self) -> &[u8] {
+        &self.bytes
+    }
+
+    // How often it was synced.
+    pub(crate) fn syncs(&self) -> u64 {
+        self.syncs
     }
 
     fn fault(&mut self) -> Failed

@@ -1,7 +1,7 @@
 // The rows and lines of numbers that rise.
 ghost use Rattle.std.specs.Prelude.{◌≡◌, ◌≤◌, length};
 
-use crate::Rising;
+use crate::rising::Rising;
 use log_machine::{RowFormat, Rows};
 use std::alloc::{AllocError, Global};
 use std::vec::IntoIter;

@@ -1,5 +1,5 @@
 // The entry that a number may add.
-use crate::Rising;
+use crate::rising::Rising;
 use log_machine::SingleEntryMachine;
 
 impl SingleEntryMachine for Rising {

@@ -2,14 +2,14 @@
 //! stands, with the number that a fault left undecided or without it, and planned once more none is filed twice.
 ghost use Rattle.std.specs.Prelude.{◌≡◌, None};
 
-use crate::reports::reported;
-use crate::{ByteRowFormat, BytesLeft, Rising};
+use crate::files::{copied, disk, numbers};
+use crate::forms::{ByteRowFormat, BytesLeft};
+use crate::rising::Rising;
 use io_memory::{DiskStop, Fill, MemoryDisk, MemorySink};
 use log_machine::{Log, OpenError, RowFormat};
 use log_session::{FileStop, SessionStop, file_planned, open};
 use std::alloc::Global;
 use std::process::Abort;
-use std::test::Fail;
 
 // The file of a list of one number, the numbers planned on it, and the list of all.
 const OPENING: &[u8] = b"\x01NUMBERS1\x01\0\0\0\0\0\0\x01\x01\0\0\0\x05\0";
@@ -29,90 +29,84 @@ struct Round {
     disk: MemoryDisk,
 }
 
-fn disk(
-    alloc: Global,
-    image: &[u8],
-    failing: &[u64],
-    stop: Option<DiskStop>,
-) -> Result<MemoryDisk, Fail> {
-    Ok(MemoryDisk::new(alloc, image.to_vec(alloc)?, failing.to_vec(alloc)?, stop)?)
+// Rows that may be filed.
+fn rows(rt: &impl Abort, alloc: Global, numbers: &[u8]) -> BytesLeft {
+    let text = copied(rt, alloc, numbers);
+    assert!(rt; text.len() < 1_000);
+    ByteRowFormat.read(alloc, text).expect(rt, "memory")
 }
 
-// Files numbers that were planned on an open list. Gives how that ended, and the text.
+// A sink of which these calls fail.
+fn sink(rt: &impl Abort, alloc: Global, failing: &[u64]) -> MemorySink {
+    MemorySink::new(alloc, failing.to_vec(alloc).expect(rt, "memory"))
+}
+
+// Files numbers that were planned on an open list. Gives how that ended.
 fn file(
     alloc: Global,
     kept: &mut Log<MemoryDisk, Rising>,
     rows: BytesLeft,
-    failing: &[u64],
-) -> Result<(Result<(), FileStop>, MemorySink), Fail>
+    sink: &mut MemorySink,
+) -> Result<(), FileStop>
     requires { kept.old.pending ≡ None }
 {
-    let mut sink = MemorySink::new(alloc, failing.to_vec(alloc)?);
-    let ended = file_planned::<MemoryDisk, MemorySink, Rising, BytesLeft>(
-        alloc,
-        kept,
-        rows,
-        b"closed\n",
-        &mut sink,
-    );
-    Ok((ended, sink))
+    file_planned::<MemoryDisk, MemorySink, Rising, BytesLeft>(alloc, kept, rows, b"closed\n", sink)
 }
 
 // Files the planned numbers into the list of the disk's file.
-fn run_round(alloc: Global, disk: MemoryDisk, failing: &[u64]) -> Result<Round, Fail> {
-    let rows = ByteRowFormat.read(alloc, PLANNED.to_vec(alloc)?)?;
-    let mut kept = match open::<MemoryDisk, Rising>(alloc, disk) {
-        Ok(kept) => kept,
-        Err((error, disk)) => return Ok(Round {
-            ended: Err(SessionStop::Opening(error)),
-            text: Vec::new(alloc),
-            disk,
-        }),
+fn run_round(rt: &impl Abort, alloc: Global, disk: MemoryDisk, failing: &[u64]) -> Round {
+    let rows = rows(rt, alloc, PLANNED);
+    let mut sink = sink(rt, alloc, failing);
+    let (ended, disk) = match open::<MemoryDisk, Rising>(alloc, disk) {
+        Ok(mut kept) => {
+            let ended = file(alloc, &mut kept, rows, &mut sink);
+            (ended.map_err(SessionStop::Filing), kept.into_disk())
+        }
+        Err((error, disk)) => (Err(SessionStop::Opening(error)), disk),
     };
-    let (ended, sink) = file(alloc, &mut kept, rows, failing)?;
-    Ok(Round {
-        ended: ended.map_err(SessionStop::Filing),
-        text: sink.text().to_vec(alloc)?,
-        disk: kept.into_disk(),
-    })
+    let text = copied(rt, alloc, sink.text());
+    Round { ended, text, disk }
 }
 
-// The numbers that stand in a file.
-fn numbers(rt: &impl Abort, alloc: Global, image: &[u8]) -> Result<Vec<u8>, Fail> {
-    let (ended, sink, _) = reported(alloc, disk(alloc, image, &[], None)?);
-    assert!(rt; ended);
-    Ok(sink.text().to_vec(alloc)?)
-}
-
-// On what a round left the rest of the numbers is kept, and those that stood are refused.
-fn assert_again(rt: &impl Abort, alloc: Global, image: &[u8], stood: usize) -> Result<(), Fail> {
-    let round = run_round(alloc, disk(alloc, image, &[], None)?, &[])?;
-    assert_eq!(rt; round.ended, Ok(()));
+// On a file where so many numbers stand the rest of them is kept, and those that stood are refused.
+fn assert_again(rt: &impl Abort, alloc: Global, image: &[u8], stood: usize) {
     let text: &[u8] = match stood {
         1 => TEXT,
         2 => b"refused\nkept\nkept\nclosed\n",
         3 => b"refused\nrefused\nkept\nclosed\n",
         _ => b"refused\nrefused\nrefused\nclosed\n",
     };
+    let round = run_round(rt, alloc, disk(rt, alloc, image, &[], None), &[]);
+    assert_eq!(rt; round.ended, Ok(()));
     assert_eq!(rt; round.text.as_slice(), text);
-    assert_eq!(rt; numbers(rt, alloc, round.disk.image())?.as_slice(), ALL);
-    Ok(())
+    assert_eq!(rt; numbers(rt, alloc, round.disk.image()).as_slice(), ALL);
 }
 
-// A round ended so, with this text and these numbers, and is run again.
-fn assert_ended(
+// A round over a disk and into a sink of which these calls fail ends so, with this text and these numbers, and is run again.
+fn assert_round(
     rt: &impl Abort,
     alloc: Global,
-    round: &Round,
+    calls: &[u64],
+    writes: &[u64],
     stop: SessionStop,
     text: &[u8],
     snapshot: &[u8],
-) -> Result<(), Fail> {
+) {
+    let disk = disk(rt, alloc, OPENING, calls, None);
+    let round = run_round(rt, alloc, disk, writes);
+    assert_ended(rt, &round, stop, text);
+    assert_left(rt, alloc, round.disk.image(), snapshot);
+}
+
+fn assert_ended(rt: &impl Abort, round: &Round, stop: SessionStop, text: &[u8]) {
     assert_eq!(rt; round.ended, Err(stop));
     assert_eq!(rt; round.text.as_slice(), text);
-    let image = round.disk.image();
-    assert_eq!(rt; numbers(rt, alloc, image)?.as_slice(), snapshot);
-    assert_again(rt, alloc, image, snapshot.len())
+}
+
+// These numbers stand in a file, on which the round is run again.
+fn assert_left(rt: &impl Abort, alloc: Global, image: &[u8], snapshot: &[u8]) {
+    assert_eq!(rt; numbers(rt, alloc, image).as_slice(), snapshot);
+    assert_again(rt, alloc, image, snapshot.len());
 }
 
 // The call that fails, the position that it leaves undecided, the text, and the numbers that stand. The first record is written
@@ -132,19 +126,20 @@ const FAULTS: [(u64, Option<u32>, &[u8], &[u8]); 10] = [
 ];
 
 #[test]
-fn stands_where_a_call_fails(rt: HostRuntime) -> Result<(), Fail> {
-    let alloc = rt.alloc();
-    for call in 1..5 {
-        let round = run_round(alloc, disk(alloc, OPENING, &[call], None)?, &[])?;
-        let stop = SessionStop::Opening(OpenError::DiskFault);
-        assert_ended(&rt, alloc, &round, stop, b"", b"\x05")?;
-    }
+fn stands_where_a_call_fails(rt: HostRuntime) {
     for (call, undecided, text, snapshot) in FAULTS {
-        let round = run_round(alloc, disk(alloc, OPENING, &[call], None)?, &[])?;
         let stop = SessionStop::Filing(FileStop::DiskFault { undecided });
-        assert_ended(&rt, alloc, &round, stop, text, snapshot)?;
+        assert_round(&rt, rt.alloc(), &[call], &[], stop, text, snapshot);
     }
-    Ok(())
+}
+
+// The list isn't opened where one of the first four calls fails.
+#[test]
+fn stands_where_opening_fails(rt: HostRuntime) {
+    for call in 1..5 {
+        let stop = SessionStop::Opening(OpenError::DiskFault);
+        assert_round(&rt, rt.alloc(), &[call], &[], stop, b"", b"\x05");
+    }
 }
 
 // The call of the sink that fails, the text, and the numbers that stand.
@@ -156,50 +151,67 @@ const CUTS: [(u64, &[u8], &[u8]); 4] = [
 ];
 
 #[test]
-fn stands_where_a_line_is_cut(rt: HostRuntime) -> Result<(), Fail> {
-    let alloc = rt.alloc();
+fn stands_where_a_line_is_cut(rt: HostRuntime) {
     for (call, text, snapshot) in CUTS {
-        let round = run_round(alloc, disk(alloc, OPENING, &[], None)?, &[call])?;
         let stop = SessionStop::Filing(FileStop::Write);
-        assert_ended(&rt, alloc, &round, stop, text, snapshot)?;
+        assert_round(&rt, rt.alloc(), &[], &[call], stop, text, snapshot);
     }
-    Ok(())
 }
 
 // The calls of a whole round: 4 open the list, 5 file the first number, 3 the second, and 2 the last.
 const CALLS: u64 = 14;
 
 #[test]
-fn stands_where_a_disk_stops(rt: HostRuntime) -> Result<(), Fail> {
-    let alloc = rt.alloc();
+fn stands_where_a_disk_stops(rt: HostRuntime) {
     for call in 1..=CALLS + 1 {
         for fill in [Fill::Unwritten, Fill::Written, Fill::With(1), Fill::With(7)] {
-            let stop = Some(DiskStop { call, fill });
-            let round = run_round(alloc, disk(alloc, OPENING, &[], stop)?, &[])?;
-            assert_eq!(rt; round.ended.is_ok(), call > CALLS);
-            assert!(rt; TEXT.starts_with(round.text.as_slice()));
-            let image = round.disk.image();
-            let snapshot = numbers(&rt, alloc, image)?;
-            assert!(rt; ALL.starts_with(snapshot.as_slice()));
-            // Each line has five bytes.
-            let answered = round.text.len().min(15) / 5 + 1;
-            assert!(rt; snapshot.len() == answered || snapshot.len() == answered + 1);
-            assert_again(&rt, alloc, image, snapshot.len())?;
+            assert_stop(&rt, rt.alloc(), DiskStop { call, fill });
         }
     }
-    Ok(())
 }
 
-// PayloadBuffer is made for all rows before the first: of five, two are answered up to the line that is cut.
+// A round whose disk stops so.
+fn assert_stop(rt: &impl Abort, alloc: Global, stop: DiskStop) {
+    let disk = disk(rt, alloc, OPENING, &[], Some(stop));
+    let round = run_round(rt, alloc, disk, &[]);
+    assert_eq!(rt; round.ended.is_ok(), stop.call > CALLS);
+    assert_stands(rt, alloc, round.text.as_slice(), round.disk.image());
+}
+
+// What a text answered stands in the file, with one number more or without it, and the round is run again on it.
+fn assert_stands(rt: &impl Abort, alloc: Global, text: &[u8], image: &[u8]) {
+    let snapshot = numbers(rt, alloc, image);
+    assert!(rt; TEXT.starts_with(text));
+    assert!(rt; ALL.starts_with(snapshot.as_slice()));
+    // Each line has five bytes.
+    let answered = text.len().min(15) / 5 + 1;
+    assert!(rt; snapshot.len() == answered || snapshot.len() == answered + 1);
+    assert_again(rt, alloc, image, snapshot.len());
+}
+
+// Room is made for all rows before the first: of five, two are answered up to the line that is cut.
 #[test]
-fn makes_room_for_all_rows(rt: HostRuntime) -> Result<(), Fail> {
+fn makes_room_for_all_rows(rt: HostRuntime) {
     let alloc = rt.alloc();
-    let rows = ByteRowFormat.read(alloc, b"\x06\x07\x08\x09\x0a".to_vec(alloc)?)?;
-    let Ok(mut kept) = open::<MemoryDisk, Rising>(alloc, disk(alloc, OPENING, &[], None)?) else {
-        return Err(Fail::new("not opened"));
-    };
-    let (ended, _) = file(alloc, &mut kept, rows, &[2])?;
+    let mut kept = opened(&rt, alloc);
+    let rows = rows(&rt, alloc, b"\x06\x07\x08\x09\x0a");
+    let mut sink = sink(&rt, alloc, &[2]);
+    let ended = file(alloc, &mut kept, rows, &mut sink);
     assert_eq!(rt; ended, Err(FileStop::Write));
-    assert_eq!(rt; kept.machine().room(), 3);
-    Ok(())
+    assert_room(&rt, &kept, 3);
+}
+
+// The list of one number.
+fn opened(rt: &impl Abort, alloc: Global) -> Log<MemoryDisk, Rising>
+    ensures { result.pending ≡ None }
+{
+    match open::<MemoryDisk, Rising>(alloc, disk(rt, alloc, OPENING, &[], None)) {
+        Ok(kept) => kept,
+        Err((error, _)) => panic!(rt; "{error:?}"),
+    }
+}
+
+// So many numbers more are taken without memory.
+fn assert_room(rt: &impl Abort, kept: &Log<MemoryDisk, Rising>, room: u32) {
+    assert_eq!(rt; kept.machine().room(), room);
 }

@@ -5,7 +5,7 @@ ghost use Rattle.log_stamps.specs.Entries.{stamp_at};
 ghost use Rattle.log_stamps.specs.Stamped.{stamped_semantics};
 ghost use Rattle.log_tests.specs.Rising.{rising_judging};
 
-use crate::Rising;
+use crate::rising::Rising;
 use aid_stamps::Stamp;
 use io_traits::Disk;
 use log_journal::Header;

@@ -1,5 +1,6 @@
 // A stamped list over a disk in memory.
-use crate::Rising;
+use crate::files::disk;
+use crate::rising::Rising;
 use crate::stamped::{answer_number, is_added, stamp_of};
 use aid_stamps::{ClerkName, Stamp};
 use aid_types::Day;
@@ -8,7 +9,6 @@ use log_machine::{Log, LogReply, StateMachine};
 use log_stamps::StampedMachine;
 use std::alloc::Global;
 use std::process::Abort;
-use std::test::Fail;
 
 // The file of the number 5 under the plain stamp and of 6 by `brown` on 2025-09-01, which is day 20,332.
 const FILE: &[u8] =
@@ -17,30 +17,29 @@ const FILE: &[u8] =
 type StampedNumbers = Log<MemoryDisk, StampedMachine<Rising>>;
 
 // The stamp of the second number.
-fn brown() -> Result<Stamp, Fail> {
-    Ok(Stamp {
+fn brown(rt: &impl Abort) -> Stamp {
+    Stamp {
         day: Day(20_332),
-        clerk: ClerkName::new(b"brown").ok_or("a name")?,
-    })
+        clerk: ClerkName::new(b"brown").expect(rt, "a name"),
+    }
 }
 
 // A new list with room for three numbers.
-fn founded(alloc: Global) -> Result<StampedNumbers, Fail> {
-    let disk = MemoryDisk::new(alloc, Vec::new(alloc), Vec::new(alloc), None)?;
-    match StampedNumbers::found(alloc, disk) {
+fn founded(rt: &impl Abort, alloc: Global) -> StampedNumbers {
+    match StampedNumbers::found(alloc, disk(rt, alloc, b"", &[], None)) {
         Ok(mut list) => {
-            list.reserve(3)?;
-            Ok(list)
+            list.reserve(3).expect(rt, "memory");
+            list
         }
-        Err((error, _)) => Err(Fail::from(error)),
+        Err((error, _)) => panic!(rt; "{error:?}"),
     }
 }
 
 // The list of a disk's file.
-fn recovered(alloc: Global, disk: MemoryDisk) -> Result<StampedNumbers, Fail> {
+fn recovered(rt: &impl Abort, alloc: Global, disk: MemoryDisk) -> StampedNumbers {
     match StampedNumbers::recover(alloc, disk) {
-        Ok(list) => Ok(list),
-        Err((error, _)) => Err(Fail::from(error)),
+        Ok(list) => list,
+        Err((error, _)) => panic!(rt; "{error:?}"),
     }
 }
 
@@ -58,6 +57,15 @@ fn assert_answer(
     }
 }
 
+// Files 5 under the plain stamp and 6 under another, and 6 again. Gives the disk.
+fn filed(rt: &impl Abort, alloc: Global, brown: &Stamp) -> MemoryDisk {
+    let mut list = founded(rt, alloc);
+    assert_answer(rt, &mut list, 5, &Stamp::plain(), true);
+    assert_answer(rt, &mut list, 6, brown, true);
+    assert_answer(rt, &mut list, 6, &Stamp::plain(), false);
+    list.into_disk()
+}
+
 // Two numbers stand, each with its stamp.
 fn assert_stamps(rt: &impl Abort, list: &StampedNumbers, brown: &Stamp) {
     assert_eq!(rt; list.machine().front(), 2);
@@ -73,50 +81,49 @@ fn assert_stamps(rt: &impl Abort, list: &StampedNumbers, brown: &Stamp) {
 }
 
 #[test]
-fn numbers_are_stamped(rt: HostRuntime) -> Result<(), Fail> {
-    let alloc = rt.alloc();
-    let (plain, brown) = (Stamp::plain(), brown()?);
-    let mut list = founded(alloc)?;
-    assert_answer(&rt, &mut list, 5, &plain, true);
-    assert_answer(&rt, &mut list, 6, &brown, true);
-    assert_answer(&rt, &mut list, 6, &plain, false);
-    let disk = list.into_disk();
+fn numbers_are_stamped(rt: HostRuntime) {
+    let brown = brown(&rt);
+    let disk = filed(&rt, rt.alloc(), &brown);
     assert_eq!(rt; disk.image(), FILE);
-    let list = recovered(alloc, disk)?;
+    let list = recovered(&rt, rt.alloc(), disk);
     assert_stamps(&rt, &list, &brown);
-    Ok(())
 }
+
+// The bytes of a stamp, and the place of the first field that is wrong: a day past 9999-12-31, a name of 33 bytes, and one that
+// begins with a hyphen are wrong.
+const WRONG: [(&[u8], u64); 7] = [
+    (b"", 0),
+    (b"\x01\x02\x03", 0),
+    (b"\xa1\xc0\x2c\0\0", 0),
+    (b"\0\0\0\0", 4),
+    (b"\0\0\0\0\x21abcdefghijklmnopqrstuvwxyzabcdefg", 4),
+    (b"\0\0\0\0\x03ab", 5),
+    (b"\0\0\0\0\x03-ab", 5),
+];
+
+// The bytes of a stamp and a `!` behind them, and its day: 1900-01-01 and 9999-12-31.
+const DAYS: [(&[u8], i32); 2] = [
+    (b"\x21\x9c\xff\xff\x01a!", -25_567),
+    (b"\xa0\xc0\x2c\0\0!", 2_932_896),
+];
 
 #[test]
 fn stamps_are_read(rt: HostRuntime) {
-    // A day past 9999-12-31, a name of 33 bytes, and a name that begins with a hyphen.
-    let wrong: [(&[u8], u64); 7] = [
-        (b"", 0),
-        (b"\x01\x02\x03", 0),
-        (b"\xa1\xc0\x2c\0\0", 0),
-        (b"\0\0\0\0", 4),
-        (b"\0\0\0\0\x21abcdefghijklmnopqrstuvwxyzabcdefg", 4),
-        (b"\0\0\0\0\x03ab", 5),
-        (b"\0\0\0\0\x03-ab", 5),
-    ];
-    for (bytes, place) in wrong {
-        match Stamp::read(bytes) {
-            Ok(_) => assert!(rt; false),
-            Err(at) => assert_eq!(rt; at, place),
-        }
+    for (bytes, place) in WRONG {
+        assert_eq!(rt; day_of(&rt, bytes), Err(place));
     }
-    // 1900-01-01 and 9999-12-31.
-    let days: [(&[u8], i32); 2] = [
-        (b"\x21\x9c\xff\xff\x01a!", -25_567),
-        (b"\xa0\xc0\x2c\0\0!", 2_932_896),
-    ];
-    for (bytes, day) in days {
-        match Stamp::read(bytes) {
-            Ok((stamp, behind)) => {
-                assert_eq!(rt; stamp.day, Day(day));
-                assert_eq!(rt; behind, b"!".as_slice());
-            }
-            Err(_) => assert!(rt; false),
+    for (bytes, day) in DAYS {
+        assert_eq!(rt; day_of(&rt, bytes), Ok(day));
+    }
+}
+
+// The day of the stamp at the front of the bytes, behind which a `!` stands, or the place of what is wrong.
+fn day_of(rt: &impl Abort, bytes: &[u8]) -> Result<i32, u64> {
+    match Stamp::read(bytes) {
+        Ok((stamp, behind)) => {
+            assert_eq!(rt; behind, b"!".as_slice());
+            Ok(stamp.day.0)
         }
+        Err(place) => Err(place),
     }
 }

@@ -1,14 +1,14 @@
 // What a turn writes ahead of the rows that wait, by the syncs of a disk.
-ghost use Rattle.std.specs.Prelude.{◌≡◌, None, IfSome};
+ghost use Rattle.std.specs.Prelude.{◌≡◌, None};
 
-use crate::Rising;
 use crate::counting_disk::CountingDisk;
+use crate::rising::Rising;
 use log_desks::{SharedList, Since, Stage, WaitingRow};
 use log_lock::{LockHandle, LockedState, TicketLock};
 use log_machine::{Filed, Log, RowName, RowOperation, StateMachine};
-use std::alloc::{AllocError, Global};
+use std::alloc::Global;
+use std::process::Abort;
 use std::sync::Wait;
-use std::test::Fail;
 
 // The gates, the lengths and the bytes of the numbers 1 to 3 behind the header.
 const THREE: &[u8] =
@@ -23,18 +23,35 @@ enum Event {
 }
 
 // An event of a desk's row, which adds a number.
-#[derive(Clone, Copy, Drop)]
+#[derive(Clone, Copy)]
 struct Step {
     event: Event,
     by: RowName,
     number: u8,
 }
 
-fn row_step(event: Event, desk: u32, row: u32, number: u8) -> Step {
-    Step {
-        event,
-        by: RowName { desk, row },
-        number,
+// Steps in their order.
+#[derive(Drop)]
+struct Steps {
+    steps: Vec<Step>,
+}
+
+impl Steps {
+    fn new(alloc: Global) -> Self {
+        Steps {
+            steps: Vec::new(alloc),
+        }
+    }
+
+    // The row of a desk that adds this number has this event.
+    fn add(&mut self, rt: &impl Abort, event: Event, desk: u8, row: u8, number: u8) {
+        let by = RowName {
+            desk: u32::from(desk),
+            row: u32::from(row),
+        };
+        self.steps
+            .push(Step { event, by, number })
+            .expect(rt, "memory");
     }
 }
 
@@ -96,196 +113,248 @@ fn take_steps<R: Wait>(
     }
 }
 
-// A new list.
-fn founded(alloc: Global) -> Option<Log<CountingDisk, Rising>>
-    ensures { IfSome result (λ kept. kept.pending ≡ None) }
-{
-    let disk = CountingDisk::new(Vec::new(alloc));
-    match Log::<CountingDisk, Rising>::found(alloc, disk) {
-        Ok(kept) => Some(kept),
-        Err(_) => None,
-    }
-}
-
 // A new list that is shared.
-fn shared(alloc: Global) -> Option<Numbers>
-    ensures { IfSome result (λ numbers. numbers.pending ≡ None) }
+fn shared(rt: &impl Abort, alloc: Global) -> Numbers
+    ensures { result.pending ≡ None }
 {
-    let kept = founded(alloc)?;
-    Some(SharedList::new(alloc, kept))
-}
-
-// The file of a list, and how often it was synced.
-fn file_of(numbers: Numbers) -> (Vec<u8>, u64) {
-    let (kept, _) = numbers.into_parts();
-    kept.into_disk().into_parts()
+    match Log::<CountingDisk, Rising>::found(alloc, CountingDisk::new(Vec::new(alloc))) {
+        Ok(kept) => SharedList::new(alloc, kept),
+        Err((error, _)) => panic!(rt; "{error:?}"),
+    }
 }
 
 // Takes steps over a shared list.
-fn taken<R: Wait>(rt: &R, alloc: Global, numbers: Numbers, steps: &[Step]) -> Option<Numbers>
+fn taken(rt: &(impl Abort + Wait), alloc: Global, numbers: Numbers, steps: &[Step]) -> Numbers
     requires { numbers.pending ≡ None }
 {
     let Ok((turns, mut handle)) = TicketLock::new(alloc, numbers, 1) else {
-        return None;
+        panic!(rt; "no memory")
     };
     take_steps(rt, alloc, &turns, &mut handle, steps);
-    Some(turns.close(handle))
+    turns.close(handle)
 }
 
-// Takes steps over a new list. Gives the file, and how often it was synced.
-fn run<R: Wait>(rt: &R, alloc: Global, steps: &[Step]) -> Result<(Vec<u8>, u64), Fail> {
-    let Some(numbers) = shared(alloc) else {
-        return Err(Fail::new("no list"));
-    };
-    match taken(rt, alloc, numbers, steps) {
-        Some(numbers) => Ok(file_of(numbers)),
-        None => Err(Fail::new("no memory")),
-    }
+// Takes steps over a new list. Gives its file.
+fn run(rt: &(impl Abort + Wait), alloc: Global, steps: &Steps) -> CountingDisk {
+    let numbers = shared(rt, alloc);
+    let (kept, _) = taken(rt, alloc, numbers, steps.steps.as_slice()).into_parts();
+    kept.into_disk()
 }
 
-// Four desks that file so many rows in turns, each of which adds the next number. The rows of the turns that come next are
-// drawing, one of each other desk, and those behind them are coming.
-fn four_desks(alloc: Global, rows: u8) -> Result<Vec<Step>, AllocError> {
-    let mut steps = Vec::new(alloc);
-    for number in 1..=rows.saturating_add(3) {
-        let desk = u32::from(number % 4);
-        let row = u32::from(number / 4);
-        if number <= rows {
-            steps.push(row_step(Event::Draws, desk, row, number))?;
-        }
-        if number <= rows.saturating_sub(4) {
-            steps.push(row_step(Event::Comes, desk, row + 1, number.saturating_add(4)))?;
-        }
-        if let Some(served @ 1..) = number.checked_sub(3) {
-            let desk = u32::from(served % 4);
-            let row = u32::from(served / 4);
-            steps.push(row_step(Event::Files, desk, row, served))?;
-        }
-    }
-    Ok(steps)
+// Desks that file in turn, each row the next number, and the row of a desk that dies.
+struct Turns {
+    desks: u8,
+    // So many rows behind the one that is filed were drawn.
+    drawn: u8,
+    rows: u8,
+    // The numbers up to this one come.
+    known: u8,
+    // What the dead desk announced.
+    dead: Option<Event>,
+    // The syncs beside those that found the list.
+    syncs: u64,
 }
 
-// One desk that files so many rows.
-fn one_desk(alloc: Global, rows: u8) -> Result<Vec<Step>, AllocError> {
-    let mut steps = Vec::new(alloc);
-    for number in 1..=rows {
-        let row = u32::from(number);
-        steps.push(row_step(Event::Draws, 1, row, number))?;
-        if number < rows {
-            steps.push(row_step(Event::Comes, 1, row + 1, number.saturating_add(1)))?;
-        }
-        steps.push(row_step(Event::Files, 1, row, number))?;
-    }
-    Ok(steps)
-}
+// The first row takes two syncs, and each later one takes one. A row of a desk that never comes misleads one turn, or two where it
+// was about to draw. The rows that another desk files between two of a desk's don't mislead it.
+static TURNS: [Turns; 11] = [
+    Turns {
+        desks: 4,
+        drawn: 3,
+        rows: 1,
+        known: 1,
+        dead: None,
+        syncs: 2,
+    },
+    Turns {
+        desks: 4,
+        drawn: 3,
+        rows: 2,
+        known: 2,
+        dead: None,
+        syncs: 3,
+    },
+    Turns {
+        desks: 4,
+        drawn: 3,
+        rows: 7,
+        known: 7,
+        dead: None,
+        syncs: 8,
+    },
+    Turns {
+        desks: 4,
+        drawn: 3,
+        rows: 30,
+        known: 30,
+        dead: None,
+        syncs: 31,
+    },
+    Turns {
+        desks: 1,
+        drawn: 0,
+        rows: 1,
+        known: 1,
+        dead: None,
+        syncs: 2,
+    },
+    Turns {
+        desks: 1,
+        drawn: 0,
+        rows: 2,
+        known: 2,
+        dead: None,
+        syncs: 3,
+    },
+    Turns {
+        desks: 1,
+        drawn: 0,
+        rows: 7,
+        known: 7,
+        dead: None,
+        syncs: 8,
+    },
+    Turns {
+        desks: 1,
+        drawn: 0,
+        rows: 30,
+        known: 30,
+        dead: None,
+        syncs: 31,
+    },
+    Turns {
+        desks: 1,
+        drawn: 0,
+        rows: 20,
+        known: 20,
+        dead: Some(Event::Comes),
+        syncs: 22,
+    },
+    Turns {
+        desks: 1,
+        drawn: 0,
+        rows: 20,
+        known: 20,
+        dead: Some(Event::Draws),
+        syncs: 23,
+    },
+    Turns {
+        desks: 2,
+        drawn: 0,
+        rows: 20,
+        known: 22,
+        dead: None,
+        syncs: 22,
+    },
+];
 
-// One connection with so many requests, of which some came at once: all are filed under one name, and each but the last of those
-// that came at once is known ahead.
-fn one_connection(alloc: Global, requests: u8, at_once: u8) -> Result<Vec<Step>, AllocError> {
-    let mut steps = Vec::new(alloc);
-    for number in 1..=requests {
-        steps.push(row_step(Event::Draws, 1, 1, number))?;
-        if at_once > 0 && number % at_once != 0 {
-            steps.push(row_step(Event::Comes, 1, 1, number.saturating_add(1)))?;
-        }
-        steps.push(row_step(Event::Files, 1, 1, number))?;
-    }
-    Ok(steps)
-}
-
-// The first row takes two syncs, and each later one takes one.
 #[test]
-fn one_sync_a_filing(rt: HostRuntime) -> Result<(), Fail> {
-    let alloc = rt.alloc();
-    let (_, founded) = run(&rt, alloc, &[])?;
-    for rows in [1, 2, 7, 30] {
-        let (_, four) = run(&rt, alloc, &four_desks(alloc, rows)?)?;
-        assert_eq!(rt;
-            four,
-            founded.saturating_add(u64::from(rows) + 1),
-            "four desks, {rows} rows"
-        );
-        let (_, one) = run(&rt, alloc, &one_desk(alloc, rows)?)?;
-        assert_eq!(rt;
-            one,
-            founded.saturating_add(u64::from(rows) + 1),
-            "a desk, {rows} rows"
-        );
+fn one_sync_a_filing(rt: HostRuntime) {
+    let founded = run(&rt, rt.alloc(), &Steps::new(rt.alloc())).syncs();
+    for turns in &TURNS {
+        assert_turns(&rt, rt.alloc(), turns, founded);
     }
-    Ok(())
 }
 
-// Of the requests that come at once the first takes two syncs, and each later one takes one.
-#[test]
-fn requests_at_once(rt: HostRuntime) -> Result<(), Fail> {
-    let alloc = rt.alloc();
-    let (_, founded) = run(&rt, alloc, &[])?;
-    for (at_once, more) in [(1, 24), (2, 12), (8, 3), (24, 1)] {
-        let (_, syncs) = run(&rt, alloc, &one_connection(alloc, 24, at_once)?)?;
-        assert_eq!(rt;
-            syncs,
-            founded.saturating_add(24 + more),
-            "{at_once} at once"
-        );
-    }
-    Ok(())
+// The turns take their syncs.
+fn assert_turns(rt: &(impl Abort + Wait), alloc: Global, turns: &Turns, founded: u64) {
+    let steps = steps_of(rt, alloc, turns);
+    let syncs = run(rt, alloc, &steps).syncs();
+    let (desks, rows) = (turns.desks, turns.rows);
+    assert_eq!(rt;
+        syncs,
+        founded.saturating_add(turns.syncs),
+        "{desks} desks, {rows} rows"
+    );
 }
 
-// A row of a desk that never comes misleads one turn, or two where it was about to draw.
-#[test]
-fn a_dead_desk_costs_little(rt: HostRuntime) -> Result<(), Fail> {
-    let alloc = rt.alloc();
-    let rows = one_desk(alloc, 20)?;
-    let (_, syncs) = run(&rt, alloc, &rows)?;
-    for (event, more) in [(Event::Comes, 1), (Event::Draws, 2)] {
-        let mut steps = vec![in alloc; row_step(event, 9, 7, 200)]?;
-        steps.extend_from_slice(&rows)?;
-        let (_, misled) = run(&rt, alloc, &steps)?;
-        assert_eq!(rt; misled, syncs.saturating_add(more));
+// What happens in turns.
+fn steps_of(rt: &impl Abort, alloc: Global, turns: &Turns) -> Steps {
+    let mut steps = Steps::new(alloc);
+    if let Some(event) = turns.dead {
+        steps.add(rt, event, 9, 7, 200);
     }
-    Ok(())
+    for number in 1..=turns.rows.saturating_add(turns.drawn) {
+        add_turn(rt, turns, number, &mut steps);
+    }
+    steps
 }
 
-// The rows that another desk files between two of a desk's don't mislead it: none but the first and the second take two syncs.
+// The row of this number draws where there is one, the next row of its desk comes, and the first that was drawn is filed.
+fn add_turn(rt: &impl Abort, turns: &Turns, number: u8, steps: &mut Steps) {
+    if number <= turns.rows {
+        add_row(rt, turns, Event::Draws, number, steps);
+    }
+    let next = number.saturating_add(turns.desks);
+    if next <= turns.known {
+        add_row(rt, turns, Event::Comes, next, steps);
+    }
+    let filed = number.saturating_sub(turns.drawn);
+    if filed > 0 {
+        add_row(rt, turns, Event::Files, filed, steps);
+    }
+}
+
+// The row that adds this number has this event. The desks have their rows in turn.
+fn add_row(rt: &impl Abort, turns: &Turns, event: Event, number: u8, steps: &mut Steps) {
+    let desk = number.checked_rem(turns.desks).unwrap_or(0);
+    let row = number.checked_div(turns.desks).unwrap_or(0);
+    steps.add(rt, event, desk, row, number);
+}
+
+// How many requests come at once, and the syncs that 24 take beside those that found the list: of those that come at once the first
+// takes two, and each later one takes one.
+const AT_ONCE: [(u8, u64); 4] = [(1, 48), (2, 36), (8, 27), (24, 25)];
+
 #[test]
-fn two_desks_in_turn(rt: HostRuntime) -> Result<(), Fail> {
-    let alloc = rt.alloc();
-    let mut steps = Vec::new(alloc);
-    for row in 1..=10u8 {
-        for desk in 1..=2u8 {
-            let number = 2 * row + desk;
-            let by = u32::from(row);
-            steps.push(row_step(Event::Draws, u32::from(desk), by, number))?;
-            steps.push(row_step(Event::Comes, u32::from(desk), by + 1, number + 2))?;
-            steps.push(row_step(Event::Files, u32::from(desk), by, number))?;
+fn requests_at_once(rt: HostRuntime) {
+    let founded = run(&rt, rt.alloc(), &Steps::new(rt.alloc())).syncs();
+    for (at_once, syncs) in AT_ONCE {
+        let steps = one_connection(&rt, rt.alloc(), at_once);
+        let taken = run(&rt, rt.alloc(), &steps).syncs();
+        assert_eq!(rt; taken, founded.saturating_add(syncs), "{at_once} at once");
+    }
+}
+
+// One connection with 24 requests, of which some came at once: all are filed under one name, and each but the last of those that
+// came at once is known ahead.
+fn one_connection(rt: &impl Abort, alloc: Global, at_once: u8) -> Steps {
+    let mut steps = Steps::new(alloc);
+    for number in 1..=24u8 {
+        steps.add(rt, Event::Draws, 1, 1, number);
+        if number.checked_rem(at_once) != Some(0) {
+            steps.add(rt, Event::Comes, 1, 1, number + 1);
         }
+        steps.add(rt, Event::Files, 1, 1, number);
     }
-    let (_, founded) = run(&rt, alloc, &[])?;
-    let (_, syncs) = run(&rt, alloc, &steps)?;
-    assert_eq!(rt; syncs, founded.saturating_add(22));
-    Ok(())
+    steps
 }
+
+// Rows of which one is refused, and one never comes: the events, their desks, and the numbers.
+const REFUSED: [(Event, u8, u8); 9] = [
+    (Event::Draws, 1, 1),
+    (Event::Draws, 2, 1),
+    (Event::Draws, 3, 2),
+    (Event::Files, 1, 1),
+    (Event::Files, 2, 1),
+    (Event::Files, 3, 2),
+    (Event::Draws, 4, 3),
+    (Event::Comes, 9, 250),
+    (Event::Files, 4, 3),
+];
 
 // What is written ahead of a row that is refused, or of one that never comes, counts for nothing.
 #[test]
-fn a_refused_row_leaves_the_list(rt: HostRuntime) -> Result<(), Fail> {
+fn a_refused_row_leaves_the_list(rt: HostRuntime) {
     let alloc = rt.alloc();
-    let steps = [
-        row_step(Event::Draws, 1, 1, 1),
-        row_step(Event::Draws, 2, 1, 1),
-        row_step(Event::Draws, 3, 1, 2),
-        row_step(Event::Files, 1, 1, 1),
-        row_step(Event::Files, 2, 1, 1),
-        row_step(Event::Files, 3, 1, 2),
-        row_step(Event::Draws, 4, 1, 3),
-        row_step(Event::Comes, 9, 1, 250),
-        row_step(Event::Files, 4, 1, 3),
-    ];
-    let (file, _) = run(&rt, alloc, &steps)?;
-    assert!(rt; file.as_slice().starts_with(THREE));
-    match Log::<CountingDisk, Rising>::recover(alloc, CountingDisk::new(file)) {
-        Ok(list) => assert_eq!(rt; list.machine().front(), 3),
-        Err(_) => assert!(rt; false),
+    let mut steps = Steps::new(alloc);
+    for (event, desk, number) in REFUSED {
+        steps.add(&rt, event, desk, 1, number);
     }
-    Ok(())
+    let file = run(&rt, alloc, &steps);
+    assert!(rt; file.image().starts_with(THREE));
+    match Log::<CountingDisk, Rising>::recover(alloc, file) {
+        Ok(list) => assert_eq!(rt; list.machine().front(), 3),
+        Err((error, _)) => panic!(rt; "{error:?}"),
+    }
 }
