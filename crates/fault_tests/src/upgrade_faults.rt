@@ -1,6 +1,4 @@
 // What is left where a disk fails or stops in the middle.
-ghost use Rattle.std.specs.Prelude.{◌≤◌};
-
 use crate::upgrade_files::{NEW, OLD};
 use crate::upgrade_runs::{Ran, disk, stopped, upgraded};
 use aid_stamps::Stamp;
@@ -14,8 +12,8 @@ use std::test::Fail;
 /// More calls than an upgrade of two filings makes.
 const CALLS: u64 = 60;
 
-// The file is unborn, or that of 0, 1 or 2 filings under the plain stamp.
-fn assert_front(rt: &impl Abort, alloc: Global, left: MemoryDisk) -> Result<(), Fail> {
+// The file is no office's, or it is that of both filings under the plain stamp.
+fn assert_whole_or_none(rt: &impl Abort, alloc: Global, left: MemoryDisk) -> Result<(), Fail> {
     let again = disk(alloc, (left.image(), &[]), None)?;
     match opened(alloc, again) {
         Ok(office) => assert_plain(rt, office),
@@ -35,33 +33,13 @@ fn opened(
     }
 }
 
-// At most two filings stand, each under the plain stamp, and the file is a front of the whole.
+// Both filings stand, each under the plain stamp, and the file is the whole.
 fn assert_plain(rt: &impl Abort, office: Log<MemoryDisk, StampedOfficeMachine>) {
-    let front = office.machine().front();
-    assert!(rt; front <= 2);
-    for position in 1..=front {
+    assert_eq!(rt; office.machine().front(), 2);
+    for position in 1..=2 {
         assert_eq!(rt; office.machine().stamp(position), Some(Stamp::plain()));
     }
-    assert_bytes(rt, office.into_disk().image(), gate_of(front));
-}
-
-// Where the gate stands behind so many filings.
-fn gate_of(front: u32) -> usize
-    ensures { result ≤ 80 }
-{
-    match front {
-        0 => 16,
-        1 => 45,
-        _ => 80,
-    }
-}
-
-// The file ends with this gate, and begins as the whole does.
-fn assert_bytes(rt: &impl Abort, file: &[u8], gate: usize)
-    requires { gate ≤ 80 }
-{
-    assert_eq!(rt; file.len(), gate + 1);
-    assert_eq!(rt; &file[..gate], &NEW[..gate]);
+    assert_eq!(rt; office.into_disk().image(), NEW);
 }
 
 // The target stops for good at each of its calls.
@@ -94,7 +72,7 @@ fn is_target_fault(rt: &impl Abort, alloc: Global, after: Ran) -> Result<bool, F
         return Ok(false);
     }
     assert_fault(rt, &after, "fault disk target\n");
-    assert_front(rt, alloc, after.target)?;
+    assert_whole_or_none(rt, alloc, after.target)?;
     Ok(true)
 }
 

@@ -1,47 +1,37 @@
 -- What follows from how an upgrade ended.
-use Rattle.std.proofs.Common.{◌≡◌, inl, inr, ◌⊎◌, ⊎_elim, ℕ, List, length, refl, sym, ◌∙◌, ap, arith, subst, Bool, true, false, IsTrue, get_or}
-use Rattle.std.proofs.Math.Seq.{drop-length}
-use Rattle.std.proofs.lemmas.Bool.{true≢false, false≢true}
+use Rattle.std.proofs.Common.{◌≡◌, inl, inr, ◌⊎◌, ⊎_elim, ℕ, List, length, refl, sym, ◌∙◌, ap, arith, subst, true, false, get_or}
+use Rattle.std.proofs.lemmas.Bool.{true≢false}
 use Rattle.std.specs.Prelude.{◌==◌}
 use Rattle.io_traits.specs.Faults.{Rose}
 use Rattle.io_traits.specs.declared.sink.Sink.{Ghosts as SinkGhosts}
 use Rattle.aid_filings.specs.declared.filing.Filing.{Filing}
 use Rattle.io_traits.specs.DiskState.{EachImage, EachMoment, IsHonest, IsRead, DiskState}
 use Rattle.io_traits.specs.declared.disk.Disk.{Ghosts}
-use Rattle.io_traits.proofs.Moments.{started, weaken}
+use Rattle.io_traits.proofs.Moments.{started}
 use Rattle.log_journal.proofs.Unique.{not_unborn}
-use Rattle.log_journal.specs.Founded.{UnbornOrEmpty}
 use Rattle.log_journal.specs.Head.{IsBorn, IsOld}
 use Rattle.log_journal.specs.Header.{with_version}
 use Rattle.log_journal.specs.Stands.{IsUnborn}
 use Rattle.log_journal.specs.declared.header.Header.{Header}
 use Rattle.log_machine.proofs.Histories.{recovers_once}
-use Rattle.log_machine.specs.declared.kept.FoundFault.{FoundFault}
-use Rattle.log_machine.specs.declared.kept.FoundFault.TheVariants as founding
+use Rattle.log_journal.specs.declared.founding.FoundError.{FoundError}
+use Rattle.log_journal.specs.declared.founding.FoundError.TheVariants as target
 use Rattle.office_log.specs.OfficeLaws.{alone}
 use Rattle.office_log.specs.Recovers.{Recovers}
-use Rattle.office_log.specs.Scheme.{filing_scheme, office_header, office_scheme, old_header}
+use Rattle.office_log.specs.Scheme.{filing_scheme, office_header, old_header}
 use Rattle.log_runs.specs.Ends.{EndsWith, Moved, told, untold}
 use Rattle.log_runs.specs.Puts.{HasPut}
-use Rattle.log_session.specs.Sessions.{IsNotFounded}
 use Rattle.run_upgrade.specs.Ends.{is_source_fault, is_target_fault, line_of, source_status, status_of, target_status}
-use Rattle.run_upgrade.specs.Fronts.{UnbornOrFront, under_plain}
-use Rattle.run_upgrade.specs.Upgrades.{Copies, Counts, Fills, HasCause, HasList, IsOldOffice, RecoversOld, Refuses, copied, source_read, source_refused, stopped, target_refused}
-use Rattle.run_upgrade.specs.declared.ending.CopyFault.{CopyFault}
-use Rattle.run_upgrade.specs.declared.ending.CopyFault.TheVariants as copying
+use Rattle.run_upgrade.specs.Targets.{NoneOrAll, under_plain}
+use Rattle.run_upgrade.specs.Upgrades.{Copies, Counts, Fills, HasCause, IsNeverHalf, IsNotCopied, IsOldOffice, RecoversOld, Refuses, all_copied, not_copied, source_read, source_refused, starved}
 use Rattle.run_upgrade.specs.declared.ending.SourceFault.{SourceFault}
 use Rattle.run_upgrade.specs.declared.ending.SourceFault.TheVariants as refusal
 use Rattle.run_upgrade.specs.declared.ending.UpgradeEnd.{UpgradeEnd}
-use Rattle.run_upgrade.specs.declared.ending.UpgradeEnd.TheVariants.{Source, Target, Copying, Copied}
+use Rattle.run_upgrade.specs.declared.ending.UpgradeEnd.TheVariants.{Source, Target, NoMemory, Copied}
 
 -- a file of version 1 has one list
 pub one_list : (file : List ℕ) (one other : List Filing) → RecoversOld file one → RecoversOld file other → one ≡ other
 one_list = recovers_once filing_scheme alone
-
--- no filings are a front of every list
-pub empty_front : (history : List Filing) (file : List ℕ) → UnbornOrEmpty office_header file → UnbornOrFront history file
-empty_front history file (inl unborn) = inl unborn
-empty_front history file (inr stands) = inr (length history, subst (λ (l : List Filing). Recovers file (under_plain l)) (sym (drop-length history)) (record { stands = stands; entries = tt; legal = tt }))
 
 -- no call is a look
 pub read_none : (at : DiskState) → IsRead at at
@@ -68,15 +58,10 @@ some_source (refusal.Damaged place) is = cc
 some_source refusal.DiskFault is = cc
 some_source refusal.NoMemory is = cc
 
-some_target : (fault : FoundFault) → target_status fault ≡ 0 → ⊥
-some_target founding.Exists is = cc
-some_target founding.NotJournal is = cc
-some_target founding.DiskFault is = cc
-some_target founding.NoMemory is = cc
-
-some_copying : (fault : CopyFault) → status_of (Copying fault) ≡ 0 → ⊥
-some_copying copying.DiskFault is = cc
-some_copying copying.NoMemory is = cc
+some_target : (error : FoundError) → target_status error ≡ 0 → ⊥
+some_target target.Exists is = cc
+some_target target.NotJournal is = cc
+some_target target.DiskFault is = cc
 
 never_four : (end : UpgradeEnd) → (status_of end == 4) ≡ false
 never_four (Source refusal.NoOffice) = refl
@@ -85,12 +70,10 @@ never_four (Source refusal.NewVersion) = refl
 never_four (Source (refusal.Damaged place)) = refl
 never_four (Source refusal.DiskFault) = refl
 never_four (Source refusal.NoMemory) = refl
-never_four (Target founding.Exists) = refl
-never_four (Target founding.NotJournal) = refl
-never_four (Target founding.DiskFault) = refl
-never_four (Target founding.NoMemory) = refl
-never_four (Copying copying.DiskFault) = refl
-never_four (Copying copying.NoMemory) = refl
+never_four (Target target.Exists) = refl
+never_four (Target target.NotJournal) = refl
+never_four (Target target.DiskFault) = refl
+never_four NoMemory = refl
 never_four (Copied count) = refl
 
 -- the sink's count, over the last line
@@ -100,47 +83,51 @@ told_moved sink old new end status (told put) = record { rose = λ four. absurd 
 told_moved sink old new end status (untold cut) = record { rose = λ four. cut.rose; same = λ other. absurd (true≢false other) }
 
 module _ {A B : Type 0} (from : Ghosts A) (to : Ghosts B) (source : A) (old new : B) where
+  -- without a call on the target
+  same_untouched : new ≡ old → IsUnborn (to.tells old).reads ⊎ IsRead (to.tells old) (to.tells new)
+  same_untouched same = inr (subst (λ (d : B). IsRead (to.tells old) (to.tells d)) (sym same) (read_none (to.tells old)))
+
   -- a target that isn't unborn is only looked at
   fills_untouched : (history : List Filing) (end : UpgradeEnd) → Fills to history old new end → IsHonest (to.tells old)
       → IsUnborn (to.tells old).reads ⊎ IsRead (to.tells old) (to.tells new)
-  fills_untouched history end (target_refused fault not) honest = not.untouched honest
-  fills_untouched history end (stopped fault begun) honest = inl (begun.unborn honest)
-  fills_untouched history end (copied begun images) honest = inl (begun.unborn honest)
+  fills_untouched history end (starved same) honest = same_untouched same
+  fills_untouched history end (not_copied error is) honest = is.untouched honest
+  fills_untouched history end (all_copied is) honest = inl (is.unborn honest)
 
   pub untouched : (end : UpgradeEnd) → Copies from to source old new end → IsHonest (to.tells old) → IsUnborn (to.tells old).reads ⊎ IsRead (to.tells old) (to.tells new)
-  untouched end (source_refused fault refuses same) honest = inr (subst (λ (d : B). IsRead (to.tells old) (to.tells d)) (sym same) (read_none (to.tells old)))
+  untouched end (source_refused fault refuses same) honest = same_untouched same
   untouched end (source_read history _ has fills) honest = fills_untouched history end fills honest
 
   -- each image at each moment
-  fills_moments : (history : List Filing) (end : UpgradeEnd) → Fills to history old new end → IsHonest (to.tells old)
-      → EachImage (to.tells old) (UnbornOrEmpty office_header) → EachMoment (to.tells old) (to.tells new) (UnbornOrFront history)
-  fills_moments history end (target_refused fault not) honest each =
-      weaken (to.tells old) (to.tells new) (UnbornOrEmpty office_header) (UnbornOrFront history) (empty_front history) (not.moments honest each)
-  fills_moments history end (stopped fault begun) honest each = begun.moments honest each
-  fills_moments history end (copied begun images) honest each = begun.moments honest each
+  module _ (only : (d : B) (c : List ℕ) → IsHonest (to.tells d) → (to.tells d).image_since (to.tells d).moment c → (to.tells d).image c) where
+    same_moments : (history : List Filing) → new ≡ old → IsNeverHalf to history old new
+    same_moments history same honest =
+        subst (λ (d : B). EachMoment (to.tells old) (to.tells d) (λ file. (to.tells old).image file ⊎ NoneOrAll history file)) (sym same)
+        (started (to.tells old) (λ file. (to.tells old).image file ⊎ NoneOrAll history file) (λ c since. inl (only old c honest since)))
 
-  pub moments : ((d : B) (c : List ℕ) → IsHonest (to.tells d) → (to.tells d).image_since (to.tells d).moment c → (to.tells d).image c)
-      → (end : UpgradeEnd) → Copies from to source old new end → (history : List Filing) → IsHonest (from.tells source) → RecoversOld (from.tells source).reads history
-      → IsHonest (to.tells old) → EachImage (to.tells old) (UnbornOrEmpty office_header) → EachMoment (to.tells old) (to.tells new) (UnbornOrFront history)
-  moments only end (source_refused fault refuses same) history sincere recovers honest each =
-      subst (λ (d : B). EachMoment (to.tells old) (to.tells d) (UnbornOrFront history)) (sym same)
-      (started (to.tells old) (UnbornOrFront history) (λ c since. empty_front history c (each c (only old c honest since))))
-  moments only end (source_read list _ has fills) history sincere recovers honest each =
-      subst (λ (h : List Filing). EachMoment (to.tells old) (to.tells new) (UnbornOrFront h)) (one_list (from.tells source).reads list history (has.recovers sincere) recovers)
-      (fills_moments list end fills honest each)
+    fills_moments : (history : List Filing) (end : UpgradeEnd) → Fills to history old new end → IsNeverHalf to history old new
+    fills_moments history end (starved same) = same_moments history same
+    fills_moments history end (not_copied error is) = is.moments
+    fills_moments history end (all_copied is) = is.moments
+
+    pub moments : (end : UpgradeEnd) → Copies from to source old new end → (history : List Filing) → IsHonest (from.tells source) → RecoversOld (from.tells source).reads history
+        → IsNeverHalf to history old new
+    moments end (source_refused fault refuses same) history sincere recovers = same_moments history same
+    moments end (source_read list _ has fills) history sincere recovers =
+        subst (λ (h : List Filing). IsNeverHalf to h old new) (one_list (from.tells source).reads list history (has.recovers sincere) recovers) (fills_moments list end fills)
 
   module _ {K : Type 0} (sink : SinkGhosts K) (out out' : K) where
     -- at 0 all was copied, and that was written
-    pub all_copied : (end : UpgradeEnd) (status : ℕ) → EndsWith sink (line_of end) (status_of end) out out' status → Copies from to source old new end → status ≡ 0
+    pub copied_and_told : (end : UpgradeEnd) (status : ℕ) → EndsWith sink (line_of end) (status_of end) out out' status → Copies from to source old new end → status ≡ 0
         → (history : List Filing) → IsHonest (from.tells source) → RecoversOld (from.tells source).reads history
         → (IsHonest (to.tells old) → EachImage (to.tells new) (λ file. Recovers file (under_plain history))) × HasPut sink (line_of (Copied (length history))) out out'
-    all_copied end status (untold cut) copies none history sincere recovers = absurd (let bad : ⊥ = cc in bad)
-    all_copied end status (told put) (source_refused fault refuses same) none history sincere recovers = absurd (some_source fault none)
-    all_copied end status (told put) (source_read list _ has (target_refused fault not)) none history sincere recovers = absurd (some_target fault none)
-    all_copied end status (told put) (source_read list _ has (stopped fault begun)) none history sincere recovers = absurd (some_copying fault none)
-    all_copied end status (told put) (source_read list _ has (copied begun images)) none history sincere recovers =
+    copied_and_told end status (untold cut) copies none history sincere recovers = absurd (let bad : ⊥ = cc in bad)
+    copied_and_told end status (told put) (source_refused fault refuses same) none history sincere recovers = absurd (some_source fault none)
+    copied_and_told end status (told put) (source_read list _ has (starved same)) none history sincere recovers = absurd (let bad : ⊥ = cc in bad)
+    copied_and_told end status (told put) (source_read list _ has (not_copied error is)) none history sincere recovers = absurd (some_target error none)
+    copied_and_told end status (told put) (source_read list _ has (all_copied is)) none history sincere recovers =
         subst (λ (h : List Filing). (IsHonest (to.tells old) → EachImage (to.tells new) (λ file. Recovers file (under_plain h))) × HasPut sink (line_of (Copied (length h))) out out')
-        (one_list (from.tells source).reads list history (has.recovers sincere) recovers) (images, put)
+        (one_list (from.tells source).reads list history (has.recovers sincere) recovers) (is.images, put)
 
     -- where no count rose
     module _ (office : IsOldOffice (from.tells source)) (honest : IsHonest (to.tells old)) (unborn : IsUnborn (to.tells old).reads) (counts : Counts)
@@ -153,21 +140,16 @@ module _ {A B : Type 0} (from : Ghosts A) (to : Ghosts B) (source : A) (old new 
       source_done refusal.DiskFault is moved = absurd (no_source (moved.rose refl))
       source_done refusal.NoMemory is moved = inr refl
 
-      target_done : (fault : FoundFault) → IsNotFounded to office_scheme fault old new → Moved (is_target_fault (Target fault)) counts.target → (target_status fault ≡ 0) ⊎ (target_status fault ≡ 9)
-      target_done founding.Exists not moved = absurd (⊎_elim (λ born. not_unborn office_header (to.tells old).reads born unborn) (λ is. old_not_unborn office_header (to.tells old).reads is unborn) (not.exists honest refl).0)
-      target_done founding.NotJournal not moved = absurd ((not.foreign honest refl).0.not_unborn unborn)
-      target_done founding.DiskFault not moved = absurd (no_target (moved.rose refl))
-      target_done founding.NoMemory not moved = inr refl
-
-      copying_done : (fault : CopyFault) → Moved (is_target_fault (Copying fault)) counts.target → (status_of (Copying fault) ≡ 0) ⊎ (status_of (Copying fault) ≡ 9)
-      copying_done copying.DiskFault moved = absurd (no_target (moved.rose refl))
-      copying_done copying.NoMemory moved = inr refl
+      target_done : (history : List Filing) (error : FoundError) → IsNotCopied to history error old new → Moved (is_target_fault (Target error)) counts.target → (target_status error ≡ 0) ⊎ (target_status error ≡ 9)
+      target_done history target.Exists is moved = absurd (⊎_elim (λ born. not_unborn office_header (to.tells old).reads born unborn) (λ was. old_not_unborn office_header (to.tells old).reads was unborn) (is.exists honest refl).0)
+      target_done history target.NotJournal is moved = absurd ((is.foreign honest refl).0.not_unborn unborn)
+      target_done history target.DiskFault is moved = absurd (no_target (moved.rose refl))
 
       end_done : (end : UpgradeEnd) → Copies from to source old new end → Moved (is_source_fault end) counts.source → Moved (is_target_fault end) counts.target → (status_of end ≡ 0) ⊎ (status_of end ≡ 9)
       end_done end (source_refused fault refuses same) moved other = source_done fault (refuses office.0) moved
-      end_done end (source_read list _ has (target_refused fault not)) moved other = target_done fault not other
-      end_done end (source_read list _ has (stopped fault begun)) moved other = copying_done fault other
-      end_done end (source_read list _ has (copied begun images)) moved other = inl refl
+      end_done end (source_read list _ has (starved same)) moved other = inr refl
+      end_done end (source_read list _ has (not_copied error is)) moved other = target_done list error is other
+      end_done end (source_read list _ has (all_copied is)) moved other = inl refl
 
       pub complete : (end : UpgradeEnd) (status : ℕ) → Copies from to source old new end → HasCause counts end status → EndsWith sink (line_of end) (status_of end) out out' status
           → (Rose (sink.faults out) (sink.faults out') → ⊥) → (status ≡ 0) ⊎ (status ≡ 9)

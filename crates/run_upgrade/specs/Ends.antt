@@ -1,12 +1,11 @@
 -- The status of an upgrade, and its last line. Own.
 use Rattle.std.specs.Prelude.{ℕ, Bool, true, false, List, ◌++◌, codes, decimal}
-use Rattle.log_machine.specs.declared.kept.FoundFault.{FoundFault}
-use Rattle.log_machine.specs.declared.kept.FoundFault.TheVariants as target
-use Rattle.run_upgrade.specs.declared.ending.CopyFault.TheVariants as copying
+use Rattle.log_journal.specs.declared.founding.FoundError.{FoundError}
+use Rattle.log_journal.specs.declared.founding.FoundError.TheVariants as target
 use Rattle.run_upgrade.specs.declared.ending.SourceFault.{SourceFault}
 use Rattle.run_upgrade.specs.declared.ending.SourceFault.TheVariants as source
 use Rattle.run_upgrade.specs.declared.ending.UpgradeEnd.{UpgradeEnd}
-use Rattle.run_upgrade.specs.declared.ending.UpgradeEnd.TheVariants.{Source, Target, Copying, Copied}
+use Rattle.run_upgrade.specs.declared.ending.UpgradeEnd.TheVariants.{Source, Target, NoMemory, Copied}
 
 -- the status of the program
 abbrev pub source_status : SourceFault → ℕ
@@ -17,17 +16,15 @@ source_status (source.Damaged place) = 7
 source_status source.DiskFault = 5
 source_status source.NoMemory = 9
 
-abbrev pub target_status : FoundFault → ℕ
+abbrev pub target_status : FoundError → ℕ
 target_status target.Exists = 6
 target_status target.NotJournal = 6
 target_status target.DiskFault = 5
-target_status target.NoMemory = 9
 
 abbrev pub status_of : UpgradeEnd → ℕ
 status_of (Source fault) = source_status fault
 status_of (Target fault) = target_status fault
-status_of (Copying copying.DiskFault) = 5
-status_of (Copying copying.NoMemory) = 9
+status_of NoMemory = 9
 status_of (Copied count) = 0
 
 -- its last line
@@ -39,11 +36,10 @@ source_line (source.Damaged place) = codes "fault damaged " ++ decimal place ++ 
 source_line source.DiskFault = codes "fault disk source\n"
 source_line source.NoMemory = codes "fault memory\n"
 
-abbrev pub target_line : FoundFault → List ℕ
+abbrev pub target_line : FoundError → List ℕ
 target_line target.Exists = codes "fault office exists\n"
 target_line target.NotJournal = codes "fault target\n"
 target_line target.DiskFault = codes "fault disk target\n"
-target_line target.NoMemory = codes "fault memory\n"
 
 -- where all was copied: how many filings there are
 abbrev pub copied_line : ℕ → List ℕ
@@ -52,8 +48,7 @@ copied_line count = codes "copied " ++ decimal count ++ codes "\n"
 abbrev pub line_of : UpgradeEnd → List ℕ
 line_of (Source fault) = source_line fault
 line_of (Target fault) = target_line fault
-line_of (Copying copying.DiskFault) = codes "fault disk target\n"
-line_of (Copying copying.NoMemory) = codes "fault memory\n"
+line_of NoMemory = codes "fault memory\n"
 line_of (Copied count) = copied_line count
 
 -- the source's disk refused a call
@@ -64,5 +59,4 @@ is_source_fault _ = false
 -- the target's disk did
 abbrev pub is_target_fault : UpgradeEnd → Bool
 is_target_fault (Target target.DiskFault) = true
-is_target_fault (Copying copying.DiskFault) = true
 is_target_fault _ = false

@@ -1,4 +1,3 @@
-pub mod Asks
 pub mod Ends
-pub mod Fronts
+pub mod Targets
 pub mod Upgrades

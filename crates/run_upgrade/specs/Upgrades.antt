@@ -1,27 +1,25 @@
 -- What an upgrade does, by how it ends. A list is read newest first.
-use Rattle.std.specs.Prelude.{◌≡◌, ◌==◌, ℕ, List, length}
+use Rattle.std.specs.Prelude.{◌≡◌, ◌==◌, ◌⊎◌, ℕ, List, length}
 use Rattle.io_traits.specs.declared.sink.Sink.{Ghosts as SinkGhosts}
 use Rattle.aid_filings.specs.declared.filing.Filing.{Filing}
 use Rattle.io_traits.specs.DiskState.{EachImage, EachMoment, IsHonest, IsRead, DiskState}
 use Rattle.io_traits.specs.declared.disk.Disk.{Ghosts}
-use Rattle.log_journal.specs.Founded.{UnbornOrEmpty}
-use Rattle.log_journal.specs.Head.{IsBorn, IsForeign}
+use Rattle.log_journal.specs.Head.{IsBorn, IsForeign, IsOld}
 use Rattle.log_journal.specs.Stands.{IsUnborn}
+use Rattle.log_journal.specs.declared.founding.FoundError.{FoundError}
+use Rattle.log_journal.specs.declared.founding.FoundError.TheVariants as target
 use Rattle.log_machine.specs.Faulty.{IsFaultyAt}
 use Rattle.log_machine.specs.Recovers as list
-use Rattle.log_machine.specs.declared.kept.FoundFault.{FoundFault}
 use Rattle.office_log.specs.Recovers.{Recovers}
-use Rattle.office_log.specs.Scheme.{filing_scheme, office_header, office_scheme, old_header}
+use Rattle.office_log.specs.Scheme.{filing_scheme, office_header, old_header}
 use Rattle.log_runs.specs.Ends.{EndsWith, Moved}
-use Rattle.log_session.specs.Sessions.{IsNotFounded}
 use Rattle.office_history.specs.Answer.{IsLegal}
 use Rattle.run_upgrade.specs.Ends.{is_source_fault, is_target_fault, line_of, status_of}
-use Rattle.run_upgrade.specs.Fronts.{UnbornOrFront, under_plain}
-use Rattle.run_upgrade.specs.declared.ending.CopyFault.{CopyFault}
+use Rattle.run_upgrade.specs.Targets.{NoneOrAll, under_plain}
 use Rattle.run_upgrade.specs.declared.ending.SourceFault.{SourceFault}
 use Rattle.run_upgrade.specs.declared.ending.SourceFault.TheVariants as source
 use Rattle.run_upgrade.specs.declared.ending.UpgradeEnd.{UpgradeEnd}
-use Rattle.run_upgrade.specs.declared.ending.UpgradeEnd.TheVariants.{Source, Target, Copying, Copied}
+use Rattle.run_upgrade.specs.declared.ending.UpgradeEnd.TheVariants.{Source, Target, NoMemory, Copied}
 
 -- the file stands for this list of filings without stamps, and the list is legal
 abbrev pub RecoversOld : List ℕ → List Filing → Type 0
@@ -41,23 +39,35 @@ pub record HasList {A : Type 0} (disk : Ghosts A) (history : List Filing) (sourc
   pub recovers : IsHonest (disk.tells source) → RecoversOld (disk.tells source).reads history
   pub legal : IsLegal history
 
--- A list was founded in an unborn target, and filings of this list were copied into it: at each moment each image is unborn or
--- recovers a front of the list, where each one was unborn, or an office without filings, to begin with.
-pub record IsBegun {B : Type 0} (disk : Ghosts B) (history : List Filing) (old new : B) : Type 0 where
+-- what a target is at each moment of a copy: each image is one of those that there were before, or no office, or recovers the whole list
+abbrev pub IsNeverHalf : {B : Type 0} → Ghosts B → List Filing → B → B → Type 0
+IsNeverHalf disk history old new = IsHonest (disk.tells old)
+    → EachMoment (disk.tells old) (disk.tells new) (λ file. (disk.tells old).image file ⊎ NoneOrAll history file)
+
+-- why this list wasn't copied: what the bytes of the target show, and what was written
+pub record IsNotCopied {B : Type 0} (disk : Ghosts B) (history : List Filing) (error : FoundError) (old new : B) : Type 0 where
+  pub honest : (disk.tells new).honest ≡ (disk.tells old).honest
+  pub exists : IsHonest (disk.tells old) → error ≡ target.Exists
+      → (IsBorn office_header (disk.tells old).reads ⊎ IsOld office_header (disk.tells old).reads) × IsRead (disk.tells old) (disk.tells new)
+  pub foreign : IsHonest (disk.tells old) → error ≡ target.NotJournal → IsForeign office_header (disk.tells old).reads × IsRead (disk.tells old) (disk.tells new)
+  pub untouched : IsHonest (disk.tells old) → IsUnborn (disk.tells old).reads ⊎ IsRead (disk.tells old) (disk.tells new)
+  pub moments : IsNeverHalf disk history old new
+
+-- this list was copied into an unborn target: each image recovers the whole list
+pub record IsCopied {B : Type 0} (disk : Ghosts B) (history : List Filing) (old new : B) : Type 0 where
   pub honest : (disk.tells new).honest ≡ (disk.tells old).honest
   pub unborn : IsHonest (disk.tells old) → IsUnborn (disk.tells old).reads
-  pub moments : IsHonest (disk.tells old) → EachImage (disk.tells old) (UnbornOrEmpty office_header)
-      → EachMoment (disk.tells old) (disk.tells new) (UnbornOrFront history)
+  pub images : IsHonest (disk.tells old) → EachImage (disk.tells new) (λ file. Recovers file (under_plain history))
+  pub moments : IsNeverHalf disk history old new
 
 -- What becomes of a target that this list is copied into.
 pub data Fills {B : Type 0} (disk : Ghosts B) (history : List Filing) (old new : B) : UpgradeEnd → Type 0 where
-  -- no list was founded
-  target_refused : (fault : FoundFault) → IsNotFounded disk office_scheme fault old new → Fills disk history old new (Target fault)
-  -- one was, and the copying stopped
-  stopped : (fault : CopyFault) → IsBegun disk history old new → Fills disk history old new (Copying fault)
-  -- all was copied: each image recovers the whole list
-  copied : IsBegun disk history old new → (IsHonest (disk.tells old) → EachImage (disk.tells new) (λ file. Recovers file (under_plain history)))
-      → Fills disk history old new (Copied (length history))
+  -- there was no memory for a filing's bytes, and no call was made
+  starved : new ≡ old → Fills disk history old new NoMemory
+  -- the target was refused, or its disk failed
+  not_copied : (error : FoundError) → IsNotCopied disk history error old new → Fills disk history old new (Target error)
+  -- all was copied
+  all_copied : IsCopied disk history old new → Fills disk history old new (Copied (length history))
 
 -- An upgrade up to its last line: the source gives no list, and no call is made on the target; or it gives one, which is copied.
 pub data Copies {A B : Type 0} (from : Ghosts A) (to : Ghosts B) (source : A) (old new : B) : UpgradeEnd → Type 0 where

@@ -6,7 +6,7 @@ ghost use Rattle.run_upgrade.specs.Ends.{source_line as source_line_of, source_s
 
 use arrayvec::ArrayString;
 use io_traits::Sink;
-use log_machine::FoundFault;
+use log_journal::FoundError;
 use log_runs::{WRITE_FAILED, number_line, put};
 
 /// Why the source gives no list.
@@ -26,24 +26,15 @@ pub enum SourceFault {
     NoMemory,
 }
 
-/// Why the copying stopped.
-#[derive(Clone, Copy, PartialEq, Eq)]
-pub enum CopyFault {
-    /// The target's disk refused a call.
-    DiskFault,
-    /// There is no memory for a filing more.
-    NoMemory,
-}
-
 /// How an upgrade ended, before its last line was written.
 #[derive(Clone, Copy, PartialEq, Eq)]
 pub enum UpgradeEnd {
     /// The source gave no list. The target had no call.
     Source(SourceFault),
-    /// No list was founded in the target.
-    Target(FoundFault),
-    /// The copying stopped.
-    Copying(CopyFault),
+    /// The target was refused, or its disk refused a call.
+    Target(FoundError),
+    /// There is no memory for a filing's bytes. The target had no call.
+    NoMemory,
     /// All filings were copied, so many.
     Copied(u64),
 }
@@ -57,9 +48,8 @@ impl UpgradeEnd {
     {
         match self {
             UpgradeEnd::Source(fault) => source_status(fault),
-            UpgradeEnd::Target(fault) => target_status(fault),
-            UpgradeEnd::Copying(CopyFault::DiskFault) => 5,
-            UpgradeEnd::Copying(CopyFault::NoMemory) => 9,
+            UpgradeEnd::Target(error) => target_status(error),
+            UpgradeEnd::NoMemory => 9,
             UpgradeEnd::Copied(_) => 0,
         }
     }
@@ -70,9 +60,8 @@ impl UpgradeEnd {
     {
         match self {
             UpgradeEnd::Source(fault) => source_line(fault),
-            UpgradeEnd::Target(fault) => target_line(fault),
-            UpgradeEnd::Copying(CopyFault::DiskFault) => text_line("fault disk target\n"),
-            UpgradeEnd::Copying(CopyFault::NoMemory) => text_line("fault memory\n"),
+            UpgradeEnd::Target(error) => target_line(error),
+            UpgradeEnd::NoMemory => text_line("fault memory\n"),
             UpgradeEnd::Copied(count) => number_line("copied ", count),
         }
     }
@@ -100,14 +89,13 @@ fn source_status(fault: SourceFault) -> u8
     }
 }
 
-// The status where no list was founded in the target.
-fn target_status(fault: FoundFault) -> u8
-    ensures { result ≡ target_status_of fault }
+// The status where the target was refused, or its disk failed.
+fn target_status(error: FoundError) -> u8
+    ensures { result ≡ target_status_of error }
 {
-    match fault {
-        FoundFault::Exists | FoundFault::NotJournal => 6,
-        FoundFault::DiskFault => 5,
-        FoundFault::NoMemory => 9,
+    match error {
+        FoundError::Exists | FoundError::NotJournal => 6,
+        FoundError::DiskFault => 5,
     }
 }
 
@@ -125,15 +113,14 @@ fn source_line(fault: SourceFault) -> ArrayString<40>
     }
 }
 
-// The last line where no list was founded in the target.
-fn target_line(fault: FoundFault) -> ArrayString<40>
-    ensures { result.bytes ≡ target_line_of fault }
+// The last line where the target was refused, or its disk failed.
+fn target_line(error: FoundError) -> ArrayString<40>
+    ensures { result.bytes ≡ target_line_of error }
 {
-    match fault {
-        FoundFault::Exists => text_line("fault office exists\n"),
-        FoundFault::NotJournal => text_line("fault target\n"),
-        FoundFault::DiskFault => text_line("fault disk target\n"),
-        FoundFault::NoMemory => text_line("fault memory\n"),
+    match error {
+        FoundError::Exists => text_line("fault office exists\n"),
+        FoundError::NotJournal => text_line("fault target\n"),
+        FoundError::DiskFault => text_line("fault disk target\n"),
     }
 }
 

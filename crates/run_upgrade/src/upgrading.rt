@@ -3,25 +3,24 @@ ghost use Rattle.std.specs.Prelude.{◌≡◌, ◌⊎◌, ◌≤◌, ℕ, List, 
 ghost use Rattle.io_traits.specs.Faults.{Rose};
 ghost use Rattle.aid_filings.specs.declared.filing.Filing.{Filing};
 ghost use Rattle.io_traits.specs.DiskState.{EachImage, EachMoment, IsHonest, IsRead};
-ghost use Rattle.log_journal.specs.Founded.{UnbornOrEmpty};
 ghost use Rattle.log_journal.specs.Stands.{IsUnborn};
 ghost use Rattle.office_log.specs.Recovers.{Recovers};
-ghost use Rattle.office_log.specs.Scheme.{office_header};
 ghost use Rattle.log_runs.specs.Ends.{Moved};
 ghost use Rattle.office_history.specs.Answer.{IsLegal};
 ghost use Rattle.run_upgrade.specs.Ends.{copied_line, is_source_fault, is_target_fault};
-ghost use Rattle.run_upgrade.specs.Fronts.{UnbornOrFront, under_plain};
+ghost use Rattle.run_upgrade.specs.Targets.{NoneOrAll, under_plain};
 ghost use Rattle.run_upgrade.specs.Upgrades.{Copies, Fills, IsOldOffice, RecoversOld, Upgrades};
 
-use crate::copying::copy_filings;
 use crate::ending::UpgradeEnd;
+use crate::filings::PlainFilings;
 use crate::source::read_source;
-use io_traits::{Disk, Sink};
-use log_machine::{Log, StateMachine};
+use io_traits::{Disk, PayloadBuffer, Sink};
+use log_builds::build;
+use log_machine::StateMachine;
 use office_log::{OfficeMachine, StampedOfficeMachine};
 use std::alloc::Global;
 
-// Founds a list in the target, and copies the filings of an office into it.
+// Builds the target of the filings of an office.
 fn copy<B: Disk>(alloc: Global, office: OfficeMachine, target: B) -> (UpgradeEnd, B)
     requires legal { IsLegal (⟦<OfficeMachine as StateMachine>⟧.history office) }
     ensures fills { Fills B.Disk (⟦<OfficeMachine as StateMachine>⟧.history office) target result.1 result.0 }
@@ -31,19 +30,19 @@ fn copy<B: Disk>(alloc: Global, office: OfficeMachine, target: B) -> (UpgradeEnd
     ensures unmoved { is_target_fault result.0 ≡ false → B.faults result.1 ≡ B.faults target }
     ensures target { is_source_fault result.0 ≡ false }
 {
-    let filings = office.into_filings(alloc);
-    let count = filings.len() as u64;
-    match Log::<B, StampedOfficeMachine>::found(alloc, target) {
-        Ok(mut kept) => {
-            let copied = copy_filings(filings, &mut kept);
-            kept.sound();
-            let target = kept.into_disk();
-            match copied {
-                Ok(()) => (UpgradeEnd::Copied(count), target),
-                Err(fault) => (UpgradeEnd::Copying(fault), target),
-            }
-        }
-        Err((fault, target)) => (UpgradeEnd::Target(fault), target),
+    let Ok(mut room) = PayloadBuffer::new(alloc) else {
+        return (UpgradeEnd::NoMemory, target);
+    };
+    let count = u64::from(office.front());
+    let mut filings = PlainFilings::new(office.into_filings(alloc));
+    match build(
+        target,
+        StampedOfficeMachine::header(),
+        &mut filings,
+        &mut room,
+    ) {
+        Ok(target) => (UpgradeEnd::Copied(count), target),
+        Err((error, target)) => (UpgradeEnd::Target(error), target),
     }
 }
 
@@ -67,7 +66,7 @@ fn read_and_copy<A: Disk, B: Disk>(alloc: Global, source: A, target: B) -> (Upgr
     }
 }
 
-/// Copies the filings of a journal of version 1, the source, into one of version 2 that is founded in the target, each under
+/// Copies the filings of a journal of version 1, the source, into one of version 2 that is built in the target, each under
 /// the plain stamp, and writes `copied` and their number. The whole source is read and judged before any call on the target,
 /// and is never written.
 ///
@@ -89,10 +88,10 @@ pub fn upgrade<A: Disk, B: Disk, K: Sink>(
     ensures source_read { IsHonest (A.tells source) → IsRead (A.tells source) (A.tells result.1) }
     ensures untouched { IsHonest (B.tells target) → IsUnborn (B.tells target).reads ⊎ IsRead (B.tells target) (B.tells result.2) }
 
-    // At every moment each image of the target is unborn or recovers a front of the source's list, where each one was unborn, or
-    // an office without filings, to begin with.
+    // At every moment each image of the target is one of those that there were to begin with, or no office, or recovers the source's
+    // whole list: a part of the list is never an office.
     ensures moments { (history : List Filing) → IsHonest (A.tells source) → RecoversOld (A.tells source).reads history → IsHonest (B.tells target)
-        → EachImage (B.tells target) (UnbornOrEmpty office_header) → EachMoment (B.tells target) (B.tells result.2) (UnbornOrFront history) }
+        → EachMoment (B.tells target) (B.tells result.2) (λ file. (B.tells target).image file ⊎ NoneOrAll history file) }
 
     // At 0 each image of the target recovers the whole list, and its length was written.
     ensures copied { (history : List Filing) → result.0 ≡ 0 → IsHonest (A.tells source) → RecoversOld (A.tells source).reads history

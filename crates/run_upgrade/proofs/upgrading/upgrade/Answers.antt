@@ -1,4 +1,4 @@
-use Rattle.run_upgrade.proofs.Ended.{all_copied, complete, moments, told_moved, untouched}
+use Rattle.run_upgrade.proofs.Ended.{complete, copied_and_told, moments, told_moved, untouched}
 use Rattle.run_upgrade.proofs.upgrading.upgrade.Goals as goal
 
 pub returns-clause-upgrades : goal.returns-clause-upgrades
@@ -21,19 +21,19 @@ returns-clause-untouched g c honest =
     untouched g.A.Disk g.B.Disk c.args.source c.args.target done.result.2 done.result.0 done.ensures.copies honest
 
 pub returns-clause-moments : goal.returns-clause-moments
-returns-clause-moments g c history sincere recovers honest each =
+returns-clause-moments g c history sincere recovers =
     let done = c.read_and_copy-end in
-    moments g.A.Disk g.B.Disk c.args.source c.args.target done.result.2 g.met.B.Disk.only_now done.result.0 done.ensures.copies history sincere recovers honest each
+    moments g.A.Disk g.B.Disk c.args.source c.args.target done.result.2 g.met.B.Disk.only_now done.result.0 done.ensures.copies history sincere recovers
 
 pub returns-clause-copied : goal.returns-clause-copied
 returns-clause-copied g c history none sincere recovers honest =
     let done = c.read_and_copy-end in
-    (all_copied g.A.Disk g.B.Disk c.args.source c.args.target done.result.2 g.K.Sink c.args.out.now c.tell.new.out done.result.0 c.tell.result c.tell.ensures done.ensures.copies none history sincere recovers).0 honest
+    (copied_and_told g.A.Disk g.B.Disk c.args.source c.args.target done.result.2 g.K.Sink c.args.out.now c.tell.new.out done.result.0 c.tell.result c.tell.ensures done.ensures.copies none history sincere recovers).0 honest
 
 pub returns-clause-told : goal.returns-clause-told
 returns-clause-told g c history none sincere recovers sound =
     let done = c.read_and_copy-end in
-    (all_copied g.A.Disk g.B.Disk c.args.source c.args.target done.result.2 g.K.Sink c.args.out.now c.tell.new.out done.result.0 c.tell.result c.tell.ensures done.ensures.copies none history sincere recovers).1.written sound
+    (copied_and_told g.A.Disk g.B.Disk c.args.source c.args.target done.result.2 g.K.Sink c.args.out.now c.tell.new.out done.result.0 c.tell.result c.tell.ensures done.ensures.copies none history sincere recovers).1.written sound
 
 pub returns-clause-complete : goal.returns-clause-complete
 returns-clause-complete g c office honest unborn no_source no_target no_sink =
