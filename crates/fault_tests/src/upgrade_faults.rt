@@ -17,7 +17,7 @@ fn assert_whole_or_none(rt: &impl Abort, alloc: Global, left: MemoryDisk) -> Res
     let again = disk(alloc, (left.image(), &[]), None)?;
     match opened(alloc, again) {
         Ok(office) => assert_plain(rt, office),
-        Err(error) => assert_eq!(rt; error, OpenError::NoOffice),
+        Err(error) => assert!(rt; matches!(error, OpenError::NoOffice | OpenError::NotJournal)),
     }
     Ok(())
 }
