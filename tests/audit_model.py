@@ -25,7 +25,7 @@ CODES = {code: kind for kind, (code, _) in records.KINDS.items()}
 NAMES = {
     model.School: "school", model.Calendar: "calendar", model.PriorUse: "prior", model.Application: "apply", model.Enrolment: "enrol",
     model.Origination: "originate", model.Payment: "pay", model.Withdrawal: "withdraw", model.Repayment: "repay",
-    model.Adjustment: "adjust",
+    model.Adjustment: "adjust", model.ChangedCost: "cost", model.Sending: "sent", model.Amendment: "amend",
 }
 
 

@@ -78,6 +78,7 @@ FLAG, EITHER_SIGN, AMOUNT = whole(0, 1), whole(-99_999_999, 99_999_999), whole(0
 STUDENT, YEAR, TERM, BREAKS = whole(1, 10**12 - 1), whole(2000, 2099), whole(1, 8), whole(0, 8)
 SIDE = [EITHER_SIGN, *[AMOUNT] * 8, EITHER_SIGN, *[AMOUNT] * 6]
 KEY = [whole(0, 999_999), whole(1, 10**12 - 1)]
+REFERENCE = whole(0, 10**12 - 1)
 MONEY = [STUDENT, YEAR, TERM, program, cents]
 KINDS = {
     "school": [whole(1, 999_999), whole(2, 3), whole(1, 40)],
@@ -93,6 +94,9 @@ KINDS = {
     "withdraw": [STUDENT, YEAR, TERM, day, day, *[cents] * 7],
     "repay": MONEY,
     "adjust": MONEY,
+    "cost": [STUDENT, YEAR, whole(0, 999_999)],
+    "sent": [*MONEY, day, REFERENCE],
+    "amend": [*KEY, whole(1, 3), whole(1, 7), REFERENCE],
 }
 
 
@@ -178,7 +182,8 @@ def made(kind, school, number, *rest):
         return model.Withdrawal(school, number, *rest[:6], tuple(rest[6:]))
     plain = {
         "school": model.School, "prior": model.PriorUse, "enrol": model.Enrolment, "originate": model.Origination,
-        "pay": model.Payment, "repay": model.Repayment, "adjust": model.Adjustment,
+        "pay": model.Payment, "repay": model.Repayment, "adjust": model.Adjustment, "cost": model.ChangedCost, "sent": model.Sending,
+        "amend": model.Amendment,
     }
     return plain[kind](school, number, *rest)
 

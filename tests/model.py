@@ -273,7 +273,16 @@ class Enrolment(Filing):
 
 @dataclass(frozen=True)
 class Origination(Filing):
-    """A student's cost of attendance at a school in a year, in dollars (HEA 472)."""
+    """A student's cost of attendance at a school in a year, in dollars (HEA 472): the first one."""
+    student: int
+    year: int
+    cost: int
+
+
+@dataclass(frozen=True)
+class ChangedCost(Filing):
+    """Another cost of attendance of an originated student at the school in the year, in dollars; the one filed last is in
+    force (HEA 472)."""
     student: int
     year: int
     cost: int
@@ -312,6 +321,30 @@ class Withdrawal(Filing):
     determined: date
     charges: int
     could: tuple
+
+
+@dataclass(frozen=True)
+class Sending(Filing):
+    """What the school sent back of a program to the government, after a withdrawal from the term: cents, the day on which
+    they were sent, and a number by which the school finds it (34 CFR 668.22(g), (j))."""
+    student: int
+    year: int
+    term: int
+    program: int
+    cents: int
+    day: date
+    reference: int
+
+
+@dataclass(frozen=True)
+class Amendment(Filing):
+    """A record of a correction: the key of the filing that was corrected, what was done, why, and a number of the paper
+    behind it. It changes nothing. Own."""
+    of_school: int
+    of_number: int
+    change: int
+    reason: int
+    reference: int
 
 
 # Answers (own)
@@ -690,7 +723,7 @@ def earliest(history, kind, **wanted):
 
 
 def place_of(filing):
-    """Where an enrolment, an amount or a withdrawal stands: student, school, year and term. Own."""
+    """Where an enrolment, an amount, a withdrawal or a sending stands: student, school, year and term. Own."""
     return {"student": filing.student, "school": filing.school, "year": filing.year, "term": filing.term}
 
 
@@ -720,6 +753,16 @@ def withdrawal_at(history, filing):
 def origination_at(history, filing):
     """The position of the origination at a filing's school in its year, and the origination. Own."""
     return earliest(history, Origination, student=filing.student, school=filing.school, year=filing.year)
+
+
+def cost_of(history, student, school, year):
+    """The cost of attendance in force, in dollars: of the origination and the changed costs the one that was filed last, 0
+    without any. HEA 472."""
+    filed = [
+        filing.cost for _, filing in filings_of(history, (Origination, ChangedCost))
+        if (filing.student, filing.school, filing.year) == (student, school, year)
+    ]
+    return filed[-1] if filed else 0
 
 
 def application_of(history, student, year):
@@ -785,6 +828,26 @@ def net(history, student, school=None, year=None, term=None, program=None):
         if isinstance(filing, (Amount, Withdrawal)) and filing.student == student
         and school in (None, filing.school) and year in (None, filing.year) and term in (None, filing.term)
     )
+
+
+def returned(history, place, program):
+    """The cents of a program that the school has to send back for a term: what the worksheet of the withdrawal from it
+    returns. 34 CFR 668.22(g), (i)."""
+    position, _ = earliest(history, Withdrawal, **place)
+    return sheet_at(history, position).returned[program] if position else 0
+
+
+def sendings_of(history, place, program):
+    """What was sent back of a program for a term, in the order in which it was filed. 34 CFR 668.22(j)."""
+    return [
+        filing for _, filing in filings_of(history, Sending)
+        if filing.program == program and place_of(filing) == place
+    ]
+
+
+def sent(history, place, program):
+    """The cents of a program that were sent back for a term. 34 CFR 668.22(j)."""
+    return sum(sending.cents for sending in sendings_of(history, place, program))
 
 
 def used(history, student, year=None, more=0, award=None):
@@ -913,9 +976,9 @@ def main_terms_on_file(history, calendar):
     return (main, school.terms) if main >= school.terms else None
 
 
-def unknown_applying_school(history, application):
+def unknown_desk(history, filing):
     """The key's school is unknown, and isn't the office's own desk. Own."""
-    return None if application.school == OWN_DESK else unknown_school(history, application)
+    return None if filing.school == OWN_DESK else unknown_school(history, filing)
 
 
 def no_book(history, application):
@@ -1092,9 +1155,10 @@ def fseog_past_year(history, filing, cents):
 
 
 def aid_past_cost(history, filing, cents):
-    """So much is past the cost of attendance at the school. HEA 401(b)(3) for Pell; own for all programs together."""
-    _, origination = origination_at(history, filing)
-    return over(net(history, filing.student, filing.school, filing.year) + cents, 100 * origination.cost)
+    """So much is past the cost of attendance at the school that is in force. HEA 401(b)(3) for Pell; own for all programs
+    together."""
+    cost = cost_of(history, filing.student, filing.school, filing.year)
+    return over(net(history, filing.student, filing.school, filing.year) + cents, 100 * cost)
 
 
 def past_term(history, payment):
@@ -1170,6 +1234,32 @@ def past_net(history, adjustment):
     return over(adjustment.cents, net(history, program=adjustment.program, **place_of(adjustment)))
 
 
+def cost_below_paid(history, changed):
+    """More is paid of all programs at the school in the year than the changed cost. HEA 401(b)(3) for Pell; own for all
+    programs together."""
+    return over(net(history, changed.student, changed.school, changed.year), 100 * changed.cost)
+
+
+def not_withdrawn(history, sending):
+    """The student hasn't withdrawn from the term. 34 CFR 668.22(g)."""
+    position, _ = withdrawal_at(history, sending)
+    return None if position else (sending.student, sending.term)
+
+
+def sent_too_early(history, sending):
+    """Sent before the day on which the school determined the withdrawal. 34 CFR 668.22(j)(1)."""
+    _, withdrawal = withdrawal_at(history, sending)
+    if sending.day < withdrawal.determined:
+        return day_number(sending.day), day_number(withdrawal.determined)
+    return None
+
+
+def past_returned(history, sending):
+    """Past what the school has to send back of the program. 34 CFR 668.22(g), (i)."""
+    place = place_of(sending)
+    return over(sent(history, place, sending.program) + sending.cents, returned(history, place, sending.program))
+
+
 # The rules of each kind with their numbers, in the order in which they are tried (own).
 RULES = {
     Book: [(90, no_room), (14, not_own_desk), (11, book_on_file)],
@@ -1182,7 +1272,7 @@ RULES = {
         (90, no_room), (14, not_own_desk), (81, prior_above_limit), (80, prior_on_file), (82, pell_before_prior),
     ],
     Application: [
-        (90, no_room), (12, unknown_applying_school), (10, no_book), (92, not_fit), (91, transaction_not_above),
+        (90, no_room), (12, unknown_desk), (10, no_book), (92, not_fit), (91, transaction_not_above),
         (93, past_limits_corrected),
     ],
     Enrolment: [
@@ -1204,6 +1294,12 @@ RULES = {
     Adjustment: [
         (90, no_room), (12, unknown_school), (30, unknown_term), (71, no_amount), (34, withdrawn), (72, past_net),
     ],
+    ChangedCost: [(90, no_room), (12, unknown_school), (50, not_originated), (42, no_cost), (45, cost_below_paid)],
+    Sending: [
+        (90, no_room), (12, unknown_school), (64, not_withdrawn), (71, no_amount), (65, sent_too_early),
+        (66, past_returned),
+    ],
+    Amendment: [(90, no_room), (12, unknown_desk)],
 }
 
 
@@ -1299,10 +1395,9 @@ POLICIES = {"level": level, "quarter": quarter}
 
 
 def need(history, student, school, year):
-    """The cost of attendance less all net aid at the school in the year, in whole dollars rounded down. HEA 471. Own: the
-    rounding, and that aid is what this office knows of."""
-    _, origination = earliest(history, Origination, student=student, school=school, year=year)
-    return max(0, 100 * origination.cost - net(history, student, school, year)) // 100
+    """The cost of attendance in force less all net aid at the school in the year, in whole dollars rounded down. HEA 471.
+    Own: the rounding, and that aid is what this office knows of."""
+    return max(0, 100 * cost_of(history, student, school, year) - net(history, student, school, year)) // 100
 
 
 def is_candidate(history, student, school, year, term):

@@ -56,6 +56,7 @@ class Rows:
         """A row of some kind, those of money most often."""
         kinds = [self.pay] * 10 + [self.withdraw] * 3 + [self.repay] * 3 + [self.adjust] * 3 + [self.enrol] * 3
         kinds += [self.application] * 3 + [self.originate] * 2 + [self.calendar] * 2 + [self.school] + [self.prior] * 2
+        kinds += [self.change_cost] * 2 + [self.send_back] * 3 + [self.amend]
         return self.rng.choice(kinds)()
 
     # Keys, places and figures
@@ -180,8 +181,21 @@ class Rows:
             code, student, year, _ = self.place()
         return self.row("originate", code, student, year, self.rng.choice([24_000, 24_000, 24_000, 9_000, 3_000, 1, 0, 999_999]))
 
+    def change_cost(self):
+        """A changed cost, mostly at what is paid there of the year, a dollar below it or above it."""
+        code, student, year, _ = self.place(self.rng.choice([model.Payment, model.Payment, model.Enrolment]))
+        paid = model.net(self.history, student, code, year)
+        least = -(-paid // 100)
+        costs = [least, least + 1, max(0, least - 1), paid // 100, 2 * least] if paid else [0, 1, 3_000, 9_000]
+        return self.row("cost", code, student, year, min(999_999, self.rng.choice([*costs, 24_000, 999_999])))
+
+    def cost_left(self, place):
+        """What the cost in force still leaves at a school in a year, in cents."""
+        code, student, year, _ = place
+        return 100 * model.cost_of(self.history, student, code, year) - model.net(self.history, student, code, year)
+
     def room(self, place):
-        """What the term, the year and the cost still leave for Pell, in cents."""
+        """What the term, the year and the lifetime limit still leave for Pell, in cents."""
         code, student, year, term = place
         if not model.school_at(self.history, code)[0]:
             return [100_000]
@@ -205,7 +219,7 @@ class Rows:
             amount = self.near(*self.room(place))
             amount = amount if self.rng.random() < 0.1 else amount // 100 * 100
         else:
-            amount = self.near(100_000, 400_000, 250_000, 1_000_000, 2_400_000)
+            amount = self.near(100_000, 400_000, 250_000, 1_000_000, 2_400_000, self.cost_left(place))
         return self.row("pay", *place, program, desk.money(amount))
 
     def withdrawal_of(self, place):
@@ -246,6 +260,37 @@ class Rows:
             net = model.net(self.history, student, code, year, term, payment.program)
             program, amount = PROGRAMS[payment.program], self.near(net, net // 2)
         return self.row("adjust", *place, program, desk.money(amount))
+
+    def send_back(self):
+        """A return that is sent back: mostly what is left of one or about that, on the day on which it was determined, the day
+        before, or a day about that on which it is due. Where nobody has withdrawn it is mostly a withdrawal."""
+        rng, place = self.rng, self.place()
+        program, amount, day = rng.choice(PROGRAMS), self.near(10_000), date(self.years[0], 10, 1)
+        withdrawal = self.paid_withdrawal()
+        if withdrawal is None and rng.random() < 0.8:
+            return self.withdraw()
+        if withdrawal and rng.random() < 0.95:
+            place = withdrawal.school, withdrawal.student, withdrawal.year, withdrawal.term
+            returned = model.sheet_at(self.history, self.history.index(withdrawal) + 1).returned
+            chosen = rng.choice([each for each in model.PROGRAMS if returned[each]] or [model.PELL])
+            left = returned[chosen] - model.sent(self.history, model.place_of(withdrawal), chosen)
+            program, amount = PROGRAMS[chosen], self.near(*([left, left, left // 3] if left else [10_000]))
+            day = withdrawal.determined + timedelta(rng.choice([0, 0, 1, 20, 44, 45, 46, 100, -1]))
+        reference = rng.choice([0, 1, 4711, 10**12 - 1, rng.randrange(10**12)])
+        return self.row("sent", *place, program, desk.money(amount), day, reference)
+
+    def paid_withdrawal(self):
+        """A withdrawal from a term in which something was paid, or any one, or none."""
+        places = [model.place_of(payment) for _, payment in model.filings_of(self.history, model.Payment)]
+        paid = [filing for _, filing in model.filings_of(self.history, model.Withdrawal) if model.place_of(filing) in places]
+        return self.rng.choice(paid) if paid else self.any(model.Withdrawal)
+
+    def amend(self):
+        """A record of a correction of a filing that stands, or of any key."""
+        rng = self.rng
+        of_school, of_number = self.any_key() if rng.random() < 0.8 else (rng.randrange(10**6), rng.randint(1, 10**12 - 1))
+        code, reference = rng.choice([0, 0, *self.codes]), rng.choice([0, 4711, 10**12 - 1])
+        return self.row("amend", code, of_school, of_number, rng.randint(1, 3), rng.randint(1, 7), reference)
 
     # Rows that are none
 

@@ -20,7 +20,8 @@ KINDS = {
     model.School: (2, [4, 1, 1]), model.Calendar: (3, [2, 1, 1, 4, 4, 1] + [4] * 16), model.PriorUse: (4, [8, 4]),
     model.Application: (5, [8, 2, 1, 2, 1, 1, *[1] * 11, *SIDE, 1, 1, 1, *SIDE]), model.Enrolment: (6, [8, 2, 1, 1]),
     model.Origination: (7, [8, 2, 4]), model.Payment: (8, MONEY), model.Withdrawal: (9, [8, 2, 1, 4, 4, *[8] * 7]),
-    model.Repayment: (10, MONEY), model.Adjustment: (11, MONEY),
+    model.Repayment: (10, MONEY), model.Adjustment: (11, MONEY), model.ChangedCost: (12, [8, 2, 4]), model.Sending: (13, [*MONEY, 4, 8]),
+    model.Amendment: (14, [4, 8, 1, 1, 8]),
 }
 # The fields of an application and of a calendar where they don't stand in the order of the model.
 ANSWERS = ["married", "graduate", "bachelor", "veteran", "dependents", "orphan", "ward", "foster", "emancipated", "homeless"]

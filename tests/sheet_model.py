@@ -1,5 +1,6 @@
 """The sheets of an office in plain Python, on its history and the stamps of its filings: what `aid_office sheet` writes, apart from the
 proved code."""
+from dataclasses import dataclass
 from datetime import date, timedelta
 
 import desk
@@ -9,6 +10,7 @@ import records
 KINDS = {
     model.School: "school", model.Calendar: "calendar", model.PriorUse: "prior", model.Application: "apply", model.Enrolment: "enrol",
     model.Origination: "originate", model.Payment: "pay", model.Withdrawal: "withdraw", model.Repayment: "repay", model.Adjustment: "adjust",
+    model.ChangedCost: "cost", model.Sending: "sent", model.Amendment: "amend",
 }
 
 
@@ -30,8 +32,9 @@ def field_texts(filing):
     numbers = records.numbers_of(filing)
     if isinstance(filing, model.Calendar):
         return [*map(str, numbers[:3]), *map(day, numbers[3:5]), str(numbers[5]), *map(day, numbers[6:])]
-    if isinstance(filing, model.Amount):
-        return [*map(str, numbers[:3]), desk.PROGRAM_WORDS[numbers[3]], desk.money(numbers[4])]
+    if isinstance(filing, (model.Amount, model.Sending)):
+        behind = [day(numbers[5]), str(numbers[6])] if isinstance(filing, model.Sending) else []
+        return [*map(str, numbers[:3]), desk.PROGRAM_WORDS[numbers[3]], desk.money(numbers[4]), *behind]
     if isinstance(filing, model.Withdrawal):
         return [*map(str, numbers[:3]), *map(day, numbers[3:5]), *map(desk.money, numbers[5:])]
     return [*map(str, numbers)]
@@ -87,8 +90,8 @@ def ledger_lines(history, position, stamp, outcome):
         return [f"{front_of_line(position, stamp, filing, '-', '-', 'prior')} {filing.units} units"]
     if isinstance(filing, model.Application):
         return [f"{front_of_line(position, stamp, filing, filing.year, '-', 'apply')} {desk.outcome_text(outcome)}"]
-    if isinstance(filing, model.Origination):
-        return [f"{front_of_line(position, stamp, filing, filing.year, '-', 'originate')} {filing.cost} dollars"]
+    if isinstance(filing, (model.Origination, model.ChangedCost)):
+        return [f"{front_of_line(position, stamp, filing, filing.year, '-', KINDS[type(filing)])} {filing.cost} dollars"]
     if isinstance(filing, model.Enrolment):
         return [f"{front_of_line(position, stamp, filing, filing.year, filing.term, 'enrol')} {filing.credits} credits"]
     if isinstance(filing, model.Withdrawal):
@@ -97,6 +100,9 @@ def ledger_lines(history, position, stamp, outcome):
             money_line(history, position, stamp, filing, "return", program, -cents)
             for program, cents in enumerate(returned) if cents
         ]
+    if isinstance(filing, model.Sending):
+        sent = f"{desk.PROGRAM_WORDS[filing.program]:5} {desk.money(filing.cents)} {filing.day.isoformat()} {filing.reference}"
+        return [f"{front_of_line(position, stamp, filing, filing.year, filing.term, 'sent')} {sent}"]
     cents = filing.cents if isinstance(filing, model.Payment) else -filing.cents
     return [money_line(history, position, stamp, filing, KINDS[type(filing)], filing.program, cents)]
 
@@ -234,7 +240,17 @@ def return_lines(history, position):
         by_program("", "still owed", [max(0, owed - paid) for owed, paid in zip(lines.owed, repaid)]),
         by_program("", "paid since", since(after, model.Payment, place)),
         by_program("", "net now", now),
+        *sent_lines(history, place, lines.returned),
     ]
+
+
+def sent_lines(history, place, returned):
+    """What the school sent back, and what of its part is still to be sent, where anything was sent."""
+    sent = [model.sent(history, place, program) for program in model.PROGRAMS]
+    if not any(sent):
+        return []
+    left = [part - gone for part, gone in zip(returned, sent)]
+    return [by_program("", "sent back since", sent), by_program("", "still to send back", left)]
 
 
 def withdrawal_sheet(history, school, student, year, term):
@@ -251,6 +267,81 @@ def withdrawal_sheet(history, school, student, year, term):
         " " * 30 + "".join(f"{word:>11}" for word in [*desk.PROGRAM_WORDS, "all"]) + "\n",
         *return_lines(history, position),
     ])
+
+
+# What the schools send back, program by program
+
+@dataclass(frozen=True)
+class Part:
+    """What a school returns of one program after a withdrawal: its position and the withdrawal, the program, the day on which it
+    is due, and what was sent of it."""
+    position: int
+    withdrawal: model.Withdrawal
+    program: int
+    returned: int
+    due: date
+    sendings: list
+
+    @property
+    def sent(self):
+        return sum(sending.cents for sending in self.sendings)
+
+    @property
+    def open(self):
+        return self.returned - self.sent
+
+
+def parts_of(history, school):
+    """The parts that a school returns, by position and program."""
+    parts = []
+    for position, withdrawal in model.filings_of(history, model.Withdrawal):
+        if withdrawal.school == school:
+            place, due = model.place_of(withdrawal), model.due_day(withdrawal)
+            parts += [
+                Part(position, withdrawal, program, cents, due, model.sendings_of(history, place, program))
+                for program, cents in enumerate(model.sheet_at(history, position).returned) if cents
+            ]
+    return parts
+
+
+def day_or_none(told):
+    """A day, or that there is none."""
+    return told.isoformat() if told else "none"
+
+
+def due_sheet(history, today, school):
+    """What `due DAY SCHOOL` prints: what the school has still to send back, of all years, what is due first in front; what is due
+    on no day that has a date comes last, and is never late."""
+    parts = [part for part in parts_of(history, school) if part.open]
+    lines = []
+    for part in sorted(parts, key=lambda part: (part.due is None, part.due or today, part.position, part.program)):
+        filed, late = part.withdrawal, max(0, (today - part.due).days) if part.due else 0
+        lines.append(",".join(map(str, [
+            day_or_none(part.due), late, filed.student, filed.year, filed.term, desk.PROGRAM_WORDS[part.program],
+            *map(desk.money, [part.returned, part.sent, part.open]), part.position, filed.number,
+        ])) + "\n")
+    return "".join(["due,late,student,year,term,program,returned,sent,open,position,number\n", *lines]) if lines else "none\n"
+
+
+def returns_sheet(history, school, year):
+    """What `returns SCHOOL YEAR` prints: each program that the school returns in the year, with what was sent of it and of that
+    after its due day, the day on which the last was sent, and what the student owes and repaid of the program."""
+    lines = []
+    for part in parts_of(history, school):
+        filed, program = part.withdrawal, part.program
+        if filed.year != year:
+            continue
+        last = max((sending.day for sending in part.sendings), default=None)
+        late = sum(sending.cents for sending in part.sendings if part.due and sending.day > part.due)
+        owed = model.sheet_at(history, part.position).owed[program]
+        repaid = since(history, model.Repayment, model.place_of(filed))[program]
+        lines.append(",".join(map(str, [
+            filed.student, filed.term, desk.PROGRAM_WORDS[program], filed.determined.isoformat(), day_or_none(part.due),
+            *map(desk.money, [part.returned, part.sent]), day_or_none(last), *map(desk.money, [late, part.open, owed, repaid]),
+            part.position, filed.number,
+        ])) + "\n")
+    heading = "student,term,program,determined,due,returned,sent,last_sent,sent_late,open,owed,repaid,position,number\n"
+    return "".join([heading, *lines]) if lines else "none\n"
 
 
 # The worksheet of an index and an award

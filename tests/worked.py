@@ -128,6 +128,10 @@ BAD_BOOKS = [
     (b"form = ", "1 book 1"),
 ]
 
+# The worked year: 18 filings. Student 5001 has 2,145 dollars net at school 110. Of term 2 at school 120 there are 65.30 of Pell
+# to send back, as the school determined on 2026-02-05.
+FILED_YEAR = [book(), (["file"], example("year.csv"), example("year.txt").decode())]
+
 # Of the students of school 110 two have one index and are filed in the other order of their numbers, and a third with their index
 # needs less than 100 dollars; one has a higher index; one has withdrawn, one was paid 100.05 dollars of the fund, one is enrolled in
 # term 2 alone, one isn't enrolled, and one isn't originated. The need of 5003 is 499.50 dollars.
@@ -250,12 +254,44 @@ OFFICES = {
             ("enrol,110,9,5001,2025,1,41", "refused 32 41 40"), ("originate,110,9,5001,2025,0", "refused 31 5001 2025"),
         ),
     ],
-    "a year": [book(), (["file"], example("year.csv"), example("year.txt").decode())] + [
+    "a year": FILED_YEAR + [
         report(example(f"year-{which}.txt").decode(), which, *year)
         for which, *year in [("standing", "2025"), ("awards", "2025"), ("returns", "2025"), ("lifetime",)]
     ],
-    "a second year, with a ceiling": [
-        book(), (["file"], example("year.csv"), example("year.txt").decode()),
+    "a changed cost": FILED_YEAR + [
+        rows(
+            ("cost,110,8,5001,2025,2144", "refused 45 214500 214400"), ("cost,110,8,5001,2025,0", "refused 42 0 1"),
+            ("cost,110,8,5002,2025,2145", "refused 50 5002 110"), ("cost,110,8,5001,2025,2145", "accepted 19 noted"),
+            ("pay,110,9,5001,2025,1,unsub,0.01", "refused 57 214501 214500"),
+            ("cost,110,10,5001,2025,26000", "accepted 20 noted"),
+            ("pay,110,9,5001,2025,1,unsub,0.01", "accepted 21 paid 1000.01 78221"),
+            ("originate,110,11,5001,2025,26000", "refused 41 10 2025"), ("cost,110,11,5001,2025", "error 0 2"),
+        ),
+    ],
+    "a return that is sent back": FILED_YEAR + [
+        rows(
+            ("sent,120,11,5001,2025,2,pell,65.31,2026-03-20,4711", "refused 66 6531 6530"),
+            ("sent,120,11,5001,2025,2,pell,40.00,2026-02-04,4711", "refused 65 46055 46056"),
+            ("sent,120,11,5001,2025,2,pell,40.00,2026-03-20,4711", "accepted 19 noted"),
+            ("sent,120,12,5001,2025,2,pell,25.31,2026-03-25,4712", "refused 66 6531 6530"),
+            ("sent,120,12,5001,2025,2,pell,25.30,2026-03-25,4712", "accepted 20 noted"),
+            ("sent,120,13,5001,2025,2,unsub,1.00,2026-03-25,4712", "refused 66 100 0"),
+            ("sent,110,13,5001,2025,1,pell,1.00,2026-03-25,4712", "refused 64 5001 1"),
+            ("sent,120,13,5001,2025,2,pell,0.00,2026-03-25,4712", "refused 71 0 1"),
+            ("sent,120,13,5001,2025,2,pell,1.00,2026-02-30,4712", "error 9 4"),
+        ),
+        *[report(example(f"year-{which}.txt").decode(), which, "2025") for which in ("standing", "awards", "returns")],
+    ],
+    "records of corrections": FILED_YEAR + [
+        rows(
+            ("amend,0,900,120,8,1,2,4711", "accepted 19 noted"), ("amend,120,9,120,9,2,2,4711", "refused 15 18 9"),
+            ("amend,130,1,120,9,2,2,4711", "refused 12 130 0"), ("amend,120,11,120,9,2,2,4711", "accepted 20 noted"),
+            ("amend,120,11,120,9,4,2,4711", "error 6 4"), ("amend,120,11,120,9,2,8,4711", "error 7 4"),
+            ("amend,120,11,120,9,2,2,-1", "error 8 4"), ("amend,120,11,120,9,2,2", "error 0 2"),
+        ),
+        *[report(example(f"year-{which}.txt").decode(), which, "2025") for which in ("standing", "awards", "returns")],
+    ],
+    "a second year, with a ceiling": FILED_YEAR + [
         (["book", "4"], example("2026.toml"), "1 18 accepted 19 noted"),
         (["file"], example("second-year.csv"), example("second-year.txt").decode()),
         report("""\
@@ -342,7 +378,7 @@ rows 3""", "lifetime"),
         f"a round {' '.join(map(str, words))}": [book(), filed(*ROUND_ROWS), (["fund", *map(str, words), "70"], b"", lines)]
         for words, lines in ROUNDS.items()
     },
-    "rounds of one fund": [book(), (["file"], example("year.csv"), example("year.txt").decode())] + [
+    "rounds of one fund": FILED_YEAR + [
         (["fund", "110", "2025", "1", amount, "level", number], b"", lines) for amount, number, lines in [
             ("600", "50", "1 18 accepted 19 paid 600.00 78221\nleft 0"), ("600", "50", "left 0"), ("700", "51", "left 100")]
     ],

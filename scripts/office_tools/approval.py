@@ -50,7 +50,7 @@ def payments(entries, positions):
     for entry in entries:
         kind, school, _, *cells = entry.row
         place = (school, *cells[:2])
-        if kind == "originate":
+        if kind in ("originate", "cost"):
             costs[place] = 100 * int(cells[2])
         if kind in ("pay", "adjust", "repay"):
             nets[place] = nets.get(place, 0) + (1 if kind == "pay" else -1) * cents(cells[4])

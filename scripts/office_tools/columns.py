@@ -12,10 +12,11 @@ PAGE = os.path.join(TOP, "docs", "FILINGS.md")
 # Other headings of a column, and of which kinds they are; without a kind of all that have the column.
 OTHER = [
     ("kind", "type", ""), ("school", "desk school_code", ""), ("number", "filing_number", ""),
-    ("student", "student_id student_number", ""), ("year", "award_year aid_year", ""), ("cents", "amount dollars", "pay repay adjust"),
-    ("credits", "hours credit_hours", "enrol"), ("cost", "coa cost_of_attendance", "originate"), ("first", "first_day", "calendar"),
+    ("student", "student_id student_number", ""), ("year", "award_year aid_year", ""), ("cents", "amount dollars", "pay repay adjust sent"),
+    ("credits", "hours credit_hours", "enrol"), ("cost", "coa cost_of_attendance", "originate cost"), ("first", "first_day", "calendar"),
     ("last", "last_day", "calendar withdraw"), ("last", "lda last_date_of_attendance", "withdraw"),
     ("determined", "date_of_determination", "withdraw"), ("charges", "institutional_charges", "withdraw"),
+    ("day", "date_sent", "sent"),
 ]
 KEY = ["kind", "school", "number"]
 # The columns of breaks: `break_1_first`, `break_1_last`, ..

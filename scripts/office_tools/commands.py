@@ -134,6 +134,8 @@ ON_JOURNAL = [
     reading("quotes", OF_TERM, "what may be paid to each student of a term", "quotes 110 2025 1", sheet),
     reading("payments", OF_TERM, "what moved in a term", "payments 120 2025 2", sheet),
     reading("withdrawal", (SOME_SCHOOL, STUDENT, YEAR, TERM), "the worksheet of a withdrawal", "withdrawal 120 5001 2025 2", sheet),
+    reading("due", (DAY, SOME_SCHOOL), "what is to be sent back; 1 where it is late", "due 2026-03-23 120", sheet),
+    reading("returns", (SOME_SCHOOL, YEAR), "what came of the returns of a year", "returns 120 2025", sheet),
     reading("upto", THEN, "a sheet as it was then (docs/SHEETS.md)", "upto 10 quotes 110 2025 1", sheet),
     own("letter", letter.letter, (SOME_SCHOOL, STUDENT, YEAR, TERM), "a letter to a student who withdrew", "letter 120 5001 2025 2"),
     own("lint", lint.lint_office, (), "names filings that look wrong, or are paid twice", "lint < examples/year.csv", input="ROWS.csv"),

@@ -15,7 +15,7 @@ OTHER_NAMES = {"-h": "help", "--help": "help", "version": "--version"}
 TRIED = ("file", "book", "fund", "desks", "generate", "quote", "report", "intake", "need")
 # What is tried in another way than it is run.
 TRIALS = {"intake": before.try_intake, "file": before.try_rows, "desks": before.try_rows, "fund": approval.dry_fund, "need": what_if.dry_need}
-SHEETS = ("list", "student", "need", "quotes", "payments", "withdrawal", "report")
+SHEETS = ("list", "student", "need", "quotes", "payments", "withdrawal", "due", "returns", "report")
 
 
 @dataclass

@@ -13,7 +13,8 @@ ON_A_COPY = [
     (("quote", "why"), "what may be paid, and why no more"),
     (("report standing", "report awards", "report returns", "report export", "report lifetime", "report stamps"), ""),
     (("csv standing", "csv awards", "csv returns", "csv lifetime", "csv stamps"), "as CSV"),
-    (("list", "student", "need", "quotes", "payments"), ""), (("withdrawal", "letter"), "sheets that people read"), "upto", (("next", "ids"), "a school's next number; the file of ids and names"), "backup", "since", "salvage",
+    (("list", "student", "need", "quotes", "payments"), ""), (("withdrawal", "letter", "due"), ""),
+    (("returns", "upto"), "sheets; each as it was then"), (("next", "ids"), "a school's next number; the file of ids and names"), "backup", "since", "salvage",
 ]
 ALONE = [
     "help", "check", "explain", "lint", "rows", "show", (("plot",), ""), "reconcile", (("pay-rows", "carry"), ""),

@@ -17,12 +17,12 @@ COLUMNS = ("number", "id", "name")
 # An id has a sign that no number has, so that a cell can only be one of the two.
 ID = re.compile(r"(?=.*[^0-9])[A-Za-z0-9._-]{1,40}")
 MOST = 20           # sentences that are told
-SHEETS = ("list", "student", "need", "quotes", "payments", "withdrawal", "upto")
+SHEETS = ("list", "student", "need", "quotes", "payments", "withdrawal", "due", "returns", "upto")
 # The column of a report in which the student stands.
 REPORTS = {"standing": 0, "awards": 1, "returns": 1, "lifetime": 0}
 OF_ONE = ("student", "need", "withdrawal")      # sheets of one student
 # Kinds of filings that have no student behind the number.
-OTHER_KINDS = ("book", "school", "calendar")
+OTHER_KINDS = ("book", "school", "calendar", "amend")
 
 
 @dataclass
@@ -143,7 +143,7 @@ def named(command, words, lines, known):
     if command in OF_ONE:
         number = words[2] if command == "withdrawal" else words[1]
         return [f"student {number}: {known.in_words(number)}", *lines]
-    if command in ("quotes", "payments", "csv"):
+    if command in ("quotes", "payments", "due", "returns", "csv"):
         return csv_named(lines, known) if "student" in lines[0].split(",") else lines
     return [f"{line}  {known.in_words(student_in(command, words, line))}".rstrip() if student_in(command, words, line) else line for line in lines]
 

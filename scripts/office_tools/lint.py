@@ -16,6 +16,8 @@ day = datetime.date.fromisoformat
 csv.field_size_limit(sys.maxsize)
 # Cents of a student's year by the law's annual limits of loans (34 CFR 685.203) and TEACH (34 CFR 686.21), which the office doesn't hold.
 MOST = {"sub": 550_000, "unsub": 2_050_000, "teach": 400_000}
+# Days behind the last term of a year in which a return of it will have been sent.
+LATE = 180
 
 
 def around(year):
@@ -53,6 +55,17 @@ def originate(_student, _year, cost):
         yield f"a cost of attendance of {cost} dollars"
 
 
+def cost(student, year, changed):
+    yield from originate(student, year, changed)
+
+
+def sent(_student, year, _term, _program, _amount, when, _reference):
+    begins, ends = around(year)
+    last = ends + datetime.timedelta(LATE)
+    if not begins <= day(when) <= last:
+        yield f"a return of {year} that was sent on {when}, outside {begins} to {last}"
+
+
 def pay(_student, _year, _term, program, amount):
     if cents(amount) > MOST.get(program, 10**12):
         yield f"{program} of {amount}, where the office has no limit but the cost of attendance"
@@ -67,7 +80,7 @@ def withdraw(_student, year, _term, last, determined, *_amounts):
         yield f"a withdrawal that was determined {days} days behind the last day"
 
 
-KINDS = {look.__name__: look for look in (school, calendar, prior, apply, originate, pay, withdraw)}
+KINDS = {look.__name__: look for look in (school, calendar, prior, apply, originate, cost, pay, withdraw, sent)}
 
 
 def looks_wrong(kind, *columns):

@@ -9,6 +9,11 @@ from .say import STATUSES, refuse, say, say_known, visible
 READS = ("file", "round", "book", "generate")       # commands that read standard input
 
 
+def is_late(text):
+    """Whether a sheet of what is due has a return that is late."""
+    return any(line.split(b",")[1] != b"0" for line in text.splitlines()[1:])
+
+
 class Office:
     """A journal, and the words of a command on it."""
 
@@ -126,15 +131,17 @@ class Office:
         return status
 
     def sheet(self):
-        """A sheet of a copy. 1 where there is nothing to tell of these names, or there are fewer filings."""
+        """A sheet of a copy. 1 where there is nothing to tell of these names, or there are fewer filings, and where a return is late."""
         self.desk, self.stamp = SHEET, []
         status = self.read_only()
         if status:
             return status
-        text = copies.scratch("text")
-        if text and os.path.exists(text) and copies.text_of(text).split(b"\n", 1)[0] == b"none":
+        path = copies.scratch("text")
+        text = copies.text_of(path) if path and os.path.exists(path) else b""
+        if text.split(b"\n", 1)[0] == b"none" and self.words[0] != "due":
             refuse(f"there is nothing in {self.journal} to tell of these names, or it has fewer filings", 1)
-        return 0
+        behind = self.words[2:] if self.words[0] == "upto" else self.words
+        return 1 if behind[0] == "due" and is_late(text) else 0
 
     def needs(self, words, desk=None):
         """The text of a command on a copy, whose status has to be 0."""

@@ -107,7 +107,7 @@ class Terms:
             place = (words[3], words[6])
             if words[7] == "withdraw":
                 self.withdrawn.add(place)
-            if words[8] == "pell":
+            if words[8] == "pell" and words[7] != "sent":
                 self.nets[place] = cents(words[10])
 
     def stays(self, place):

@@ -12,6 +12,7 @@ ROWS = [
     ("adjust,110,3,5,2025,1,pell,250.50", "noted"), ("pay,110,4,5,2025,2,unsub,2000.00", "paid 2900.00 50000"),
     ("withdraw,110,5,5,2025,2,2026-01-30,2026-02-05,0.00,0.00,0.00,0.00,0.00,0.00,0.00", "returned 34.7 400.00 51.44 0.00"),
     ("repay,110,6,5,2025,2,pell,49.50", "noted"), ("pay,110,7,5,2025,1,fseog,100.00", "paid 100.00 50000"), ("pay,110,8,6,2026,1,plus,0.05", "paid 0.05 0"),
+    ("cost,110,9,5,2025,12000", "noted"), ("pay,110,10,5,2025,1,plus,1.00", "paid 1.00 50000"),
 ]
 
 
@@ -37,6 +38,10 @@ class Payments(unittest.TestCase):
             # the school returned 400 and the student repaid 49.50
             ("5", "110", "2025", "1", "fseog", "100.00", "100.00", "7600.00"),
         ])
+
+    def test_what_is_left_of_a_changed_cost(self):
+        # 12000 less 1000, 2000, 100 and 1, with 250.50 taken back, 400 returned and 49.50 repaid
+        self.assertEqual([one.cells()[7] for one in approval.payments(entries(), {8, 11})], ["7600.00", "9599.00"])
 
     def test_of_a_fund(self):
         found = approval.of_fund(approval.payments(entries(), {2, 8}), lines("1 1 accepted 2 paid 1000.00 5", "2 2 accepted 8 paid 100.00 5", "left 7"))

@@ -25,6 +25,7 @@ class Headings(unittest.TestCase):
         for kind, told, name in [
             ("enrol", "Credit Hours", "credits"), ("enrol", "Hours", "credits"), ("pay", "Amount", "cents"), ("adjust", "Dollars", "cents"),
             ("originate", "COA", "cost"), ("withdraw", "LDA", "last"), ("withdraw", "Date of Determination", "determined"),
+            ("cost", "Cost of Attendance", "cost"), ("sent", "Amount", "cents"), ("sent", "Date Sent", "day"),
             ("calendar", "Last Day", "last"), ("calendar", "Break 8 last", "break_8_last"), ("pay", "Aid Year", "year"), ("pay", "Student ID", "student"),
         ]:
             self.assertEqual(column(kind, told), name, (kind, told))
@@ -33,6 +34,7 @@ class Headings(unittest.TestCase):
         for kind, told in [
             ("apply", "Credit Hours"), ("apply", "Hours"), ("apply", "Amount"), ("apply", "Dollars"), ("originate", "Credits"), ("calendar", "LDA"), ("prior", "Award Year"),
             ("enrol", "Cost"), ("pay", "Last Day"), ("pay", "Break 1 first"), ("calendar", "Break 9 first"), ("pay", "Name"), ("pay", "Amounts"), ("enrol", "credit"),
+            ("sent", "Last Day"), ("pay", "Date Sent"),
         ]:
             self.assertIsNone(column(kind, told), (kind, told))
 

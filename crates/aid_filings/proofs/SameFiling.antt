@@ -17,9 +17,11 @@ use Rattle.aid_filings.specs.declared.filing.EnrollFacts.{EnrollFacts}
 use Rattle.aid_filings.specs.declared.filing.OriginateFacts.{OriginateFacts}
 use Rattle.aid_filings.specs.declared.filing.Amount.{Amount}
 use Rattle.aid_filings.specs.declared.filing.WithdrawFacts.{WithdrawFacts}
+use Rattle.aid_filings.specs.declared.filing.SentFacts.{SentFacts}
+use Rattle.aid_filings.specs.declared.filing.AmendFacts.{AmendFacts}
 use Rattle.aid_filings.specs.declared.filing.Filing.{Filing}
 use Rattle.aid_filings.specs.declared.filing.What.{What}
-use Rattle.aid_filings.specs.declared.filing.What.TheVariants.{Book as BookFiled, School, Calendar, Prior, Apply, Enroll, Originate, Pay, Withdraw, Repay, Adjust}
+use Rattle.aid_filings.specs.declared.filing.What.TheVariants.{Book as BookFiled, School, Calendar, Prior, Apply, Enroll, Originate, Pay, Withdraw, Repay, Adjust, Cost, Sent, Amend}
 use Rattle.aid_filings.specs.contracts.filing.SchoolFactsPartialEq.TheImpl.{eq-value as school_facts_eq}
 use Rattle.aid_filings.specs.contracts.filing.CalendarFactsPartialEq.TheImpl.{eq-value as calendar_facts_eq}
 use Rattle.aid_filings.specs.contracts.filing.PriorFactsPartialEq.TheImpl.{eq-value as prior_facts_eq}
@@ -27,6 +29,8 @@ use Rattle.aid_filings.specs.contracts.filing.EnrollFactsPartialEq.TheImpl.{eq-v
 use Rattle.aid_filings.specs.contracts.filing.OriginateFactsPartialEq.TheImpl.{eq-value as originate_facts_eq}
 use Rattle.aid_filings.specs.contracts.filing.AmountPartialEq.TheImpl.{eq-value as amount_eq}
 use Rattle.aid_filings.specs.contracts.filing.WithdrawFactsPartialEq.TheImpl.{eq-value as withdraw_facts_eq}
+use Rattle.aid_filings.specs.contracts.filing.SentFactsPartialEq.TheImpl.{eq-value as sent_facts_eq}
+use Rattle.aid_filings.specs.contracts.filing.AmendFactsPartialEq.TheImpl.{eq-value as amend_facts_eq}
 use Rattle.aid_filings.specs.contracts.filing.WhatPartialEq.TheImpl.{eq-value as what_eq}
 use Rattle.aid_filings.specs.contracts.filing.FilingPartialEq.TheImpl.{eq-value as filing_eq, ghosts as filing_ghosts}
 
@@ -140,6 +144,40 @@ pub tells_withdraw_facts : Tells withdraw_facts_eq.it
 unfolding withdraw_facts_parts
 tells_withdraw_facts = tells_by withdraw_facts_parts withdraw_facts_whole (tells_pair tells_ℕ (tells_pair tells_ℕ (tells_pair tells_ℕ (tells_pair tells_day (tells_pair tells_day (tells_pair tells_ℕ tells_by_program))))))
 
+abbrev pub SentFactsParts : Type 0
+SentFactsParts = ℕ × (ℕ × (ℕ × (Program × (ℕ × (ℕ × ℕ)))))
+
+unfoldable pub sent_facts_parts : SentFacts → SentFactsParts
+sent_facts_parts x = (x.student, (x.year, (x.term, (x.program, (x.cents, (x.day, x.reference))))))
+
+pub sent_facts_whole : (x y : SentFacts) → sent_facts_parts x ≡ sent_facts_parts y → x ≡ y
+unfolding sent_facts_parts
+sent_facts_whole x y e =
+    let P : SentFactsParts → Type 0 = λ b. IsBetween 1 8 b.1.1.0 × (b.1.1.1.1.0 ≤ 99999999) × (b.1.1.1.1.1.1 ≤ 999999999999) in
+    let make : (b : SentFactsParts) → P b → SentFacts = λ b p. record { student = b.0; year = b.1.0; term = b.1.1.0; program = b.1.1.1.0; cents = b.1.1.1.1.0; day = b.1.1.1.1.1.0; reference = b.1.1.1.1.1.1; in_range = p } in
+    same_with_fact P make (λ b. hlevel (le_prop, props)) (sent_facts_parts x) (sent_facts_parts y) x.in_range y.in_range e
+
+pub tells_sent_facts : Tells sent_facts_eq.it
+unfolding sent_facts_parts
+tells_sent_facts = tells_by sent_facts_parts sent_facts_whole (tells_pair tells_ℕ (tells_pair tells_ℕ (tells_pair tells_ℕ (tells_pair tells_program (tells_pair tells_ℕ (tells_pair tells_day tells_ℕ))))))
+
+abbrev pub AmendFactsParts : Type 0
+AmendFactsParts = Key × (ℕ × (ℕ × ℕ))
+
+unfoldable pub amend_facts_parts : AmendFacts → AmendFactsParts
+amend_facts_parts x = (x.of, (x.change, (x.reason, x.reference)))
+
+pub amend_facts_whole : (x y : AmendFacts) → amend_facts_parts x ≡ amend_facts_parts y → x ≡ y
+unfolding amend_facts_parts
+amend_facts_whole x y e =
+    let P : AmendFactsParts → Type 0 = λ b. IsBetween 1 3 b.1.0 × IsBetween 1 7 b.1.1.0 × (b.1.1.1 ≤ 999999999999) in
+    let make : (b : AmendFactsParts) → P b → AmendFacts = λ b p. record { of = b.0; change = b.1.0; reason = b.1.1.0; reference = b.1.1.1; in_range = p } in
+    same_with_fact P make (λ b. hlevel (le_prop, props)) (amend_facts_parts x) (amend_facts_parts y) x.in_range y.in_range e
+
+pub tells_amend_facts : Tells amend_facts_eq.it
+unfolding amend_facts_parts
+tells_amend_facts = tells_by amend_facts_parts amend_facts_whole (tells_pair tells_key (tells_pair tells_ℕ (tells_pair tells_ℕ tells_ℕ)))
+
 pub tells_what : Tells what_eq.it
 tells_what = record { same = same; told = told } where
   same : (x y : What) → what_eq.it x y ≡ true → x ≡ y
@@ -154,6 +192,9 @@ tells_what = record { same = same; told = told } where
   same (Withdraw x) (Withdraw y) h = ap Withdraw (tells_withdraw_facts.same x y h)
   same (Repay x) (Repay y) h = ap Repay (tells_amount.same x y h)
   same (Adjust x) (Adjust y) h = ap Adjust (tells_amount.same x y h)
+  same (Cost x) (Cost y) h = ap Cost (tells_originate_facts.same x y h)
+  same (Sent x) (Sent y) h = ap Sent (tells_sent_facts.same x y h)
+  same (Amend x) (Amend y) h = ap Amend (tells_amend_facts.same x y h)
   same _ _ h = absurd (true≢false (sym h))
 
   told : (x : What) → what_eq.it x x ≡ true
@@ -168,6 +209,9 @@ tells_what = record { same = same; told = told } where
   told (Withdraw x) = tells_withdraw_facts.told x
   told (Repay x) = tells_amount.told x
   told (Adjust x) = tells_amount.told x
+  told (Cost x) = tells_originate_facts.told x
+  told (Sent x) = tells_sent_facts.told x
+  told (Amend x) = tells_amend_facts.told x
 
 unfoldable pub filing_parts : Filing → Key × What
 filing_parts f = (f.key, f.what)

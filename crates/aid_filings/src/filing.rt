@@ -44,7 +44,8 @@ pub struct EnrollFacts {
     pub ghost in_range: { IsBetween 1 8 term },
 }
 
-/// A student's cost of attendance at the filing school in a year, 0 to 999,999 dollars (HEA 472).
+/// A student's cost of attendance at the filing school in a year, 0 to 999,999 dollars (HEA 472): the first one, or a later one
+/// that replaces it.
 #[derive(Clone, Copy, PartialEq, Eq)]
 pub struct OriginateFacts {
     pub student: Student,
@@ -81,6 +82,34 @@ pub struct WithdrawFacts {
     pub ghost could_in_range: { EachIsCents could },
 }
 
+/// What the school sent back to the government of a program in a term, after a withdrawal from it (34 CFR 668.22(j)): the
+/// amount, the day on which it was sent, and a number by which the school finds it. `term` is 1 to 8, `cents` 0 to
+/// 99,999,999, `reference` 0 to 999,999,999,999.
+#[derive(Clone, Copy, PartialEq, Eq)]
+pub struct SentFacts {
+    pub student: Student,
+    pub year: Year,
+    pub term: u8,
+    pub program: Program,
+    pub cents: u64,
+    pub day: Day,
+    pub reference: u64,
+    pub ghost in_range: { IsBetween 1 8 term × (cents ≤ 99999999) × (reference ≤ 999999999999) },
+}
+
+/// A record of one correction of the list: the key of the filing that was corrected, what was done (1 it was replaced, 2 it was
+/// taken out, 3 it was put in), the reason (1 mistyped, 2 the student's document, 3 the school's record, 4 the government's
+/// record, 5 a review's finding, 6 filed twice, 7 another), and a number by which the school finds the paper, 0 to
+/// 999,999,999,999.
+#[derive(Clone, Copy, PartialEq, Eq)]
+pub struct AmendFacts {
+    pub of: Key,
+    pub change: u8,
+    pub reason: u8,
+    pub reference: u64,
+    pub ghost in_range: { IsBetween 1 3 change × IsBetween 1 7 reason × (reference ≤ 999999999999) },
+}
+
 /// What is filed, by kind.
 #[derive(Drop, PartialEq, Eq)]
 pub enum What {
@@ -101,6 +130,12 @@ pub enum What {
     Repay(Amount),
     /// A downward adjustment of what was disbursed.
     Adjust(Amount),
+    /// A changed cost of attendance; the one filed last is in force.
+    Cost(OriginateFacts),
+    /// A return that was sent back.
+    Sent(SentFacts),
+    /// A record of a correction.
+    Amend(AmendFacts),
 }
 
 /// A filing: its key and what is filed.
@@ -130,18 +165,19 @@ impl CalendarFacts {
 impl What {
     ghost use Rattle.aid_filings.specs.Students.{student_of};
 
-    /// The student whom it is about; `None` where it is a book, a school or a term.
+    /// The student whom it is about; `None` where it is a book, a school, a term or a record of a correction.
     pub fn student(&self) -> Option<Student>
         ensures { result ≡ student_of self.now }
     {
         match self {
-            What::Book(_) | What::School(_) | What::Calendar(_) => None,
+            What::Book(_) | What::School(_) | What::Calendar(_) | What::Amend(_) => None,
             What::Prior(prior) => Some(prior.student),
             What::Apply(application) => Some(application.student),
             What::Enroll(enrollment) => Some(enrollment.student),
-            What::Originate(origination) => Some(origination.student),
+            What::Originate(cost) | What::Cost(cost) => Some(cost.student),
             What::Withdraw(withdrawal) => Some(withdrawal.student),
             What::Pay(amount) | What::Repay(amount) | What::Adjust(amount) => Some(amount.student),
+            What::Sent(sent) => Some(sent.student),
         }
     }
 }

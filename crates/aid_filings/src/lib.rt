@@ -5,7 +5,7 @@ mod filing;
 mod reply;
 
 pub use filing::{
-    Amount, CalendarFacts, EnrollFacts, Filing, OriginateFacts, PriorFacts, SchoolFacts, What,
-    WithdrawFacts,
+    AmendFacts, Amount, CalendarFacts, EnrollFacts, Filing, OriginateFacts, PriorFacts,
+    SchoolFacts, SentFacts, What, WithdrawFacts,
 };
 pub use reply::{Operation, Outcome, Response, StandingRow};

@@ -1,7 +1,7 @@
 -- The limits of the law and of an office's files by name. Each computes to its number.
 use Rattle.std.specs.Prelude.{ℕ, Bool, ◌==◌}
 
--- lifetime eligibility used, in ten-thousandths of a year's Scheduled Award: twelve semesters, six years (HEA 401(d)(5))
+-- lifetime eligibility used, in thousandths of a percent of a Scheduled Award: twelve semesters, six years (HEA 401(d)(5))
 abbrev pub most_units : ℕ
 most_units = 600000
 

@@ -14,7 +14,7 @@ use Rattle.aid_types.proofs.WholeLemmas.{decimal-natural_text}
 use Rattle.aid_books.specs.declared.book.Book.{Book as Tables}
 use Rattle.aid_filings.specs.declared.filing.Filing.{Filing}
 use Rattle.aid_filings.specs.declared.filing.What.{What}
-use Rattle.aid_filings.specs.declared.filing.What.TheVariants.{Book as BookFiled, School as SchoolFiled, Calendar as CalendarFiled, Prior as PriorFiled, Apply as ApplyFiled, Enroll as EnrollFiled, Originate as OriginateFiled, Pay as PayFiled, Withdraw as WithdrawFiled, Repay as RepayFiled, Adjust as AdjustFiled}
+use Rattle.aid_filings.specs.declared.filing.What.TheVariants.{Book as BookFiled, School as SchoolFiled, Calendar as CalendarFiled, Prior as PriorFiled, Apply as ApplyFiled, Enroll as EnrollFiled, Originate as OriginateFiled, Pay as PayFiled, Withdraw as WithdrawFiled, Repay as RepayFiled, Adjust as AdjustFiled, Cost as CostFiled, Sent as SentFiled, Amend as AmendFiled}
 use Rattle.aid_types.specs.Ranges.{IsIndex}
 use Rattle.aid_types.specs.Words.{formula_text, way_text}
 use Rattle.aid_types.specs.declared.application.Application.{Application}
@@ -34,7 +34,7 @@ use Rattle.format_table.proofs.NumberLaws.{length-number_bytes}
 use Rattle.format_table.proofs.RowLaws.{numbers_few}
 use Rattle.format_kinds.specs.Kinds.{book_slots, slots_of_kind, table_row_of}
 use Rattle.format_kinds.specs.declared.kind.Kind.{Kind}
-use Rattle.format_kinds.specs.declared.kind.Kind.TheVariants.{Book, School, Calendar, Prior, Apply, Enroll, Originate, Pay, Withdraw, Repay, Adjust}
+use Rattle.format_kinds.specs.declared.kind.Kind.TheVariants.{Book, School, Calendar, Prior, Apply, Enroll, Originate, Pay, Withdraw, Repay, Adjust, Cost, Sent, Amend}
 use Rattle.format_kinds.proofs.Laws.{IsTable-kind}
 use Rattle.format_bytes.specs.Numbers.{IsFiling, facts_of, kind_of, numbers_of}
 use Rattle.format_bytes.proofs.Ranges.{within}
@@ -96,6 +96,9 @@ few_bytes Pay zs other are = omega (arith, plain_few (slots_of_kind Pay) zs refl
 few_bytes Withdraw zs other are = omega (arith, plain_few (slots_of_kind Withdraw) zs refl)
 few_bytes Repay zs other are = omega (arith, plain_few (slots_of_kind Repay) zs refl)
 few_bytes Adjust zs other are = omega (arith, plain_few (slots_of_kind Adjust) zs refl)
+few_bytes Cost zs other are = omega (arith, plain_few (slots_of_kind Cost) zs refl)
+few_bytes Sent zs other are = omega (arith, plain_few (slots_of_kind Sent) zs refl)
+few_bytes Amend zs other are = omega (arith, plain_few (slots_of_kind Amend) zs refl)
 
 -- ---- the years of the books on a legal list, counted from 2000: each once
 abbrev year_in : What → Option ℕ
@@ -150,6 +153,9 @@ years_few (f ∷ past) are year there = go f.key f.what are.0 (years_few past ar
     go key (WithdrawFiled x) is rest there = rest there
     go key (RepayFiled x) is rest there = rest there
     go key (AdjustFiled x) is rest there = rest there
+    go key (CostFiled x) is rest there = rest there
+    go key (SentFiled x) is rest there = rest there
+    go key (AmendFiled x) is rest there = rest there
 
 neither : {A : Type 0} (a b : Option A) → earlier a b ≡ None → (a ≡ None) × (b ≡ None)
 neither None b e = (refl, e)
@@ -179,6 +185,9 @@ no_year (f ∷ past) year are low none = go f.key f.what are.0 (no_year past yea
     go key (WithdrawFiled x) is rest nones = rest nones.1
     go key (RepayFiled x) is rest nones = rest nones.1
     go key (AdjustFiled x) is rest nones = rest nones.1
+    go key (CostFiled x) is rest nones = rest nones.1
+    go key (SentFiled x) is rest nones = rest nones.1
+    go key (AmendFiled x) is rest nones = rest nones.1
 
 years_apart : (past : List Filing) → IsLegal past → AllByRecursion IsFiling past → IsDistinct eqb (years past)
 unfolding IsDistinct
@@ -197,6 +206,9 @@ years_apart (f ∷ past) legal are = go f.key f.what are.0 legal.2 (years_apart 
     go key (WithdrawFiled x) is fine rest = rest
     go key (RepayFiled x) is fine rest = rest
     go key (AdjustFiled x) is fine rest = rest
+    go key (CostFiled x) is fine rest = rest
+    go key (SentFiled x) is fine rest = rest
+    go key (AmendFiled x) is fine rest = rest
 
 books_few : (past : List Filing) → IsLegal past → AllByRecursion IsFiling past → length (years past) ≤ 100
 books_few past legal are = length-le_from_distinct_below (years past) 100 (years_apart past legal are) (years_few past are)
@@ -224,6 +236,9 @@ filing_line_few past f is = go f.key f.what is (length-filing_line f)
     go key (WithdrawFiled x) is len = let few = short key (WithdrawFiled x) is (λ e. absurd cc) in omega (arith, len, few)
     go key (RepayFiled x) is len = let few = short key (RepayFiled x) is (λ e. absurd cc) in omega (arith, len, few)
     go key (AdjustFiled x) is len = let few = short key (AdjustFiled x) is (λ e. absurd cc) in omega (arith, len, few)
+    go key (CostFiled x) is len = let few = short key (CostFiled x) is (λ e. absurd cc) in omega (arith, len, few)
+    go key (SentFiled x) is len = let few = short key (SentFiled x) is (λ e. absurd cc) in omega (arith, len, few)
+    go key (AmendFiled x) is len = let few = short key (AmendFiled x) is (λ e. absurd cc) in omega (arith, len, few)
 
 reverse_more : (f : Filing) (past : List Filing) → reverse (f ∷ past) ≡ reverse past ++ f ∷ []
 reverse_more f past = reverse-append (f ∷ []) past

@@ -21,6 +21,8 @@ fn a_worked_year(rt: HostRuntime) -> Result<(), Fail> {
     for runs in ROUNDS {
         assert_runs(&rt, alloc, year.image(), runs)?;
     }
+    assert_runs(&rt, alloc, year.image(), &CHANGED_COST)?;
+    assert_runs(&rt, alloc, year.image(), &SENT_BACK)?;
     Ok(())
 }
 
@@ -149,6 +151,58 @@ const ROUNDS: [&[Run]; 4] = [
     )],
     &[("fund 110 2025 1 600 other 50", "", 2, "fault usage\n")],
 ];
+
+// A changed cost from both sides of what was paid, and payments up to it.
+const CHANGED_COST: [Run; 1] = [(
+    "file",
+    "\
+cost,110,8,5001,2025,2144\n\
+cost,110,8,5001,2025,0\n\
+cost,110,8,5002,2025,2145\n\
+cost,110,8,5001,2025,2145\n\
+pay,110,9,5001,2025,1,unsub,0.01\n\
+cost,110,10,5001,2025,26000\n\
+pay,110,9,5001,2025,1,unsub,0.01\n\
+originate,110,11,5001,2025,26000\n\
+cost,110,11,5001,2025\n",
+    0,
+    "\
+1 18 refused 45 214500 214400\n\
+2 18 refused 42 0 1\n\
+3 18 refused 50 5002 110\n\
+4 18 accepted 19 noted\n\
+5 19 refused 57 214501 214500\n\
+6 19 accepted 20 noted\n\
+7 20 accepted 21 paid 1000.01 78221\n\
+8 21 refused 41 10 2025\n\
+9 error 0 2\n",
+)];
+
+// A return that was sent back in two parts, and what of it can't have been.
+const SENT_BACK: [Run; 1] = [(
+    "file",
+    "\
+sent,120,11,5001,2025,2,pell,65.31,2026-03-20,4711\n\
+sent,120,11,5001,2025,2,pell,40.00,2026-02-04,4711\n\
+sent,120,11,5001,2025,2,pell,40.00,2026-03-20,4711\n\
+sent,120,12,5001,2025,2,pell,25.31,2026-03-25,4712\n\
+sent,120,12,5001,2025,2,pell,25.30,2026-03-25,4712\n\
+sent,120,13,5001,2025,2,unsub,1.00,2026-03-25,4713\n\
+sent,110,13,5001,2025,1,pell,1.00,2026-03-25,4713\n\
+sent,120,13,5001,2025,2,pell,0.00,2026-03-25,4713\n\
+sent,120,13,5001,2025,2,pell,1.00,2026-02-30,4713\n",
+    0,
+    "\
+1 18 refused 66 6531 6530\n\
+2 18 refused 65 46055 46056\n\
+3 18 accepted 19 noted\n\
+4 19 refused 66 6531 6530\n\
+5 19 accepted 20 noted\n\
+6 20 refused 66 100 0\n\
+7 20 refused 64 5001 1\n\
+8 20 refused 71 0 1\n\
+9 error 9 4\n",
+)];
 
 #[test]
 fn generated_years(rt: HostRuntime) -> Result<(), Fail> {

@@ -13,7 +13,7 @@ use Rattle.format_table.specs.Walk.{numbers_of_slots}
 use Rattle.format_kinds.specs.Kinds.{code_of, key_slots, kind_at, kinds, slots_of_kind, table_row_of}
 use Rattle.format_table.specs.Layout.{AreNumbers}
 use Rattle.format_kinds.specs.declared.kind.Kind.{Kind}
-use Rattle.format_kinds.specs.declared.kind.Kind.TheVariants.{Book, School, Calendar, Prior, Apply, Enroll, Originate, Pay, Withdraw, Repay, Adjust}
+use Rattle.format_kinds.specs.declared.kind.Kind.TheVariants.{Book, School, Calendar, Prior, Apply, Enroll, Originate, Pay, Withdraw, Repay, Adjust, Cost, Sent, Amend}
 use Rattle.format_kinds.proofs.Laws.{IsTable-kind, few_numbers}
 use Rattle.format_bytes.specs.Taking.{of_kind, taken, with_kind}
 
@@ -34,6 +34,9 @@ kind_again Pay = refl
 kind_again Withdraw = refl
 kind_again Repay = refl
 kind_again Adjust = refl
+kind_again Cost = refl
+kind_again Sent = refl
+kind_again Amend = refl
 
 some_is : (a b : Kind) → Some a ≡ Some b → a ≡ b
 some_is a b e = cc
@@ -128,6 +131,9 @@ most_of-some Pay other = lit≤ tt
 most_of-some Withdraw other = lit≤ tt
 most_of-some Repay other = lit≤ tt
 most_of-some Adjust other = lit≤ tt
+most_of-some Cost other = lit≤ tt
+most_of-some Sent other = lit≤ tt
+most_of-some Amend other = lit≤ tt
 
 -- and all but a term and an application few
 pub most_of-few : (kind : Kind) → (kind ≡ Book → ⊥) → (kind ≡ Calendar → ⊥) → (kind ≡ Apply → ⊥) → most_of (slots_of_kind kind) ≤ 16
@@ -143,6 +149,9 @@ most_of-few Pay other term application = lit≤ tt
 most_of-few Withdraw other term application = lit≤ tt
 most_of-few Repay other term application = lit≤ tt
 most_of-few Adjust other term application = lit≤ tt
+most_of-few Cost other term application = lit≤ tt
+most_of-few Sent other term application = lit≤ tt
+most_of-few Amend other term application = lit≤ tt
 
 -- ---- where the parts are told
 -- what was read of them is what the kind's numbers are read to be

@@ -12,6 +12,7 @@ use Rattle.aid_types.specs.declared.number.Program.{Program}
 use Rattle.aid_types.specs.declared.number.Program.TheVariants.{Unsub, Sub, Plus, Pell, Fseog, Teach}
 use Rattle.aid_types.proofs.Same.{key_parts, key_whole, side_parts, side_whole}
 use Rattle.aid_types.proofs.SameApplication.{application_parts, application_whole}
+use Rattle.aid_filings.specs.declared.filing.AmendFacts.{AmendFacts}
 use Rattle.aid_filings.specs.declared.filing.Amount.{Amount}
 use Rattle.aid_filings.specs.declared.filing.CalendarFacts.{CalendarFacts}
 use Rattle.aid_filings.specs.declared.filing.EnrollFacts.{EnrollFacts}
@@ -19,13 +20,14 @@ use Rattle.aid_filings.specs.declared.filing.Filing.{Filing}
 use Rattle.aid_filings.specs.declared.filing.OriginateFacts.{OriginateFacts}
 use Rattle.aid_filings.specs.declared.filing.PriorFacts.{PriorFacts}
 use Rattle.aid_filings.specs.declared.filing.SchoolFacts.{SchoolFacts}
+use Rattle.aid_filings.specs.declared.filing.SentFacts.{SentFacts}
 use Rattle.aid_filings.specs.declared.filing.What.{What}
-use Rattle.aid_filings.specs.declared.filing.What.TheVariants.{Book, School, Calendar, Prior, Apply, Enroll, Originate, Pay, Withdraw, Repay, Adjust}
+use Rattle.aid_filings.specs.declared.filing.What.TheVariants.{Book, School, Calendar, Prior, Apply, Enroll, Originate, Pay, Withdraw, Repay, Adjust, Cost, Sent, Amend}
 use Rattle.aid_filings.specs.declared.filing.WithdrawFacts.{WithdrawFacts}
-use Rattle.aid_filings.proofs.SameFiling.{amount_parts, amount_whole, calendar_facts_parts, calendar_facts_whole, enroll_facts_parts, enroll_facts_whole, originate_facts_parts, originate_facts_whole, prior_facts_parts, prior_facts_whole, school_facts_parts, school_facts_whole, withdraw_facts_parts, withdraw_facts_whole}
+use Rattle.aid_filings.proofs.SameFiling.{amend_facts_parts, amend_facts_whole, amount_parts, amount_whole, calendar_facts_parts, calendar_facts_whole, enroll_facts_parts, enroll_facts_whole, originate_facts_parts, originate_facts_whole, prior_facts_parts, prior_facts_whole, school_facts_parts, school_facts_whole, sent_facts_parts, sent_facts_whole, withdraw_facts_parts, withdraw_facts_whole}
 use Rattle.format_kinds.proofs.Equal.{same_book}
 use Rattle.format_kinds.specs.Kinds.{table_row_of}
-use Rattle.format_bytes.specs.Parts.{FitAnywhere, calendar_numbers, could_numbers, enroll_numbers, originate_numbers, prior_numbers, school_numbers, withdraw_numbers}
+use Rattle.format_bytes.specs.Parts.{FitAnywhere, amend_numbers, calendar_numbers, could_numbers, enroll_numbers, originate_numbers, prior_numbers, school_numbers, sent_numbers, withdraw_numbers}
 use Rattle.format_bytes.specs.Numbers.{amount_numbers, application_numbers, break_days, day_number, facts_of, flag_number, key_numbers, kind_of, numbers_of, region_number, side_numbers}
 
 -- ---- the numbers of equal lists, and what they are of
@@ -126,6 +128,17 @@ unfolding amount_parts
 same_amount x y e =
     amount_whole x y (λ i. (natural_at e 0 i, (natural_at e 1 i, (natural_at e 2 i, (same_program x.program y.program (at e 3) i, natural_at e 4 i)))))
 
+same_sent : (x y : SentFacts) → sent_numbers x ≡ sent_numbers y → x ≡ y
+unfolding sent_facts_parts
+same_sent x y e = sent_facts_whole x y
+    (λ i. (natural_at e 0 i, (natural_at e 1 i, (natural_at e 2 i, (same_program x.program y.program (at e 3) i, (natural_at e 4 i, (same_day x.day y.day (at e 5) i, natural_at e 6 i)))))))
+
+same_amend : (x y : AmendFacts) → amend_numbers x ≡ amend_numbers y → x ≡ y
+unfolding amend_facts_parts
+same_amend x y e =
+    let of = same_key x.of y.of (ap (take 2) e) in
+    amend_facts_whole x y (λ i. (of i, (natural_at e 2 i, (natural_at e 3 i, natural_at e 4 i))))
+
 same_withdraw : (x y : WithdrawFacts) → withdraw_numbers x ≡ withdraw_numbers y → x ≡ y
 unfolding withdraw_facts_parts
 same_withdraw x y e =
@@ -218,6 +231,9 @@ same_what (Pay x) (Pay y) k e = ap Pay (same_amount x y e)
 same_what (Withdraw x) (Withdraw y) k e = ap Withdraw (same_withdraw x y e)
 same_what (Repay x) (Repay y) k e = ap Repay (same_amount x y e)
 same_what (Adjust x) (Adjust y) k e = ap Adjust (same_amount x y e)
+same_what (Cost x) (Cost y) k e = ap Cost (same_originate x y e)
+same_what (Sent x) (Sent y) k e = ap Sent (same_sent x y e)
+same_what (Amend x) (Amend y) k e = ap Amend (same_amend x y e)
 same_what _ _ k e = absurd cc
 
 -- two filings of a kind are equal where their numbers are

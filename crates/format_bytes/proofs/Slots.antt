@@ -1,5 +1,5 @@
 -- Numbers of fields that come in parts.
-use Rattle.std.proofs.Common.{◌≡◌, ℕ, pos, zero, suc, ◌≤◌, ℤ, List, [], ◌∷◌, ◌++◌, Bool, ◌&&◌, true, false, length, take, drop, refl, sym, ap, subst, ◌∙◌, append_assoc, length-append, arith}
+use Rattle.std.proofs.Common.{◌≡◌, ℕ, pos, zero, suc, ◌≤◌, ◌<◌, ℤ, List, [], ◌∷◌, ◌++◌, Bool, ◌&&◌, true, false, length, take, drop, refl, sym, ap, subst, ◌∙◌, append_assoc, length-append, arith}
 use Rattle.std.specs.Prelude.{◌==◌, Option, Some, None, slice_index_or, IsTrue, map, unsigned_abs}
 use Rattle.std.specs.List.{list_all}
 use Rattle.std.proofs.lemmas.Bool.{and_from, and_parts, eqb-true, true≢false}
@@ -143,6 +143,13 @@ rows_again-more (suc n) lines = append_assoc (map plain lines) (rows_again n lin
 -- what is behind the first numbers, as a slice of it is handed on
 pub all_of_rest : (n : ℕ) (zs : List ℤ) → take (length zs - n) (drop n zs) ≡ drop n zs
 all_of_rest n zs = rw (← length-drop n zs) (take-length (drop n zs))
+
+-- seven numbers, each by its place
+pub seven_are : (zs : List ℤ) (a b c d e f g : ℤ) → 7 ≤ length zs → length zs < 8
+    → a ≡ slice_index_or zs 0 (pos 0) → b ≡ slice_index_or zs 1 (pos 0) → c ≡ slice_index_or zs 2 (pos 0) → d ≡ slice_index_or zs 3 (pos 0) → e ≡ slice_index_or zs 4 (pos 0)
+    → f ≡ slice_index_or zs 5 (pos 0) → g ≡ slice_index_or zs 6 (pos 0) → a ∷ b ∷ c ∷ d ∷ e ∷ f ∷ g ∷ [] ≡ zs
+seven_are (z0 ∷ z1 ∷ z2 ∷ z3 ∷ z4 ∷ z5 ∷ z6 ∷ []) a b c d e f g few most p0 p1 p2 p3 p4 p5 p6 = λ i. p0 i ∷ p1 i ∷ p2 i ∷ p3 i ∷ p4 i ∷ p5 i ∷ p6 i ∷ []
+seven_are zs a b c d e f g few most p0 p1 p2 p3 p4 p5 p6 = absurd (omega arith)
 
 -- ---- a number by its place
 abbrev pub limit_at : List Slot → ℕ → Option Limit

@@ -9,7 +9,7 @@ use Rattle.aid_types.specs.declared.number.Key.{Key}
 use Rattle.aid_filings.specs.declared.filing.Amount.{Amount}
 use Rattle.aid_filings.specs.declared.filing.Filing.{Filing}
 use Rattle.aid_filings.specs.declared.filing.What.{What}
-use Rattle.aid_filings.specs.declared.filing.What.TheVariants.{Book, School, Calendar, Prior, Apply, Enroll, Originate, Pay, Withdraw, Repay, Adjust}
+use Rattle.aid_filings.specs.declared.filing.What.TheVariants.{Book, School, Calendar, Prior, Apply, Enroll, Originate, Pay, Withdraw, Repay, Adjust, Cost, Sent, Amend}
 use Rattle.format_kinds.specs.Book.{numbers_of as book_numbers}
 use Rattle.format_kinds.specs.Kinds.{slots_of_kind}
 use Rattle.format_table.specs.Layout.{AreNumbers}
@@ -71,6 +71,10 @@ filed_as (Withdraw x) =
     (kinds.Withdraw, pos x.student ∷ pos x.year ∷ pos x.term ∷ day_number x.last ∷ day_number x.determined ∷ pos x.charges ∷ map (λ cents. pos cents) x.could)
 filed_as (Repay x) = (kinds.Repay, amount_numbers x)
 filed_as (Adjust x) = (kinds.Adjust, amount_numbers x)
+filed_as (Cost x) = (kinds.Cost, pos x.student ∷ pos x.year ∷ pos x.cost ∷ [])
+filed_as (Sent x) =
+    (kinds.Sent, pos x.student ∷ pos x.year ∷ pos x.term ∷ pos (rank x.program) ∷ pos x.cents ∷ day_number x.day ∷ pos x.reference ∷ [])
+filed_as (Amend x) = (kinds.Amend, pos x.of.school ∷ pos x.of.number ∷ pos x.change ∷ pos x.reason ∷ pos x.reference ∷ [])
 
 abbrev pub kind_of : What → Kind
 kind_of what = (filed_as what).0

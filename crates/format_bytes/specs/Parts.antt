@@ -1,12 +1,14 @@
 -- The numbers of a part of a filing, which stand behind others.
 use Rattle.std.specs.Prelude.{ℕ, ℤ, pos, List, [], drop, map, replicate, take}
 use Rattle.aid_types.specs.declared.application.Application.{Application}
+use Rattle.aid_filings.specs.declared.filing.AmendFacts.{AmendFacts}
 use Rattle.aid_filings.specs.declared.filing.CalendarFacts.{CalendarFacts}
 use Rattle.aid_filings.specs.declared.filing.EnrollFacts.{EnrollFacts}
 use Rattle.aid_filings.specs.declared.filing.OriginateFacts.{OriginateFacts}
 use Rattle.aid_filings.specs.declared.filing.PriorFacts.{PriorFacts}
 use Rattle.aid_filings.specs.declared.filing.SchoolFacts.{SchoolFacts}
-use Rattle.aid_filings.specs.declared.filing.What.TheVariants.{School, Calendar, Prior, Enroll, Originate, Withdraw}
+use Rattle.aid_filings.specs.declared.filing.SentFacts.{SentFacts}
+use Rattle.aid_filings.specs.declared.filing.What.TheVariants.{School, Calendar, Prior, Enroll, Originate, Withdraw, Sent, Amend}
 use Rattle.aid_filings.specs.declared.filing.WithdrawFacts.{WithdrawFacts}
 use Rattle.format_table.specs.Columns.{one}
 use Rattle.format_kinds.specs.Kinds.{apply_slots}
@@ -74,6 +76,12 @@ originate_numbers x = (filed_as (Originate x)).1
 
 abbrev pub withdraw_numbers : WithdrawFacts → List ℤ
 withdraw_numbers x = (filed_as (Withdraw x)).1
+
+abbrev pub sent_numbers : SentFacts → List ℤ
+sent_numbers x = (filed_as (Sent x)).1
+
+abbrev pub amend_numbers : AmendFacts → List ℤ
+amend_numbers x = (filed_as (Amend x)).1
 
 -- the numbers of a withdrawal before the cents of the programs, and these
 abbrev pub withdrawal_numbers : WithdrawFacts → List ℤ

@@ -2,17 +2,19 @@
 ghost use Rattle.std.specs.Prelude.{◌≡◌, ℕ, ◌+◌, ◌*◌, ◌≤◌, ◌++◌, drop, flat_map, length, take};
 ghost use Rattle.aid_types.specs.Ranges.{EachIsCents};
 ghost use Rattle.format_table.specs.Forms.{most_numbers};
-ghost use Rattle.format_kinds.specs.Kinds.{amount_slots, calendar_slots, enroll_slots, first_and_last, key_slots, originate_slots, prior_slots, school_slots, withdraw_slots};
+ghost use Rattle.format_kinds.specs.Kinds.{amend_slots, amount_slots, calendar_slots, enroll_slots, first_and_last, key_slots, originate_slots, prior_slots, school_slots, sent_slots, withdraw_slots};
 ghost use Rattle.format_bytes.specs.Numbers.{amount_numbers, break_days, key_numbers};
 ghost use Rattle.format_table.specs.Layout.{rows_again};
-ghost use Rattle.format_bytes.specs.Parts.{FitAnywhere, FitSomewhere, calendar_numbers, cents_slots, could_numbers, enroll_numbers, originate_numbers, prior_numbers, school_numbers, withdraw_numbers, withdrawal_numbers};
+ghost use Rattle.format_bytes.specs.Parts.{FitAnywhere, FitSomewhere, amend_numbers, calendar_numbers, cents_slots, could_numbers, enroll_numbers, originate_numbers, prior_numbers, school_numbers, sent_numbers, withdraw_numbers, withdrawal_numbers};
 
 use crate::scalar::{
     cents_from, day_from, flag_from, number_of_day, number_of_flag, number_of_program,
-    number_of_student, number_of_year, program_from, student_from, term_from, year_from,
+    number_of_student, number_of_year, program_from, reference_from, student_from, term_from,
+    year_from,
 };
 use aid_filings::{
-    Amount, CalendarFacts, EnrollFacts, OriginateFacts, PriorFacts, SchoolFacts, WithdrawFacts,
+    AmendFacts, Amount, CalendarFacts, EnrollFacts, OriginateFacts, PriorFacts, SchoolFacts,
+    SentFacts, WithdrawFacts,
 };
 use aid_types::{Breaks, ByProgram, Day, Key, School};
 use format_table::{Numbers, add_numbers};
@@ -181,6 +183,82 @@ pub(crate) fn amount_of(numbers: &[i64]) -> Amount
         term: term_from(*term),
         program: program_from(*program),
         cents: cents_from(*cents),
+    }
+}
+
+pub(crate) fn put_sent(facts: &SentFacts, numbers: &mut Numbers)
+    requires room { length numbers.old.items + 7 ≤ most_numbers }
+    ensures added { numbers.new.items ≡ numbers.old.items ++ sent_numbers facts.now }
+    ensures in_range { FitAnywhere sent_slots (sent_numbers facts.now) }
+{
+    let student = number_of_student(facts.student);
+    let year = number_of_year(facts.year);
+    let program = number_of_program(facts.program);
+    let day = number_of_day(facts.day);
+    add_numbers(
+        &[
+            student,
+            year,
+            i64::from(facts.term),
+            program,
+            facts.cents as i64,
+            day,
+            facts.reference as i64,
+        ],
+        numbers,
+    );
+}
+
+pub(crate) fn sent_of(numbers: &[i64]) -> SentFacts
+    requires in_range { FitSomewhere sent_slots numbers.now }
+    ensures value { sent_numbers result ≡ numbers.now }
+{
+    let [student, year, term, program, cents, day, reference] = numbers else {
+        unreachable!();
+    };
+    SentFacts {
+        student: student_from(*student),
+        year: year_from(*year),
+        term: term_from(*term),
+        program: program_from(*program),
+        cents: cents_from(*cents),
+        day: day_from(*day),
+        reference: reference_from(*reference),
+    }
+}
+
+pub(crate) fn put_amend(facts: &AmendFacts, numbers: &mut Numbers)
+    requires room { length numbers.old.items + 5 ≤ most_numbers }
+    ensures added { numbers.new.items ≡ numbers.old.items ++ amend_numbers facts.now }
+    ensures in_range { FitAnywhere amend_slots (amend_numbers facts.now) }
+{
+    add_numbers(
+        &[
+            i64::from(facts.of.school.0),
+            facts.of.number as i64,
+            i64::from(facts.change),
+            i64::from(facts.reason),
+            facts.reference as i64,
+        ],
+        numbers,
+    );
+}
+
+pub(crate) fn amend_of(numbers: &[i64]) -> AmendFacts
+    requires in_range { FitSomewhere amend_slots numbers.now }
+    ensures value { amend_numbers result ≡ numbers.now }
+{
+    let [school, number, change, reason, reference] = numbers else {
+        unreachable!();
+    };
+    AmendFacts {
+        of: Key {
+            school: School(*school as u32),
+            number: *number as u64,
+        },
+        change: *change as u8,
+        reason: *reason as u8,
+        reference: reference_from(*reference),
     }
 }
 

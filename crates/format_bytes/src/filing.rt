@@ -8,9 +8,9 @@ ghost use Rattle.format_bytes.specs.Parts.{FitAnywhere, FitSomewhere};
 
 use crate::application::{application_of, put_application};
 use crate::facts::{
-    amount_of, calendar_of, enroll_of, key_of, originate_of, prior_of, put_amount, put_calendar,
-    put_enroll, put_key, put_originate, put_prior, put_school, put_withdraw, school_of,
-    withdraw_of,
+    amend_of, amount_of, calendar_of, enroll_of, key_of, originate_of, prior_of, put_amend,
+    put_amount, put_calendar, put_enroll, put_key, put_originate, put_prior, put_school, put_sent,
+    put_withdraw, school_of, sent_of, withdraw_of,
 };
 use aid_books::BoxedBook;
 use aid_filings::{Filing, What};
@@ -34,6 +34,9 @@ pub fn kind(what: &What) -> Kind
         What::Withdraw(_) => Kind::Withdraw,
         What::Repay(_) => Kind::Repay,
         What::Adjust(_) => Kind::Adjust,
+        What::Cost(_) => Kind::Cost,
+        What::Sent(_) => Kind::Sent,
+        What::Amend(_) => Kind::Amend,
     }
 }
 
@@ -66,6 +69,9 @@ fn put_facts(what: &What, numbers: &mut Numbers)
         What::Withdraw(facts) => put_withdraw(facts, numbers),
         What::Repay(amount) => put_amount(amount, numbers),
         What::Adjust(amount) => put_amount(amount, numbers),
+        What::Cost(facts) => put_originate(facts, numbers),
+        What::Sent(facts) => put_sent(facts, numbers),
+        What::Amend(facts) => put_amend(facts, numbers),
     }
 }
 
@@ -107,5 +113,8 @@ fn what_of(alloc: Global, kind: Kind, numbers: &[i64]) -> Result<What, AllocErro
         Kind::Withdraw => Ok(What::Withdraw(withdraw_of(numbers))),
         Kind::Repay => Ok(What::Repay(amount_of(numbers))),
         Kind::Adjust => Ok(What::Adjust(amount_of(numbers))),
+        Kind::Cost => Ok(What::Cost(originate_of(numbers))),
+        Kind::Sent => Ok(What::Sent(sent_of(numbers))),
+        Kind::Amend => Ok(What::Amend(amend_of(numbers))),
     }
 }

@@ -124,3 +124,12 @@ pub(crate) fn cents_from(number: i64) -> u64
 {
     number as u64
 }
+
+/// The number by which a school finds a paper.
+pub(crate) fn reference_from(number: i64) -> u64
+    requires in_range { IsTrue (is_between (pos 0) (pos 999999999999) number) }
+    ensures value { pos result ≡ number }
+    ensures in_range { result ≤ 999999999999 }
+{
+    number as u64
+}

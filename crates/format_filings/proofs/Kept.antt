@@ -15,7 +15,7 @@ use Rattle.format_table.specs.declared.field.Limit.{Limit}
 use Rattle.format_table.specs.declared.field.Limit.TheVariants.{Between, UpToLast, AboveRow, Continues, Begins}
 use Rattle.format_kinds.specs.Kinds.{slots_of_kind, table_row_of}
 use Rattle.format_kinds.specs.declared.kind.Kind.{Kind}
-use Rattle.format_kinds.specs.declared.kind.Kind.TheVariants.{Book, School, Calendar, Prior, Apply, Enroll, Originate, Pay, Withdraw, Repay, Adjust}
+use Rattle.format_kinds.specs.declared.kind.Kind.TheVariants.{Book, School, Calendar, Prior, Apply, Enroll, Originate, Pay, Withdraw, Repay, Adjust, Cost, Sent, Amend}
 use Rattle.format_filings.specs.Spelled.{are_spelled, is_spelled}
 
 -- whether a form spells each number of a limit
@@ -128,6 +128,9 @@ kept-kind Pay = refl
 kept-kind Withdraw = refl
 kept-kind Repay = refl
 kept-kind Adjust = refl
+kept-kind Cost = refl
+kept-kind Sent = refl
+kept-kind Amend = refl
 
 pub numbers_spelled : (kind : Kind) (zs : List ℤ) → AreNumbers (slots_of_kind kind) [] zs → are_spelled (slots_of_kind kind) zs ≡ true
 numbers_spelled kind zs are = spelled_of (slots_of_kind kind) [] zs (kept-kind kind) are

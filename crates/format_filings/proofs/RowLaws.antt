@@ -20,7 +20,7 @@ use Rattle.format_table.specs.declared.field.Form.TheVariants.{U8, U16, U32, U64
 use Rattle.format_kinds.proofs.Laws.{are_sound-kind, few_numbers, narrow_numbers}
 use Rattle.format_kinds.specs.Kinds.{kind_named, name_of, slots_of_kind, table_row_of, words_of_programs}
 use Rattle.format_kinds.specs.declared.kind.Kind.{Kind}
-use Rattle.format_kinds.specs.declared.kind.Kind.TheVariants.{Book, School, Calendar, Prior, Apply, Enroll, Originate, Pay, Withdraw, Repay, Adjust}
+use Rattle.format_kinds.specs.declared.kind.Kind.TheVariants.{Book, School, Calendar, Prior, Apply, Enroll, Originate, Pay, Withdraw, Repay, Adjust, Cost, Sent, Amend}
 use Rattle.aid_types.specs.Whole.{whole_text}
 use Rattle.format_bytes.specs.Numbers.{IsFiling, key_numbers, kind_of, numbers_of}
 use Rattle.format_filings.proofs.Kept.{kept-kind, numbers_spelled}
@@ -43,6 +43,9 @@ texts_are f (what_is.Pay x) h = refl
 texts_are f (what_is.Withdraw x) h = refl
 texts_are f (what_is.Repay x) h = refl
 texts_are f (what_is.Adjust x) h = refl
+texts_are f (what_is.Cost x) h = refl
+texts_are f (what_is.Sent x) h = refl
+texts_are f (what_is.Amend x) h = refl
 
 -- a filing that is no book has a row of all its numbers
 pub no_book : (what : What) → ((b : YearBook) → what ≡ what_is.Book b → ⊥) → has_rows (kind_of what) ≡ true
@@ -57,6 +60,9 @@ no_book (what_is.Pay x) h = refl
 no_book (what_is.Withdraw x) h = refl
 no_book (what_is.Repay x) h = refl
 no_book (what_is.Adjust x) h = refl
+no_book (what_is.Cost x) h = refl
+no_book (what_is.Sent x) h = refl
+no_book (what_is.Amend x) h = refl
 
 -- a kind's name and the texts of its numbers are the row
 pub row_put : (f : Filing) (kind : Kind) (zs : List ℤ) (name old front new : List ℕ) → has_rows (kind_of f.what) ≡ true → kind ≡ kind_of f.what → zs ≡ numbers_of f → name ≡ name_of kind → front ≡ old ++ name
@@ -79,6 +85,9 @@ even-kind Pay h = refl
 even-kind Withdraw h = refl
 even-kind Repay h = refl
 even-kind Adjust h = refl
+even-kind Cost h = refl
+even-kind Sent h = refl
+even-kind Amend h = refl
 
 its_name : (kind : Kind) → kind_named (name_of kind) ≡ Some kind
 unfolding table_row_of
@@ -93,6 +102,9 @@ its_name Pay = refl
 its_name Withdraw = refl
 its_name Repay = refl
 its_name Adjust = refl
+its_name Cost = refl
+its_name Sent = refl
+its_name Amend = refl
 
 pub row_again : (row : ℕ) (f : Filing) → IsFiling f → has_rows (kind_of f.what) ≡ true → row_meaning row (row_texts f) ≡ Ok (filing_said f)
 unfolding field_at
@@ -143,6 +155,9 @@ name_plain Pay = refl
 name_plain Withdraw = refl
 name_plain Repay = refl
 name_plain Adjust = refl
+name_plain Cost = refl
+name_plain Sent = refl
+name_plain Amend = refl
 
 is_row_of : (name : List ℕ) (texts : List (List ℕ)) → is_plain name ≡ true → are_plain texts ≡ true → 1 ≤ length texts → is_row (name ∷ texts) ≡ true
 is_row_of name [] h k some = absurd (omega (arith, some))
@@ -189,6 +204,9 @@ behind_plain f (what_is.Pay x) = numbers_plain (slots_of_kind (kind_of (what_is.
 behind_plain f (what_is.Withdraw x) = numbers_plain (slots_of_kind (kind_of (what_is.Withdraw x))) (numbers_of f)
 behind_plain f (what_is.Repay x) = numbers_plain (slots_of_kind (kind_of (what_is.Repay x))) (numbers_of f)
 behind_plain f (what_is.Adjust x) = numbers_plain (slots_of_kind (kind_of (what_is.Adjust x))) (numbers_of f)
+behind_plain f (what_is.Cost x) = numbers_plain (slots_of_kind (kind_of (what_is.Cost x))) (numbers_of f)
+behind_plain f (what_is.Sent x) = numbers_plain (slots_of_kind (kind_of (what_is.Sent x))) (numbers_of f)
+behind_plain f (what_is.Amend x) = numbers_plain (slots_of_kind (kind_of (what_is.Amend x))) (numbers_of f)
 
 pub row_from_comma : (f : Filing) → list_all (λ b. nat_le 44 b) (row_text f) ≡ true
 row_from_comma f =
@@ -219,6 +237,9 @@ name_stays Pay rest = refl
 name_stays Withdraw rest = refl
 name_stays Repay rest = refl
 name_stays Adjust rest = refl
+name_stays Cost rest = refl
+name_stays Sent rest = refl
+name_stays Amend rest = refl
 
 text_stays : (fs : List Filing) → strip_bom (rows_text fs) ≡ rows_text fs
 unfolding strip_bom

@@ -7,7 +7,7 @@ use Rattle.format_table.specs.Parts.{Slot}
 use Rattle.format_table.proofs.Laws.{few_in, length-most_of, narrow_in}
 use Rattle.format_kinds.specs.Kinds.{key_slots, slots_of_kind, table_row_of}
 use Rattle.format_kinds.specs.declared.kind.Kind.{Kind}
-use Rattle.format_kinds.specs.declared.kind.Kind.TheVariants.{Book, School, Calendar, Prior, Apply, Enroll, Originate, Pay, Withdraw, Repay, Adjust}
+use Rattle.format_kinds.specs.declared.kind.Kind.TheVariants.{Book, School, Calendar, Prior, Apply, Enroll, Originate, Pay, Withdraw, Repay, Adjust, Cost, Sent, Amend}
 
 -- ---- the table
 pub are_sound-kind : (kind : Kind) → are_sound (slots_of_kind kind) ≡ true
@@ -23,6 +23,9 @@ are_sound-kind Pay = refl
 are_sound-kind Withdraw = refl
 are_sound-kind Repay = refl
 are_sound-kind Adjust = refl
+are_sound-kind Cost = refl
+are_sound-kind Sent = refl
+are_sound-kind Amend = refl
 
 pub most_of-kind : (kind : Kind) → most_of (slots_of_kind kind) ≤ most_numbers
 unfolding table_row_of
@@ -37,6 +40,9 @@ most_of-kind Pay = lit≤ tt
 most_of-kind Withdraw = lit≤ tt
 most_of-kind Repay = lit≤ tt
 most_of-kind Adjust = lit≤ tt
+most_of-kind Cost = lit≤ tt
+most_of-kind Sent = lit≤ tt
+most_of-kind Amend = lit≤ tt
 
 pub IsTable-kind : (kind : Kind) → IsTable (slots_of_kind kind)
 IsTable-kind kind = record { sound = are_sound-kind kind; few = most_of-kind kind }

@@ -9,7 +9,7 @@ use Rattle.format_table.specs.declared.field.Form.TheVariants.{U8, U16, U32, U64
 use Rattle.format_table.specs.declared.field.Limit.{Limit}
 use Rattle.format_table.specs.declared.field.Limit.TheVariants.{Between, UpToLast, AboveRow, Continues, Begins}
 use Rattle.format_kinds.specs.declared.kind.Kind.{Kind}
-use Rattle.format_kinds.specs.declared.kind.Kind.TheVariants.{Book, School, Calendar, Prior, Apply, Enroll, Originate, Pay, Withdraw, Repay, Adjust}
+use Rattle.format_kinds.specs.declared.kind.Kind.TheVariants.{Book, School, Calendar, Prior, Apply, Enroll, Originate, Pay, Withdraw, Repay, Adjust, Cost, Sent, Amend}
 
 abbrev pub first_and_last : List Line
 first_and_last = day (codes "first") ∷ day (codes "last") ∷ []
@@ -59,6 +59,19 @@ abbrev pub withdraw_slots : List Slot
 withdraw_slots =
     student ∷ year ∷ term ∷ plain (day (codes "last")) ∷ plain (day (codes "determined"))
     ∷ cents (codes "charges could_unsub could_sub could_plus could_pell could_fseog could_teach")
+
+-- a number by which a school finds a paper
+abbrev pub reference : Slot
+reference = one (codes "reference") U64 (pos 0) (pos 999999999999)
+
+abbrev pub sent_slots : List Slot
+sent_slots =
+    student ∷ year ∷ term ∷ one (codes "program") Word (pos 0) (pos 5) ∷ cents (codes "cents") ++ plain (day (codes "day")) ∷ reference ∷ []
+
+abbrev pub amend_slots : List Slot
+amend_slots =
+    one (codes "of_school") U32 (pos 0) (pos 999999) ∷ one (codes "of_number") U64 (pos 1) (pos 999999999999)
+    ∷ one (codes "change") U8 (pos 1) (pos 3) ∷ one (codes "reason") U8 (pos 1) (pos 7) ∷ reference ∷ []
 
 -- ---- the numbers of a book: amounts, rates and percents, and three tables by rows after their counts
 abbrev pub rates : List ℕ → List ℕ → List Slot
@@ -126,9 +139,12 @@ table_row_of Pay = record { code = 8; name = codes "pay"; slots = amount_slots }
 table_row_of Withdraw = record { code = 9; name = codes "withdraw"; slots = withdraw_slots }
 table_row_of Repay = record { code = 10; name = codes "repay"; slots = amount_slots }
 table_row_of Adjust = record { code = 11; name = codes "adjust"; slots = amount_slots }
+table_row_of Cost = record { code = 12; name = codes "cost"; slots = originate_slots }
+table_row_of Sent = record { code = 13; name = codes "sent"; slots = sent_slots }
+table_row_of Amend = record { code = 14; name = codes "amend"; slots = amend_slots }
 
 abbrev pub kinds : List Kind
-kinds = Book ∷ School ∷ Calendar ∷ Prior ∷ Apply ∷ Enroll ∷ Originate ∷ Pay ∷ Withdraw ∷ Repay ∷ Adjust ∷ []
+kinds = Book ∷ School ∷ Calendar ∷ Prior ∷ Apply ∷ Enroll ∷ Originate ∷ Pay ∷ Withdraw ∷ Repay ∷ Adjust ∷ Cost ∷ Sent ∷ Amend ∷ []
 
 abbrev pub code_of : Kind → ℕ
 code_of kind = (table_row_of kind).code

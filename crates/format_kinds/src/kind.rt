@@ -5,8 +5,8 @@ ghost use Rattle.format_table.specs.Parts.{slots_of};
 
 use crate::book::book_parts;
 use crate::parts::{
-    amount_parts, apply_parts, calendar_parts, enroll_parts, key_parts, originate_parts,
-    prior_parts, school_parts, withdraw_parts,
+    amend_parts, amount_parts, apply_parts, calendar_parts, enroll_parts, key_parts,
+    originate_parts, prior_parts, school_parts, sent_parts, withdraw_parts,
 };
 use format_table::Part;
 
@@ -24,6 +24,9 @@ pub enum Kind {
     Withdraw,
     Repay,
     Adjust,
+    Cost,
+    Sent,
+    Amend,
 }
 
 /// A kind with the number that stands for it in bytes, its name in rows and bodies, and its fields behind those of the key.
@@ -36,7 +39,7 @@ pub struct KindRow {
 }
 
 // The kinds in the order of their codes.
-static KINDS: [Kind; 11] = [
+static KINDS: [Kind; 14] = [
     Kind::Book,
     Kind::School,
     Kind::Calendar,
@@ -48,6 +51,9 @@ static KINDS: [Kind; 11] = [
     Kind::Withdraw,
     Kind::Repay,
     Kind::Adjust,
+    Kind::Cost,
+    Kind::Sent,
+    Kind::Amend,
 ];
 
 macro_rules! row {
@@ -81,6 +87,9 @@ pub fn table_row(kind: Kind) -> KindRow
         Kind::Withdraw => row!(Withdraw, 9, "withdraw": withdraw_parts()),
         Kind::Repay => row!(Repay, 10, "repay": amount_parts()),
         Kind::Adjust => row!(Adjust, 11, "adjust": amount_parts()),
+        Kind::Cost => row!(Cost, 12, "cost": originate_parts()),
+        Kind::Sent => row!(Sent, 13, "sent": sent_parts()),
+        Kind::Amend => row!(Amend, 14, "amend": amend_parts()),
     }
 }
 

@@ -1,6 +1,6 @@
 //! The fields of each kind but the book.
 ghost use Rattle.std.specs.Prelude.{◌≡◌};
-ghost use Rattle.format_kinds.specs.Kinds.{amount_slots, apply_slots, calendar_slots, enroll_slots, key_slots, originate_slots, prior_slots, school_slots, withdraw_slots};
+ghost use Rattle.format_kinds.specs.Kinds.{amend_slots, amount_slots, apply_slots, calendar_slots, enroll_slots, key_slots, originate_slots, prior_slots, school_slots, sent_slots, withdraw_slots};
 ghost use Rattle.format_table.specs.Parts.{slots_of};
 
 use format_table::Form::{Cents, Count, Day, Flag, I64, U8, U16, U32, U64, Word};
@@ -165,6 +165,26 @@ static WITHDRAW: [Part; 12] = [
     one!("could_teach", Cents: 0 to 99_999_999),
 ];
 
+const REFERENCE: Part = one!("reference", U64: 0 to 999_999_999_999);
+
+static SENT: [Part; 7] = [
+    STUDENT,
+    YEAR,
+    TERM,
+    one!("program", Word: 0 to 5),
+    one!("cents", Cents: 0 to 99_999_999),
+    plain!(day!("day")),
+    REFERENCE,
+];
+
+static AMEND: [Part; 5] = [
+    one!("of_school", U32: 0 to 999_999),
+    one!("of_number", U64: 1 to 999_999_999_999),
+    one!("change", U8: 1 to 3),
+    one!("reason", U8: 1 to 7),
+    REFERENCE,
+];
+
 /// The fields of a key, which come first in a filing of any kind.
 pub fn key_parts() -> &'static [Part]
     ensures { slots_of result.now ≡ key_slots }
@@ -207,7 +227,7 @@ pub fn enroll_parts() -> &'static [Part]
     &ENROL
 }
 
-/// The fields of an origination.
+/// The fields of an origination and of a changed cost.
 pub fn originate_parts() -> &'static [Part]
     ensures { slots_of result.now ≡ originate_slots }
 {
@@ -226,4 +246,18 @@ pub fn withdraw_parts() -> &'static [Part]
     ensures { slots_of result.now ≡ withdraw_slots }
 {
     &WITHDRAW
+}
+
+/// The fields of a return that was sent back.
+pub fn sent_parts() -> &'static [Part]
+    ensures { slots_of result.now ≡ sent_slots }
+{
+    &SENT
+}
+
+/// The fields of a record of a correction.
+pub fn amend_parts() -> &'static [Part]
+    ensures { slots_of result.now ≡ amend_slots }
+{
+    &AMEND
 }

@@ -1,4 +1,4 @@
-//! PayloadBuffer for the numbers of a filing.
+//! Room for the numbers of a filing.
 ghost use Rattle.std.specs.Prelude.{◌≡◌, ◌+◌, ◌≤◌, ◌++◌, length};
 ghost use Rattle.format_table.specs.Forms.{most_numbers};
 

@@ -19,7 +19,7 @@ ghost use Rattle.office_history.specs.Past.{cost, credits, is_extra, the_school,
 ghost use Rattle.office_history.specs.Positions.{full_of, terms_of};
 ghost use Rattle.office_history.specs.Within.{IsWithinEveryLimit};
 
-/// Lifetime eligibility used: 600,000 ten-thousandths stand at the limit, and one more is past it (HEA 401(d)(5)).
+/// Lifetime eligibility used: 600,000 thousandths of a percent stand at the limit, and one more is past it (HEA 401(d)(5)).
 pub fn lifetime_limit()
     ensures at { (key : Key) (p : PriorFacts) → p.units ≡ 600000 → used (record { key = key; what = Prior p } ∷ []) p.student ≡ most_units }
     ensures beyond { (key : Key) (p : PriorFacts) → p.units ≡ 600001 → IsWithinEveryLimit (record { key = key; what = Prior p } ∷ []) → ⊥ }

@@ -1,5 +1,5 @@
 -- The first broken rule of lists that are put together: that of the first list, or else that of the second.
-use Rattle.std.proofs.Common.{◌≡◌, cond, ℕ, refl, ap, ◌∙◌, Bool, true, false, List, [], ◌∷◌, ◌++◌, Option, Some, None}
+use Rattle.std.proofs.Common.{◌≡◌, ℕ, refl, ap, ◌∙◌, List, [], ◌∷◌, ◌++◌, Option, Some, None}
 use Rattle.std.specs.Prelude.{◌==◌}
 use Rattle.aid_filings.specs.Calendars.{term_of}
 use Rattle.aid_filings.specs.declared.filing.CalendarFacts.{CalendarFacts}
@@ -7,11 +7,10 @@ use Rattle.aid_filings.specs.declared.filing.Amount.{Amount}
 use Rattle.aid_filings.specs.declared.filing.WithdrawFacts.{WithdrawFacts}
 use Rattle.aid_types.specs.Programs.{rank}
 use Rattle.aid_filings.specs.declared.filing.What.TheVariants.{Calendar, Pay, Withdraw}
-use Rattle.aid_types.specs.declared.award.Refusal.{Refusal}
 use Rattle.aid_types.specs.declared.term.Term.{Term}
 use Rattle.law_rules.specs.declared.facts.Facts.{Facts}
 use Rattle.aid_types.specs.declared.line.RuleLine.{RuleLine}
-use Rattle.aid_types.specs.RuleLines.{first_broken, told_by, lacks, stands, too_early}
+use Rattle.aid_types.specs.RuleLines.{first_broken, lacks, stands, too_early}
 use Rattle.law_rules.specs.Rules.{rule_21, rule_23, rule_24, rule_53, rule_62, rule_90}
 use Rattle.aid_types.proofs.FirstBroken.{first_broken_append, first_of, three_groups}
 use Rattle.law_rules.specs.Lines.{amount_lines, lines_of, past_cost, past_lifetime, past_payment, past_year, pell_lines, rule_52, rule_63, standing_lines}

@@ -19,3 +19,4 @@ pub record AreFactsInRange (f : Facts) : Type 0 where
   pub after : IsSum f.after
   pub after_all : IsSum f.after_all
   pub repaid : IsSum f.repaid
+  pub sent : IsSum f.sent

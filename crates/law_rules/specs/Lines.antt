@@ -4,7 +4,7 @@ use Rattle.aid_filings.specs.Calendars.{term_of}
 use Rattle.aid_types.specs.Programs.{rank}
 use Rattle.aid_types.specs.declared.number.Key.{Key}
 use Rattle.aid_filings.specs.declared.filing.What.{What}
-use Rattle.aid_filings.specs.declared.filing.What.TheVariants.{Book as BookFiled, School, Calendar, Prior, Apply, Enroll, Originate, Pay, Withdraw, Repay, Adjust}
+use Rattle.aid_filings.specs.declared.filing.What.TheVariants.{Book as BookFiled, School, Calendar, Prior, Apply, Enroll, Originate, Pay, Withdraw, Repay, Adjust, Cost, Sent, Amend}
 use Rattle.aid_types.specs.declared.award.Refusal.{Refusal}
 use Rattle.law_terms.specs.Terms.{intensity_of, payment_of}
 use Rattle.law_terms.specs.Used.{use_of}
@@ -86,8 +86,9 @@ payment_lines f school student year term program cents =
 
 -- the lines of a filing by a school, in the order of its kind. 12, 30, 31: its school, term or application isn't on file; 14: the office's own
 -- desk alone files it; 10: no book; 11, 13, 20, 41, 61, 80: it is on file; 22: it overlaps another term of the school; 34: the student withdrew
--- from the term; 82: a Pell payment is on file; 32: credits 0 or above 40; 33: more is paid than they give; 42, 71: the amount is 0; 60: not
--- enrolled; 70: past what is owed; 72: past the net paid; 81: past the lifetime limit
+-- from the term; 82: a Pell payment is on file; 32: credits 0 or above 40; 33: more is paid than they give; 42, 71: the amount is 0; 45: more is
+-- paid than the changed cost; 50: no origination; 60: not enrolled; 64: no withdrawal; 65: sent before the school determined it; 66: past what
+-- is returned; 70: past what is owed; 72: past the net paid; 81: past the lifetime limit
 abbrev pub lines_of : Facts → ℕ → What → List RuleLine
 lines_of f school (BookFiled b) = rule_90 f.filings ∷ over 14 school 0 ∷ stands 11 f.book_at b.year ∷ []
 lines_of f school (School s) = rule_90 f.filings ∷ over 14 school 0 ∷ stands 13 f.code_at s.code ∷ []
@@ -114,6 +115,13 @@ lines_of f school (Repay a) =
 lines_of f school (Adjust a) =
     rule_90 f.filings ∷ lacks 12 f.school_at school 0 ∷ lacks 30 f.term_at a.term 0 ∷ where_true 71 (a.cents == 0) 0 1 ∷ stands 34 f.withdrawn_at a.term
     ∷ over 72 a.cents f.net ∷ []
+lines_of f school (Cost o) =
+    rule_90 f.filings ∷ lacks 12 f.school_at school 0 ∷ lacks 50 f.cost_at o.student school ∷ where_true 42 (o.cost == 0) 0 1
+    ∷ over 45 f.net_all (100 * o.cost) ∷ []
+lines_of f school (Sent s) =
+    rule_90 f.filings ∷ lacks 12 f.school_at school 0 ∷ lacks 64 f.withdrawn_at s.student s.term ∷ where_true 71 (s.cents == 0) 0 1
+    ∷ too_early 65 s.day f.determined ∷ over 66 (f.sent + s.cents) f.returned ∷ []
+lines_of f school (Amend a) = rule_90 f.filings ∷ only (nat_lt 0 school) (lacks 12 f.school_at school 0 ∷ [])
 
 -- the first broken rule of a filing
 abbrev pub broken_of : Facts → Key → What → Option Refusal

@@ -1,6 +1,6 @@
 -- The rules on a filing, as lines of data on the numbers that they read: when a rule is broken, and what it then tells.
 -- The rule numbers and the numbers told are the office's own; docs/DEFINITIONS.md has the source of what each rule keeps.
-use Rattle.std.specs.Prelude.{ℕ, ◌+◌, ◌*◌, ◌%◌, ◌==◌, ◌&&◌, ◌||◌, Bool, true, false, not, nat_lt, nat_le, List, [], ◌∷◌, length, Option, Some, None, if◌then◌else◌}
+use Rattle.std.specs.Prelude.{ℕ, ◌+◌, ◌*◌, ◌%◌, ◌==◌, ◌&&◌, ◌||◌, Bool, false, not, nat_le, List, [], ◌∷◌, length, Option, Some, None, if◌then◌else◌}
 use Rattle.aid_types.specs.declared.term.Term.{Term}
 use Rattle.aid_types.specs.RuleLines.{only, over, too_early, where_true}
 use Rattle.aid_types.specs.declared.line.RuleLine.{RuleLine}

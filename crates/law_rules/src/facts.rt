@@ -1,5 +1,5 @@
 //! What the rules read of the filings so far.
-use aid_types::{ByProgram, Refusal, Term};
+use aid_types::{ByProgram, Day, Refusal, Term};
 
 /// What the rules read of the filings that stand. A position counts from 1, and is 0 where there is nothing; amounts are
 /// in cents, awards and costs in dollars, lifetime use in thousandths of a percent. 'The school' is that of the filing's
@@ -32,7 +32,7 @@ pub struct Facts {
     /// Its index and the least index at the year's ceiling, where the ceiling is why there is no award.
     pub ceiling_index: u32,
     pub ceiling_bound: u32,
-    /// The position of the origination at the school in the year, and its cost of attendance.
+    /// The position of the origination at the school in the year, and the cost of attendance in force.
     pub cost_at: u32,
     pub cost: u32,
     /// The credits in force in the term, 0 where the student isn't enrolled.
@@ -62,6 +62,11 @@ pub struct Facts {
     /// What the student owes of the program in the term, and what was repaid of it.
     pub owed: u64,
     pub repaid: u64,
+    /// The day on which the school determined the withdrawal from the term, 1900-01-01 where there is none; what the
+    /// withdrawal returns of the program in the term, and what was sent back of it.
+    pub determined: Day,
+    pub returned: u64,
+    pub sent: u64,
     /// Why the filed application is out of range for the book.
     pub unfit: Option<Refusal>,
     /// The Scheduled Award that the filed application gives, 0 where it is out of range, and the first term that holds
@@ -107,6 +112,9 @@ impl Facts {
         could: ByProgram::EMPTY,
         owed: 0,
         repaid: 0,
+        determined: Day(-25_567),
+        returned: 0,
+        sent: 0,
         unfit: None,
         next_scheduled: 0,
         term_over: None,

@@ -44,5 +44,8 @@ pub fn broken(f: &Facts, key: &Key, what: &What) -> Option<Refusal>
         What::Withdraw(withdrawal) => withdrawal::broken_withdrawal(f, school, withdrawal),
         What::Repay(repayment) => school::broken_repayment(f, school, repayment),
         What::Adjust(adjustment) => school::broken_adjustment(f, school, adjustment),
+        What::Cost(cost) => school::broken_cost(f, school, cost),
+        What::Sent(sent) => school::broken_sending(f, school, sent),
+        What::Amend(amendment) => desk::broken_amendment(f, school, amendment),
     }
 }

@@ -84,12 +84,12 @@ module _ {Entry Lines : Type 0} (lock : TableId) (opening : Snapshot (Filed Entr
 
 module _ {Entry : Type 0} (lock : TableId) where
   -- a part of a pass that knows nothing but the opening list is such a pass too
-  pub fresh_part : (opening : Snapshot (Filed Entry)) (first part : Known (Filed Entry)) (share : ℕ) → IsFresh lock opening first → part ≡ record first { allowance = share; mine = []; settled = []; left = []; faults = 0 } → IsFresh lock opening part
+  pub fresh_part : (opening : Snapshot (Filed Entry)) (first part : Known (Filed Entry)) (share : ℕ) → IsFresh lock opening first → part ≡ record first { allowance = share; mine = []; settled = []; left = []; faults = 0; wants = 0; turns = 0 } → IsFresh lock opening part
   fresh_part opening first part share fresh is =
-      subst (IsFresh lock opening) (sym is) (record { lock_is = fresh.lock_is; opening_is = fresh.opening_is; seen = fresh.seen; mine = refl; settled = refl; left = refl; faults = refl })
+      subst (IsFresh lock opening) (sym is) (record { lock_is = fresh.lock_is; opening_is = fresh.opening_is; seen = fresh.seen; mine = refl; settled = refl; left = refl; faults = refl; wants = refl; turns = refl })
 
   -- the desk that gets it is ready
-  pub ready_of : {Lines : Type 0} (opening : Snapshot (Filed Entry)) (first part : Known (Filed Entry)) (old new : DeskView Entry Lines) → IsFresh lock opening first → part ≡ record first { allowance = 1; mine = []; settled = []; left = []; faults = 0 }
+  pub ready_of : {Lines : Type 0} (opening : Snapshot (Filed Entry)) (first part : Known (Filed Entry)) (old new : DeskView Entry Lines) → IsFresh lock opening first → part ≡ record first { allowance = 1; mine = []; settled = []; left = []; faults = 0; wants = 0; turns = 0 }
       → new ≡ record old { handle = Some part } → old.ended ≡ Open → IsReady lock opening new
   ready_of {Lines} opening first part old new fresh is given begun =
       (part, ap (λ (d : DeskView Entry Lines). d.handle) given, fresh_part opening first part 1 fresh is, ap (λ (k : Known (Filed Entry)). k.allowance) is, ap (λ (d : DeskView Entry Lines). d.ended) given ∙ begun)

@@ -37,6 +37,8 @@ pub record IsFresh {E : Type 0} (lock : TableId) (opening : Snapshot (Filed E)) 
   pub settled : handle.settled ≡ []
   pub left : handle.left ≡ []
   pub faults : handle.faults ≡ 0
+  pub wants : handle.wants ≡ 0
+  pub turns : handle.turns ≡ 0
 
 -- the desk has such a pass with one part of the lock's passes, and hasn't begun
 abbrev pub IsReady : {Entry Lines : Type 0} → TableId → Snapshot (Filed Entry) → DeskView Entry Lines → Type 0
@@ -66,7 +68,8 @@ pub record Works {Entry Operation Response Error Lines : Type 0} (semantics : Se
   pub ends : (opening : Snapshot (Filed Entry)) → IsReady lock opening old → HasEnded lock opening new
   pub files : (known : Known (Filed Entry)) → new.handle ≡ Some known → Files semantics own copied texts old.number old.prefix (left old.rows) new.text new.answered new.ended new.last known
 
--- what the turns of a desk's pass admitted, settled and left undecided, how many faults they told of, and the list that it saw last
+-- what the turns of a desk's pass admitted, settled and left undecided, how many faults they told of, how often of want of memory, how many
+-- they were, and the list that it saw last
 abbrev pub mine_in : {E : Type 0} → Option (Known E) → List (ℕ × E)
 mine_in None = []
 mine_in (Some known) = known.mine
@@ -82,6 +85,14 @@ left_in (Some known) = known.left
 abbrev pub faults_in : {E : Type 0} → Option (Known E) → ℕ
 faults_in None = 0
 faults_in (Some known) = known.faults
+
+abbrev pub wants_in : {E : Type 0} → Option (Known E) → ℕ
+wants_in None = 0
+wants_in (Some known) = known.wants
+
+abbrev pub turns_in : {E : Type 0} → Option (Known E) → ℕ
+turns_in None = 0
+turns_in (Some known) = known.turns
 
 abbrev pub seen_in : {E : Type 0} → Option (Known E) → List E
 seen_in None = []
@@ -102,10 +113,13 @@ pub record IsJoined {E : Type 0} (before after : Known (Filed E)) (known : Optio
   pub lock_is : after.lock ≡ before.lock
   pub share : after.allowance ≡ before.allowance + 1
   pub opening_is : after.opening ≡ before.opening
+  pub room_is : after.room ≡ before.room
   pub mine : after.mine ≡ before.mine ++ mine_in known
   pub settled : after.settled ≡ before.settled ++ settled_in known
   pub left : after.left ≡ before.left ++ left_in known
   pub faults : after.faults ≡ before.faults + faults_in known
+  pub wants : after.wants ≡ before.wants + wants_in known
+  pub turns : after.turns ≡ before.turns + turns_in known
   pub earlier : IsOlder before.seen after.seen
   pub seen : IsOlder (seen_in known) after.seen
 

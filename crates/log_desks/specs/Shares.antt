@@ -1,5 +1,5 @@
 -- What a shared list is to its callers.
-use Rattle.std.specs.Prelude.{◌≡◌, ◌≤◌, ◌⊎◌, ℕ, Bool, true, false, List, ◌∷◌, Option, Some, None, is_some}
+use Rattle.std.specs.Prelude.{◌≡◌, ◌≤◌, ◌⊎◌, ℕ, Bool, true, false, List, Option, Some, None, is_some}
 use Rattle.io_traits.specs.DiskState.{IsHonest}
 use Rattle.io_traits.specs.declared.disk.Disk.{Ghosts}
 use Rattle.log_machine.specs.Recovers.{Recovers}

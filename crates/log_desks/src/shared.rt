@@ -111,7 +111,7 @@ fn note<R: SingleEntryMachine>(
 
 impl<D: Disk, R: SingleEntryMachine, M: Since> SharedList<D, R, M> {
     /// Shares a list of which nothing is undecided. Its file is made longer ahead of its records, since of a turn it isn't known
-    /// for certain what comes next. PayloadBuffer is taken for the rows that wait, where there is memory for it.
+    /// for certain what comes next. Room is taken for the rows that wait, where there is memory for it.
     pub fn new(alloc: Global, mut kept: Log<D, R>) -> SharedList<D, R, M>
         requires { kept.pending ≡ None }
         ensures disk { result.disk ≡ kept.disk }

@@ -14,10 +14,10 @@ use lib.ListN.{get_elem?}
 use Rattle.atomic_table.proofs.Lists.{at_set, at_snoc, at_longer, set_here, set_else}
 use Rattle.log_lock.specs.declared.turned.Snapshot.{Snapshot}
 use Rattle.log_lock.specs.declared.view.View.{View}
-use Rattle.log_lock.specs.Turning.{RoseBy}
+use Rattle.log_lock.specs.Turning.{RoseBy, TakesRoom}
 use Rattle.log_lock.specs.Passes.{IsOlder, numbered}
 use Rattle.log_lock.specs.Views.{IsOpen, newcomer, with_less, with_part, with_other, with_longer, longer, longer_by}
-use Rattle.log_lock.specs.Rule.{entries, HasNothing, Knows, LeftBy, Accounts, Moves}
+use Rattle.log_lock.specs.Rule.{entries, HasNothing, Knows, LeftBy, Accounts, Moves, Rooms}
 use Rattle.log_lock.proofs.Lists.{none_some, got, sum_set, older_refl, older_nil, older_trans, older_both, numbered_append, contains_none, by_columns, flat_set_same, flat_set_more, flat_join}
 
 rose_on : (m n old mid new : ℕ) → RoseBy m old mid → RoseBy n mid new → mid ≤ new ⊎ (2 ^ 64 - 1 ≤ new) → RoseBy (m + n) old new
@@ -35,7 +35,7 @@ rose_same m n old new e rose = subst (λ k. RoseBy k old new) (sym e) rose
 
 module _ {E : Type 0} where
   pub nothing : HasNothing (newcomer {E = E} 0)
-  nothing = record { mine = refl; settled = refl; left = refl; faults = refl }
+  nothing = record { mine = refl; settled = refl; left = refl; faults = refl; wants = refl; turns = refl }
 
   no_entries : (v : View E) → HasNothing v → entries v ≡ []
   no_entries v none = ap₂ (λ l m. l ++ m) none.mine none.settled
@@ -50,7 +50,11 @@ module _ {E : Type 0} where
   }
 
   pub knows_number : (start now : Snapshot E) (v : View E) (n : Option ℕ) (base : Option (Snapshot E)) → Knows start now v → Knows start now (record v { number = n; base = base })
-  knows_number start now v n base k = record { opening = k.opening; seen = k.seen; also = k.also; nothing = λ e. let none = k.nothing e in record { mine = none.mine; settled = none.settled; left = none.left; faults = none.faults } }
+  knows_number start now v n base k = record { opening = k.opening; seen = k.seen; also = k.also; nothing = λ e. let none = k.nothing e in record { mine = none.mine; settled = none.settled; left = none.left; faults = none.faults; wants = none.wants; turns = none.turns } }
+
+  pub knows_served : (start now : Snapshot E) (v : View E) (base : Option (Snapshot E)) (room : ℕ) → Knows start now v → Knows start now (record v { base = base; held = room })
+  knows_served start now v base room k =
+      record { opening = k.opening; seen = k.seen; also = k.also; nothing = λ e. let none = k.nothing e in record { mine = none.mine; settled = none.settled; left = none.left; faults = none.faults; wants = none.wants; turns = none.turns } }
 
   -- of two older parts the longer one has both
   longer_case : (n : ℕ) (one other list : List E) → length other - length one ≡ n → IsOlder one list → IsOlder other list
@@ -74,7 +78,7 @@ module _ {E : Type 0} where
     opening = k.opening;
     seen = (longer_is v.seen v.also now.list k.seen k.also).2;
     also = older_nil now.list;
-    nothing = λ e. let none = k.nothing e in record { mine = none.mine; settled = none.settled; left = none.left; faults = none.faults };
+    nothing = λ e. let none = k.nothing e in record { mine = none.mine; settled = none.settled; left = none.left; faults = none.faults; wants = none.wants; turns = none.turns };
   }
 
   has_share : (start : Snapshot E) (v : View E) → 1 ≤ v.allowance → (v.opening ≡ Some start) ⊎ ((v.opening ≡ None) × (v.allowance ≡ 0)) → v.opening ≡ Some start
@@ -93,7 +97,7 @@ module _ {E : Type 0} where
     opening = inl (has_share start v (omega (arith, lt)) k.opening);
     seen = k.seen;
     also = k.also;
-    nothing = λ e. record { mine = refl; settled = refl; left = refl; faults = refl };
+    nothing = λ e. record { mine = refl; settled = refl; left = refl; faults = refl; wants = refl; turns = refl };
   }
 
   pub knows_spent : (start now : Snapshot E) → Knows start now (newcomer 0)
@@ -117,6 +121,8 @@ module _ {E : Type 0} where
       settled = ap₂ (λ l m. l ++ m) a.settled b.settled;
       left = ap₂ (λ l m. l ++ m) a.left b.left;
       faults = omega (arith, a.faults, b.faults);
+      wants = omega (arith, a.wants, b.wants);
+      turns = omega (arith, a.turns, b.turns);
     };
   }
 
@@ -261,4 +267,55 @@ module _ {E : Type 0} where
             (omega (arith, sum_set (λ (u : View E). u.faults) views id v b at, sum_set (λ (u : View E). u.faults) one other w r at_other, faults, none.faults)) a.faults;
         still = λ calm. a.still (omega (arith, sum_set (λ (u : View E). u.faults) views id v b at, sum_set (λ (u : View E). u.faults) one other w r at_other, faults, none.faults, calm));
         fixed = a.fixed;
+      }
+
+  -- the same of the room that the turns took: the seat changes nothing that counts
+  pub rooms_set : (before room : ℕ) (views : List (View E)) (id : ℕ) (v w : View E) → get_elem? views id ≡ some v → w.wants ≡ v.wants → w.turns ≡ v.turns → Rooms before room views → Rooms before room (set views id w)
+  rooms_set before room views id v w at wants turns r =
+      let all_wants = sum_set (λ (u : View E). u.wants) views id v w at in
+      let all_turns = sum_set (λ (u : View E). u.turns) views id v w at in
+      record {
+        taken = omega (arith, all_wants, all_turns, wants, turns, r.taken);
+        wanted = λ some_want. let old = r.wanted (omega (arith, all_wants, wants, some_want)) in omega (arith, all_wants, all_turns, wants, turns, old);
+      }
+
+  -- a seat comes that has nothing
+  pub rooms_snoc : (before room : ℕ) (views : List (View E)) (r : View E) → HasNothing r → Rooms before room views → Rooms before room (views ++ r ∷ [])
+  rooms_snoc before room views r none old =
+      let wants : sum_by (λ (u : View E). u.wants) (views ++ r ∷ []) ≡ sum_by (λ (u : View E). u.wants) views =
+      omega (arith, sum_by-append (λ (u : View E). u.wants) views (r ∷ []), sum_by-cons (λ (u : View E). u.wants) r [], none.wants) in
+      let turns : sum_by (λ (u : View E). u.turns) (views ++ r ∷ []) ≡ sum_by (λ (u : View E). u.turns) views =
+      omega (arith, sum_by-append (λ (u : View E). u.turns) views (r ∷ []), sum_by-cons (λ (u : View E). u.turns) r [], none.turns) in
+      record {
+        taken = omega (arith, wants, turns, old.taken);
+        wanted = λ some_want. let known = old.wanted (omega (arith, wants, some_want)) in omega (arith, wants, turns, known);
+      }
+
+  -- the seat ends a turn
+  pub rooms_end : (before room new wants : ℕ) (views : List (View E)) (id : ℕ) (v w : View E) → get_elem? views id ≡ some v → TakesRoom wants room new → w.wants ≡ v.wants + wants → w.turns ≡ v.turns + 1
+      → Rooms before room views → Rooms before new (set views id w)
+  rooms_end before room new wants views id v w at takes wants_is turns_is r =
+      let all_wants = sum_set (λ (u : View E). u.wants) views id v w at in
+      let all_turns = sum_set (λ (u : View E). u.turns) views id v w at in
+      record {
+        taken = omega (arith, all_wants, all_turns, wants_is, turns_is, r.taken, takes.1);
+        wanted = λ some_want. dite (ℕ_discrete (sum_by (λ (u : View E). u.wants) views) 0)
+            (λ (first : sum_by (λ (u : View E). u.wants) views ≡ 0). let none = takes.2 (omega (arith, all_wants, wants_is, some_want, first)) in
+            omega (arith, all_wants, all_turns, wants_is, turns_is, first, none, r.taken, takes.0))
+            (λ (more : ¬ (sum_by (λ (u : View E). u.wants) views ≡ 0)). let old = r.wanted (omega (arith, more)) in
+            omega (arith, all_wants, all_turns, wants_is, turns_is, old, takes.0));
+      }
+
+  -- the seat takes all that another one has
+  pub rooms_join : (before room : ℕ) (views : List (View E)) (id other : ℕ) (v w b r : View E) → get_elem? views id ≡ some v → get_elem? (set views id b) other ≡ some w
+      → b.wants ≡ v.wants + w.wants → b.turns ≡ v.turns + w.turns → HasNothing r → Rooms before room views → Rooms before room (set (set views id b) other r)
+  rooms_join before room views id other v w b r at at_other wants_is turns_is none old =
+      let one : List (View E) = set views id b in
+      let wants : sum_by (λ (u : View E). u.wants) (set one other r) ≡ sum_by (λ (u : View E). u.wants) views =
+      omega (arith, sum_set (λ (u : View E). u.wants) views id v b at, sum_set (λ (u : View E). u.wants) one other w r at_other, wants_is, none.wants) in
+      let turns : sum_by (λ (u : View E). u.turns) (set one other r) ≡ sum_by (λ (u : View E). u.turns) views =
+      omega (arith, sum_set (λ (u : View E). u.turns) views id v b at, sum_set (λ (u : View E). u.turns) one other w r at_other, turns_is, none.turns) in
+      record {
+        taken = omega (arith, wants, turns, old.taken);
+        wanted = λ some_want. let known = old.wanted (omega (arith, wants, some_want)) in omega (arith, wants, turns, known);
       }

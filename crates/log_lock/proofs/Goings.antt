@@ -1,16 +1,21 @@
 -- What a turn adds to what its pass has, read off the two stands.
-use Rattle.std.proofs.Common.{◌≡◌, ℕ, zero, suc, ◌+◌, inl, inr, List, [], ◌∷◌, ◌++◌, Option, Some, None, length, refl, sym, ap, ap₂, ◌∙◌, subst, arith, length-append}
+use Rattle.std.proofs.Common.{◌≡◌, ℕ, zero, suc, ◌+◌, ◌≤◌, Bool, true, false, IsTrue, inl, inr, List, [], ◌∷◌, ◌++◌, Option, Some, None, length, refl, sym, ap, ap₂, ◌∙◌, subst, arith, length-append}
 use Rattle.std.specs.Prelude.{Contains, IsPermutation}
 use Rattle.std.proofs.lemmas.List.{append-nil}
 use Rattle.std.proofs.lemmas.List.Sorted.{IsPermutation-refl}
 use Rattle.atomic_table.specs.Seated.{TableId}
 use Rattle.log_lock.specs.declared.turned.Snapshot.{Snapshot}
 use Rattle.log_lock.specs.declared.view.View.{View}
-use Rattle.log_lock.specs.Turning.{Says, Goes, stays, stays_pending, settles, fails, admits, leaves, RoseBy, faults_in, with_entry, settled_list}
+use Rattle.log_lock.specs.Turning.{Says, Goes, stays, stays_pending, settles, fails, admits, leaves, RoseBy, TakesRoom, faults_in, wants_in, with_entry, settled_list}
 use Rattle.log_lock.specs.Passes.{Known, IsOlder, numbered, next_of, with_turn}
 use Rattle.log_lock.specs.Views.{known, opening_of, newest, growth, own_by, settled_by, left_by, mine_in, settled_in, left_in, after_turn}
 use Rattle.log_lock.specs.Rule.{HasGone, Moves, MovesBy}
 use Rattle.log_lock.proofs.Lists.{none_some, contains_one, contains_none, contains_first}
+
+-- what a turn takes of the room
+pub takes_room : (wants : Bool) (old new : ℕ) → (IsTrue wants → old ≡ 0) → old ≤ new + 1 → TakesRoom (wants_in wants) old new
+takes_room true old new none less = let is = none refl in (omega arith, omega (arith, is), λ _. is)
+takes_room false old new none less = (omega arith, omega (arith, less), λ some_want. absurd (omega (arith, some_want)))
 
 module _ {E : Type 0} where
   -- the entries that settling adds
@@ -177,9 +182,9 @@ module _ {E : Type 0} where
     pub moves_of : (own : Option E) (says : Says) → HasGone own says old new → MovesBy (faults_in says) old new
     moves_of own says gone = moves_by (faults_in says) gone.1 gone.2 gone.3 own says gone.0
 
-    module _ (lock : TableId) (v : View E) where
+    module _ (lock : TableId) (wants : ℕ) (v : View E) where
       abbrev build : ℕ → List (ℕ × E) → List (ℕ × E) → List (ℕ × E) → Known E
-      build n mine settled left = record { lock = lock; allowance = v.allowance; opening = opening_of v.opening; seen = new.list; mine = mine; settled = settled; left = left; faults = v.faults + n }
+      build n mine settled left = record { lock = lock; allowance = v.allowance; opening = opening_of v.opening; room = v.room; seen = new.list; mine = mine; settled = settled; left = left; faults = v.faults + n; wants = v.wants + wants; turns = v.turns + 1 }
 
       built : (n : ℕ) (mine mine' settled settled' left left' : List (ℕ × E)) → mine ≡ mine' → settled ≡ settled' → left ≡ left' → build n mine settled left ≡ build n mine' settled' left'
       built n mine mine' settled settled' left left' a b c =
@@ -193,7 +198,7 @@ module _ {E : Type 0} where
 
       -- what the pass knows after the turn
       pub known_after : (own : Option E) (says : Says) (goes : Goes own old says new)
-          → known lock (after_turn (faults_in says) old new v) ≡ record (with_turn goes (known lock v)) { seen = new.list; faults = v.faults + faults_in says }
+          → known lock (after_turn (faults_in says) wants old new v) ≡ record (with_turn goes (known lock v)) { seen = new.list; faults = v.faults + faults_in says; wants = v.wants + wants; turns = v.turns + 1 }
       known_after own says (stays list pending is) =
           let shows = unchanged list pending in
           built (faults_in says) _ _ _ _ _ _ (none_more v.mine (mine_in old new) shows.mine_is) (none_more v.settled (settled_in old new) shows.settled_is) (none_more v.left (left_in old new) shows.left_is)

@@ -1,5 +1,5 @@
 -- What one turn of a state does with its list. A list is read newest first.
-use Rattle.std.specs.Prelude.{◌≡◌, ◌⊎◌, ◌+◌, ◌-◌, ◌≤◌, ◌^◌, ℕ, List, ◌∷◌, Option, Some, None, length}
+use Rattle.std.specs.Prelude.{◌≡◌, ◌⊎◌, ◌+◌, ◌-◌, ◌≤◌, ◌<◌, ◌^◌, ℕ, Bool, true, false, List, ◌∷◌, Option, Some, None, length}
 use Rattle.log_lock.specs.declared.turned.Snapshot.{Snapshot}
 
 -- what a reply says of entries
@@ -23,6 +23,15 @@ faults_in Nothing = 0
 -- a count of faults rose by so many at least, or has come to the end of its type
 abbrev pub RoseBy : ℕ → ℕ → ℕ → Type 0
 RoseBy n old new = (old + n ≤ new) ⊎ (2 ^ 64 - 1 ≤ new)
+
+-- how many replies tell of want of memory, by whether this one does
+abbrev pub wants_in : Bool → ℕ
+wants_in true = 1
+wants_in false = 0
+
+-- A turn finds no room where its reply tells of want of memory, and takes nothing of it then. Any other turn takes one place at most.
+abbrev pub TakesRoom : ℕ → ℕ → ℕ → Type 0
+TakesRoom wants old new = (wants ≤ 1) × (old + wants ≤ new + 1) × (0 < wants → old ≡ 0)
 
 -- the list with an entry more, where there is one
 abbrev pub with_entry : {E : Type 0} → Option E → List E → List E

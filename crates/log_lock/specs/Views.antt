@@ -26,19 +26,19 @@ opening_of (Some start) = start
 
 -- what a pass with that view knows
 abbrev pub known : {E : Type 0} → TableId → View E → Known E
-known lock v = record { lock = lock; allowance = v.allowance; opening = opening_of v.opening; seen = v.seen; mine = v.mine; settled = v.settled; left = v.left; faults = v.faults }
+known lock v = record { lock = lock; allowance = v.allowance; opening = opening_of v.opening; room = v.room; seen = v.seen; mine = v.mine; settled = v.settled; left = v.left; faults = v.faults; wants = v.wants; turns = v.turns }
 
 -- the view of the first pass of a lock that has no state yet
 abbrev pub newcomer : {E : Type 0} → ℕ → View E
-newcomer handles = record { opening = None; seen = []; also = []; mine = []; settled = []; left = []; faults = 0; allowance = handles; number = None; base = None }
+newcomer handles = record { opening = None; room = 0; seen = []; also = []; mine = []; settled = []; left = []; faults = 0; wants = 0; turns = 0; allowance = handles; number = None; base = None; held = 0 }
 
 -- while it brings the state
 abbrev pub bringer : {E : Type 0} → ℕ → View E
-bringer handles = record { opening = None; seen = []; also = []; mine = []; settled = []; left = []; faults = 0; allowance = handles; number = Some 0; base = None }
+bringer handles = record { opening = None; room = 0; seen = []; also = []; mine = []; settled = []; left = []; faults = 0; wants = 0; turns = 0; allowance = handles; number = Some 0; base = None; held = 0 }
 
 -- and once it has brought it
-abbrev pub begun : {E : Type 0} → ℕ → Snapshot E → View E
-begun handles start = record { opening = Some start; seen = start.list; also = []; mine = []; settled = []; left = []; faults = 0; allowance = handles; number = None; base = None }
+abbrev pub begun : {E : Type 0} → ℕ → Snapshot E → ℕ → View E
+begun handles start room = record { opening = Some start; room = room; seen = start.list; also = []; mine = []; settled = []; left = []; faults = 0; wants = 0; turns = 0; allowance = handles; number = None; base = None; held = 0 }
 
 -- what a badge's pass knows
 abbrev pub known_of : {E : Type 0} → TableId → List (View E) → Known E
@@ -81,17 +81,20 @@ settled_in old new = settled_by (growth old new) old.pending old.list
 abbrev pub left_in : {E : Type 0} → Snapshot E → Snapshot E → List (ℕ × E)
 left_in old new = left_by (growth old new) old.pending new.pending new.list
 
--- the view after a turn, whose reply told of so many faults
-abbrev pub after_turn : {E : Type 0} → ℕ → Snapshot E → Snapshot E → View E → View E
-after_turn faults old new v =
+-- the view after a turn, whose reply told of so many faults, and so often of want of memory
+abbrev pub after_turn : {E : Type 0} → ℕ → ℕ → Snapshot E → Snapshot E → View E → View E
+after_turn faults wants old new v =
     record v {
       seen = new.list;
       mine = v.mine ++ mine_in old new;
       settled = v.settled ++ settled_in old new;
       left = v.left ++ left_in old new;
       faults = v.faults + faults;
+      wants = v.wants + wants;
+      turns = v.turns + 1;
       number = None;
       base = None;
+      held = 0;
     }
 
 -- the view with so much less of the allowance, and that of the new pass that has it
@@ -99,7 +102,8 @@ abbrev pub with_less : {E : Type 0} → ℕ → View E → View E
 with_less share v = record v { allowance = v.allowance - share }
 
 abbrev pub with_part : {E : Type 0} → ℕ → View E → View E
-with_part share v = record { opening = v.opening; seen = v.seen; also = v.also; mine = []; settled = []; left = []; faults = 0; allowance = share; number = None; base = None }
+with_part share v =
+    record { opening = v.opening; room = v.room; seen = v.seen; also = v.also; mine = []; settled = []; left = []; faults = 0; wants = 0; turns = 0; allowance = share; number = None; base = None; held = 0 }
 
 -- the view with all that another one has, and what that has seen beside its own
 abbrev pub with_other : {E : Type 0} → View E → View E → View E
@@ -110,6 +114,8 @@ with_other v w =
       settled = v.settled ++ w.settled;
       left = v.left ++ w.left;
       faults = v.faults + w.faults;
+      wants = v.wants + w.wants;
+      turns = v.turns + w.turns;
       allowance = v.allowance + w.allowance;
     }
 

@@ -1,6 +1,6 @@
 // The steps of the seats of a lock's table, one after the other as its calls need them.
-ghost use Rattle.std.specs.Prelude.{◌≡◌, ◌<◌, ◌≤◌, ◌%◌, ◌^◌, ◌==◌, [], ◌∷◌, ℕ, Some, None, MatchBool};
-ghost use Rattle.log_lock.specs.Turning.{faults_in};
+ghost use Rattle.std.specs.Prelude.{◌≡◌, ◌+◌, ◌<◌, ◌≤◌, ◌%◌, ◌^◌, ◌==◌, [], ◌∷◌, ℕ, Some, None, MatchBool};
+ghost use Rattle.log_lock.specs.Turning.{TakesRoom, faults_in, wants_in};
 ghost use Rattle.log_lock.specs.declared.turned.Snapshot.{Snapshot};
 ghost use Rattle.log_lock.specs.Passes.{IsOlder, TakesSubmit};
 ghost use Rattle.log_lock.specs.Views.{newcomer, bringer, begun, known, with_less, with_part, with_other, with_longer};
@@ -36,7 +36,7 @@ impl<T: LockedState> TicketLock<T> {
         requires decided { (T.snapshot state).pending ≡ None }
         requires reached { T.reached (T.snapshot state) state }
         ensures lock { seat.new.table_id ≡ seat.old.table_id }
-        ensures begun { seat.new.me ≡ (begun self.now.handles (T.snapshot state), []) }
+        ensures begun { seat.new.me ≡ (begun self.now.handles (T.snapshot state) (T.room state), []) }
     {
         self.table.shared.load::<TakeEmpty>(seat, 0);
         let before = self.table.shared.exchange(seat, 0, Some(state));
@@ -49,7 +49,7 @@ impl<T: LockedState> TicketLock<T> {
         requires lock { seat.old.table_id ≡ self.now.id }
         requires first { (x : T) × (seat.old.me ≡ (bringer self.now.handles, (0, Some x) ∷ [])) × ((T.snapshot x).pending ≡ None) × T.reached (T.snapshot x) x }
         ensures lock { seat.new.table_id ≡ seat.old.table_id }
-        ensures begun { (x : T) → seat.old.me.1 ≡ (0, Some x) ∷ [] → seat.new.me ≡ (begun self.now.handles (T.snapshot x), []) }
+        ensures begun { (x : T) → seat.old.me.1 ≡ (0, Some x) ∷ [] → seat.new.me ≡ (begun self.now.handles (T.snapshot x) (T.room x), []) }
     {
         self.table.shared.load::<Bring<T>>(seat, 0);
     }
@@ -97,7 +97,7 @@ impl<T: LockedState> TicketLock<T> {
         requires lock { seat.old.table_id ≡ self.now.id }
         requires waiting { IsWaiting number seat.old.me }
         ensures lock { seat.new.table_id ≡ seat.old.table_id }
-        ensures served { MatchBool (result == number) (IsServedAfter T.snapshot T.reached seat.old.me seat.new.me) (seat.new.me ≡ seat.old.me) }
+        ensures served { MatchBool (result == number) (IsServedAfter T.snapshot T.reached T.room seat.old.me seat.new.me) (seat.new.me ≡ seat.old.me) }
     {
         self.table.shared.load::<Look<T>>(seat, 1)
     }
@@ -108,7 +108,7 @@ impl<T: LockedState> TicketLock<T> {
         requires lock { seat.old.table_id ≡ self.now.id }
         requires waiting { IsWaiting number seat.old.me }
         ensures lock { seat.new.table_id ≡ seat.old.table_id }
-        ensures served { IsServedAfter T.snapshot T.reached seat.old.me seat.new.me }
+        ensures served { IsServedAfter T.snapshot T.reached T.room seat.old.me seat.new.me }
     {
         let mut looks = 0;
         for _ in rt.forever() {
@@ -146,6 +146,7 @@ impl<T: LockedState> TicketLock<T> {
     // Tells the state what was left on the board, as far as a full board goes.
     fn tell<R: Wait>(&self, rt: &R, state: &mut T)
         ensures same { T.snapshot state.new ≡ T.snapshot state.old }
+        ensures room { T.room state.new ≡ T.room state.old }
         ensures reaches { (start : Snapshot T.Entry) → T.reached start state.old → T.reached start state.new }
     {
         for _ in 0..MOST_NOTES {
@@ -163,7 +164,8 @@ impl<T: LockedState> TicketLock<T> {
         ensures lock { seat.new.table_id ≡ seat.old.table_id }
         ensures view { seat.new.me.0 ≡ seat.old.me.0 }
         ensures turned { (x : T) → seat.old.me.1 ≡ (0, Some x) ∷ [] → (y : T) × HasGone (T.own operation) (T.says result) (T.snapshot x) (T.snapshot y)
-            × T.meets (T.snapshot x) operation result (T.snapshot y) × ((start : Snapshot T.Entry) → T.reached start x → T.reached start y) × (seat.new.me.1 ≡ (0, Some y) ∷ []) }
+            × T.meets (T.snapshot x) operation result (T.snapshot y) × ((start : Snapshot T.Entry) → T.reached start x → T.reached start y)
+            × TakesRoom (wants_in (T.wants result)) (T.room x) (T.room y) × (seat.new.me.1 ≡ (0, Some y) ∷ []) }
     {
         let taken = self.table.shared.exchange(seat, 0, None);
         let Some(mut state) = taken else {
@@ -179,11 +181,11 @@ impl<T: LockedState> TicketLock<T> {
     // Ends the turn, and wakes the seat whose turn is the next from now on. The one that is served now is awake: it was woken
     // when its turn became the next, or hasn't slept.
     fn end<N: Ending>(&self, seat: &mut SeatOf<T>, reply: &T::Reply)
-        requires picked { N.faults ≡ faults_in (T.says reply.now) }
+        requires picked { (N.faults ≡ faults_in (T.says reply.now)) × (N.wants ≡ wants_in (T.wants reply.now)) }
         requires lock { seat.old.table_id ≡ self.now.id }
-        requires done { (x : T) × (base : _) × IsDone T.snapshot T.reached (faults_in (T.says reply.now)) x base seat.old.me }
+        requires done { (x : T) × (base : _) × IsDone T.snapshot T.reached T.room (faults_in (T.says reply.now)) (wants_in (T.wants reply.now)) x base seat.old.me }
         ensures lock { seat.new.table_id ≡ seat.old.table_id }
-        ensures ended { HasEnded T.snapshot T.reached (faults_in (T.says reply.now)) seat.old.me seat.new.me }
+        ensures ended { HasEnded T.snapshot T.reached T.room (faults_in (T.says reply.now)) (wants_in (T.wants reply.now)) seat.old.me seat.new.me }
     {
         let number = self.table.shared.fetch_add::<End<T, N>>(seat, 1, 1);
         self.sleepers.wake(number.wrapping_add(2));
@@ -203,6 +205,7 @@ impl<T: LockedState> TicketLock<T> {
         ensures idle { IsIdle seat.new.me }
         ensures share { seat.new.me.0.allowance ≡ seat.old.me.0.allowance }
         ensures turned { TakesSubmit (T.own operation) (T.says result) (λ before after. T.meets before operation result after) (known self.now.id seat.old.me.0) (known self.now.id seat.new.me.0) }
+        ensures wants { seat.new.me.0.wants ≡ seat.old.me.0.wants + wants_in (T.wants result) }
     {
         let number = self.draw(seat);
         self.wait(rt, seat, number);

@@ -1,6 +1,7 @@
 // The lock and its passes.
 ghost use Rattle.std.specs.Prelude.{◌≡◌, ◌⊎◌, ◌<◌, ◌≤◌, ◌+◌, ◌-◌, ◌++◌, [], None, IfOk, IfErr};
 ghost use Rattle.log_lock.specs.Passes.{IsOlder, TakesSubmit, Closes};
+ghost use Rattle.log_lock.specs.Turning.{wants_in};
 
 use crate::LockedState;
 use crate::board::Board;
@@ -65,11 +66,14 @@ impl<T: LockedState> TicketLock<T> {
           lock = r.1.lock;
           allowance = handles;
           opening = T.snapshot state;
+          room = T.room state;
           seen = (T.snapshot state).list;
           mine = [];
           settled = [];
           left = [];
           faults = 0;
+          wants = 0;
+          turns = 0;
         }) }
         ensures state { IfErr result (λ e. e.1 ≡ state) }
     {
@@ -114,6 +118,7 @@ impl<T: LockedState> TicketLock<T> {
     ) -> T::Reply
         requires { handle.old.lock ≡ self.now.id }
         ensures turned { TakesSubmit (T.own operation) (T.says result) (λ before after. T.meets before operation result after) handle.old handle.new }
+        ensures wants { handle.new.wants ≡ handle.old.wants + wants_in (T.wants result) }
         ensures seen { IsOlder handle.old.seen handle.new.seen }
         ensures lock { handle.new.lock ≡ handle.old.lock }
         ensures share { handle.new.allowance ≡ handle.old.allowance }
@@ -134,7 +139,7 @@ impl<T: LockedState> TicketLock<T> {
         requires lock { handle.lock ≡ self.now.id }
         requires share { (1 ≤ share) × (share < handle.allowance) }
         ensures rest { result.0 ≡ record handle { allowance = handle.allowance - share } }
-        ensures part { result.1 ≡ record handle { allowance = share; mine = []; settled = []; left = []; faults = 0 } }
+        ensures part { result.1 ≡ record handle { allowance = share; mine = []; settled = []; left = []; faults = 0; wants = 0; turns = 0 } }
     {
         let LockHandle { badge } = handle;
         let mut seat = badge.into_seat();
@@ -160,6 +165,8 @@ impl<T: LockedState> TicketLock<T> {
           settled = handle.old.settled ++ other.settled;
           left = handle.old.left ++ other.left;
           faults = handle.old.faults + other.faults;
+          wants = handle.old.wants + other.wants;
+          turns = handle.old.turns + other.turns;
         } }
         ensures seen { IsOlder handle.old.seen handle.new.seen × IsOlder other.seen handle.new.seen }
         ensures longer { (handle.new.seen ≡ handle.old.seen) ⊎ (handle.new.seen ≡ other.seen) }

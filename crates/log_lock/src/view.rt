@@ -12,6 +12,8 @@ use std::marker::{Brand, PhantomData};
 pub struct View<E> {
     // How the state stood when the lock was made with it.
     pub opening: Option<Snapshot<E>>,
+    // For how many turns it had room then.
+    pub room: u64,
     // The list that was seen, and after a join also the other's.
     pub seen: LinkedList<E>,
     pub also: LinkedList<E>,
@@ -22,11 +24,15 @@ pub struct View<E> {
     pub left: LinkedList<(u64, E)>,
     // How many replies told of a fault.
     pub faults: u64,
+    // How many told of want of memory, and how many turns it took.
+    pub wants: u64,
+    pub turns: u64,
     // Its part of the lock's passes.
     pub allowance: u64,
-    // The number that it holds, and the stand of the state that it was served.
+    // The number that it holds, and the stand of the state that it was served, with the room of that.
     pub number: Option<u64>,
     pub base: Option<Snapshot<E>>,
+    pub held: u64,
 }
 
 // A seat in the table of a lock over such a state.
@@ -38,7 +44,7 @@ pub struct Ticketed<T> {
 }
 
 impl<T: LockedState> TableRule<Option<T>, View<T::Entry>, u32> for Ticketed<T> {
-    ghost holds = { LockRule T.snapshot T.reached };
+    ghost holds = { LockRule T.snapshot T.reached T.room };
 
     ghost first = { newcomer };
 }
@@ -56,7 +62,7 @@ pub struct Bring<T> {
 }
 
 impl<T: LockedState> Play<Option<T>, View<T::Entry>> for Bring<T> {
-    ghost then = { brings T.snapshot T.reached };
+    ghost then = { brings T.snapshot T.reached T.room };
 }
 
 // A seat draws a number.
@@ -72,16 +78,20 @@ pub struct Look<T> {
 }
 
 impl<T: LockedState> Play<Option<T>, View<T::Entry>> for Look<T> {
-    ghost then = { looks T.snapshot T.reached };
+    ghost then = { looks T.snapshot T.reached T.room };
 }
 
-// What a call picks: how many faults the reply tells of.
+// What a call picks: how many faults the reply tells of, and how often of want of memory.
 pub trait Ending {
     ghost faults: { ℕ };
+
+    ghost wants: { ℕ };
 }
 
 impl Ending for Brand {
     ghost faults = { 0 };
+
+    ghost wants = { 0 };
 }
 
 // A seat ends its turn.
@@ -90,7 +100,7 @@ pub struct End<T, N> {
 }
 
 impl<T: LockedState, N: Ending> Play<Option<T>, View<T::Entry>> for End<T, N> {
-    ghost then = { ends T.snapshot T.reached N.faults };
+    ghost then = { ends T.snapshot T.reached T.room N.faults N.wants };
 }
 
 // A seat learns which of its two lists is the longer one.

@@ -8,8 +8,8 @@
 #![tactic(auto)]
 
 mod forms;
-mod kept;
 mod laws;
+mod log;
 mod machine;
 mod names;
 mod own;
@@ -19,8 +19,8 @@ mod rows;
 mod writing;
 
 pub use forms::RowFormat;
-pub use kept::{FoundFault, Log};
 pub use laws::{lives, once, one_fault, unfaulty};
+pub use log::{FoundFault, Log};
 pub use log_journal::OpenError;
 pub use machine::{Decided, DecodeError, NewEntry, StateMachine};
 pub use names::{Filed, RowName, RowOperation};

@@ -111,7 +111,7 @@ pub trait StateMachine: Drop {
         ensures room { spare self.old ≡ spare self.new + 1 };
 
     /// Puts the spelling of an entry into the room, in place of what the room held. It takes no memory.
-    fn put(entry: &Self::Entry, room: &mut PayloadBuffer)
+    fn encode(entry: &Self::Entry, room: &mut PayloadBuffer)
         ensures spelled { room.new ≡ scheme.spelling entry.now }
         ensures in_range { scheme.IsEntry entry.now };
 
@@ -120,7 +120,7 @@ pub trait StateMachine: Drop {
     fn encode_expected(operation: &Self::Operation, room: &mut PayloadBuffer);
 
     /// The entry that the bytes spell, all of them.
-    fn take(alloc: Global, bytes: &[u8]) -> Result<Self::Entry, DecodeError>
+    fn decode(alloc: Global, bytes: &[u8]) -> Result<Self::Entry, DecodeError>
         ensures found { IfOk result (λ entry. scheme.IsEntry entry × (bytes.now ≡ scheme.spelling entry)) }
         ensures not_entry { (entry : Self.Entry) → scheme.IsEntry entry → bytes.now ≡ scheme.spelling entry → result ≢ Err DecodeError.NotEntry };
 

@@ -45,7 +45,7 @@ fn take_next<D: Disk, R: StateMachine>(
     let Some(place) = opening.next(room)? else {
         return Ok(None);
     };
-    match R::take(alloc, room.bytes()) {
+    match R::decode(alloc, room.bytes()) {
         Ok(entry) => Ok(Some((place, entry))),
         Err(DecodeError::NotEntry) => Err(OpenError::Damaged(place)),
         Err(DecodeError::NoMemory) => Err(OpenError::NoMemory),

@@ -196,7 +196,7 @@ impl<R: OfficeRules> StateMachine for RuleMachine<R> {
         self.spare -= 1;
     }
 
-    fn put(filing: &R::Entry, room: &mut PayloadBuffer) {
+    fn encode(filing: &R::Entry, room: &mut PayloadBuffer) {
         format_table::put::<R>(filing, room);
     }
 
@@ -204,7 +204,7 @@ impl<R: OfficeRules> StateMachine for RuleMachine<R> {
         format_table::put::<R>(operation, room);
     }
 
-    fn take(_alloc: Global, bytes: &[u8]) -> Result<R::Entry, DecodeError> {
+    fn decode(_alloc: Global, bytes: &[u8]) -> Result<R::Entry, DecodeError> {
         match format_table::take::<R>(bytes) {
             Ok(filing) => Ok(filing),
             Err(_) => Err(DecodeError::NotEntry),

@@ -5,7 +5,7 @@ use Rattle.std.proofs.lemmas.Bool.{eq-eqb, false≢true, true≢false}
 use Rattle.io_traits.specs.Faults.{Rose}
 use Rattle.io_traits.specs.declared.sink.Sink.{Ghosts}
 use Rattle.log_journal.specs.declared.opening.OpenError.TheVariants as opening
-use Rattle.log_machine.specs.declared.kept.FoundFault.TheVariants as fault_of
+use Rattle.log_machine.specs.declared.log.FoundFault.TheVariants as fault_of
 use Rattle.log_session.specs.declared.checking.CheckStop.TheVariants as checking
 use Rattle.log_session.specs.declared.stop.FileStop.TheVariants as filing
 use Rattle.log_session.specs.declared.stop.FoundStop.TheVariants as founded

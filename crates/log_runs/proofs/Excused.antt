@@ -12,8 +12,8 @@ use Rattle.log_journal.proofs.Unique.{not_unborn, old_not_unborn}
 use Rattle.log_machine.specs.Faulty.{IsFaultyAt}
 use Rattle.log_machine.specs.Scheme.{Semantics, Scheme}
 use Rattle.log_machine.specs.Texts.{Texts}
-use Rattle.log_machine.specs.declared.kept.FoundFault.{FoundFault}
-use Rattle.log_machine.specs.declared.kept.FoundFault.TheVariants as fault_of
+use Rattle.log_machine.specs.declared.log.FoundFault.{FoundFault}
+use Rattle.log_machine.specs.declared.log.FoundFault.TheVariants as fault_of
 use Rattle.log_session.specs.Edges.{Input, Output}
 use Rattle.log_session.specs.Sessions.{FoundSession, founded, unsaid, refused, IsNotFounded, IsUnopened, IsUnread, Opens, unopened, opened, Session, unread, read, ended_filing}
 use Rattle.log_session.specs.declared.stop.FileStop.{FileStop}

@@ -1,6 +1,6 @@
 -- The status of a run that stopped, and its last line. Own.
 use Rattle.std.specs.Prelude.{ℕ, Bool, true, false, List, [], ◌++◌, codes, decimal, Some, None, Result, Ok, Err}
-use Rattle.log_machine.specs.declared.kept.FoundFault.TheVariants as founding
+use Rattle.log_machine.specs.declared.log.FoundFault.TheVariants as founding
 use Rattle.log_journal.specs.declared.opening.OpenError.{OpenError}
 use Rattle.log_journal.specs.declared.opening.OpenError.TheVariants as opening
 use Rattle.log_session.specs.declared.stop.ReadStop.{ReadStop}

@@ -10,8 +10,8 @@ use Rattle.log_journal.specs.declared.opening.OpenError.TheVariants as opening
 use Rattle.log_machine.specs.Scheme.{Scheme, Semantics}
 use Rattle.log_machine.specs.Recovers.{Recovers}
 use Rattle.log_machine.specs.Faulty.{IsFaultyAt}
-use Rattle.log_machine.specs.declared.kept.FoundFault.{FoundFault}
-use Rattle.log_machine.specs.declared.kept.FoundFault.TheVariants as founding
+use Rattle.log_machine.specs.declared.log.FoundFault.{FoundFault}
+use Rattle.log_machine.specs.declared.log.FoundFault.TheVariants as founding
 use Rattle.log_session.specs.Edges.{Input, Output, IsReadWhole, IsReadWithin, IsReadPast, HasWritten, HasWrittenShort}
 use Rattle.log_machine.specs.Texts.{Texts, after_rows, lines_of, row_line}
 use Rattle.log_session.specs.Links.{IsFaulted, IsOpened, Runs}

@@ -42,7 +42,7 @@ fn count_one<D: Disk, R: StateMachine, L: Rows<R>, T: Tally<R>>(
     }
 }
 
-// Files the rows that are left, in order, up to one that is no ask, which it answers. PayloadBuffer for what they may add is made
+// Files the rows that are left, in order, up to one that is no ask, which it answers. Room for what they may add is made
 // before the first. One row is read ahead, so that its turn may be prepared by the one before it.
 pub(crate) fn count_rows<D: Disk, R: StateMachine, L: Rows<R>, T: Tally<R>>(
     kept: &mut Log<D, R>,

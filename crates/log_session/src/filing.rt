@@ -81,7 +81,7 @@ fn file_row<D: Disk, R: StateMachine, L: Rows<R>>(
 }
 
 /// Files the rows that are left, in order, into an open list. Each row's line is written before the next row is filed.
-/// PayloadBuffer for what they may add is made before the first. One row is read ahead, so that its turn may be prepared by the one
+/// Room for what they may add is made before the first. One row is read ahead, so that its turn may be prepared by the one
 /// before it.
 pub fn file_rows<D: Disk, K: Sink, R: StateMachine, L: Rows<R>>(
     alloc: Global,

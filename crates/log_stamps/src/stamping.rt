@@ -180,8 +180,8 @@ impl<R: Stampable> StateMachine for StampedMachine<R> {
         self.spare -= 1;
     }
 
-    fn put(entry: &StampedEntry<R::Entry>, room: &mut PayloadBuffer) {
-        R::put(&entry.entry, room);
+    fn encode(entry: &StampedEntry<R::Entry>, room: &mut PayloadBuffer) {
+        R::encode(&entry.entry, room);
         entry.stamp.put_front(room);
     }
 
@@ -193,11 +193,11 @@ impl<R: Stampable> StateMachine for StampedMachine<R> {
         }
     }
 
-    fn take(alloc: Global, bytes: &[u8]) -> Result<StampedEntry<R::Entry>, DecodeError> {
+    fn decode(alloc: Global, bytes: &[u8]) -> Result<StampedEntry<R::Entry>, DecodeError> {
         let Ok((stamp, rest)) = Stamp::read(bytes) else {
             return Err(DecodeError::NotEntry);
         };
-        match R::take(alloc, rest) {
+        match R::decode(alloc, rest) {
             Ok(entry) => Ok(StampedEntry { entry, stamp }),
             Err(fault) => Err(fault),
         }

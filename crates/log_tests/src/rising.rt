@@ -141,16 +141,16 @@ impl StateMachine for Rising {
         self.spare -= 1;
     }
 
-    fn put(entry: &u8, room: &mut PayloadBuffer) {
+    fn encode(entry: &u8, room: &mut PayloadBuffer) {
         room.clear();
         room.append(&[*entry]);
     }
 
     fn encode_expected(operation: &u8, room: &mut PayloadBuffer) {
-        Self::put(operation, room);
+        Self::encode(operation, room);
     }
 
-    fn take(_alloc: Global, bytes: &[u8]) -> Result<u8, DecodeError> {
+    fn decode(_alloc: Global, bytes: &[u8]) -> Result<u8, DecodeError> {
         match bytes {
             [number] => Ok(*number),
             _ => Err(DecodeError::NotEntry),

@@ -58,4 +58,4 @@ pub row-account : (past : List Filing) (school student year term : ℕ) (r : Pla
     IsAccount past school student year term r.account
 row-account past school student year term r is =
     subst (λ (x : PlaceRow). IsAccount past school student year term x.account) (sym is)
-    (record { paid = refl; taken = refl; owed = refl; repaid = refl; after = refl; after_all = refl; post = refl })
+    (record { paid = refl; taken = refl; owed = refl; repaid = refl; returned = refl; sent = refl; after = refl; after_all = refl; post = refl })

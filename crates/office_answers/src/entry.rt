@@ -1,7 +1,7 @@
 //! What one filing moves in the student's term that it is about.
 ghost use Rattle.std.specs.Prelude.{◌≡◌, ◌∷◌, List, Some, is_some};
 ghost use Rattle.aid_filings.specs.declared.filing.Filing.{Filing as Filed};
-ghost use Rattle.aid_filings.specs.declared.filing.What.TheVariants.{Pay, Repay, Adjust, Withdraw};
+ghost use Rattle.aid_filings.specs.declared.filing.What.TheVariants.{Pay, Repay, Adjust, Sent, Withdraw};
 ghost use Rattle.aid_filings.specs.declared.filing.WithdrawFacts.{WithdrawFacts as Withdrawal};
 ghost use Rattle.aid_types.specs.declared.number.Key.{Key as Keyed};
 ghost use Rattle.office_history.specs.Answer.{IsLegal};
@@ -11,12 +11,13 @@ ghost use Rattle.office_history.specs.Own.{IsOwnAccount, IsOwnEntry, of_lines, o
 ghost use Rattle.office_history.specs.declared.place.Place.{Place};
 
 use crate::sheets::sheet_on_file;
-use aid_filings::{Amount, Filing, What};
+use aid_filings::{Amount, Filing, SentFacts, What};
 use aid_types::{ByProgram, Term};
 use law_r2t4::Lines;
 use office_history::{Account, HistoryView};
 
-/// What a filing moves in the student's term that it is about, after what is on file; nothing where it moves no money. Of that
+/// What a filing moves in the student's term that it is about, after what is on file, and what it says was sent back; nothing where
+/// it does neither. Of that
 /// term before the filing are told the position of the student's withdrawal from it, and what moved in it; and of a withdrawal the
 /// term on file.
 pub fn entry_of<P: HistoryView>(
@@ -41,6 +42,7 @@ pub fn entry_of<P: HistoryView>(
         What::Withdraw(facts) => {
             returned(&sheet_on_file(past, &filing.key, facts, term, so_far))
         }
+        What::Sent(facts) => sent(facts),
         _ => Account::EMPTY,
     }
 }
@@ -86,6 +88,16 @@ pub fn adjusted(amount: &Amount) -> Account
     }
 }
 
+/// A return that the school sent back: it moves no money of the student's.
+pub fn sent(facts: &SentFacts) -> Account
+    ensures { (past : List Filed) (key : Keyed) → IsOwnEntry past key (Sent facts.now) result }
+{
+    Account {
+        sent: ByProgram::of(facts.program, facts.cents),
+        ..Account::EMPTY
+    }
+}
+
 /// A withdrawal with this worksheet.
 pub fn returned(lines: &Lines) -> Account
     ensures { result ≡ of_lines lines.now }
@@ -93,6 +105,7 @@ pub fn returned(lines: &Lines) -> Account
     Account {
         taken: lines.returned,
         owed: lines.owed,
+        returned: lines.returned,
         post: lines.post,
         ..Account::EMPTY
     }

@@ -12,7 +12,7 @@ mod standings;
 mod uncounted;
 
 pub use applications::{award_in, indexed_by_book};
-pub use entry::{adjusted, entry_of, paid, repaid, returned};
+pub use entry::{adjusted, entry_of, paid, repaid, returned, sent};
 pub use responses::{answer, returned_outcome};
 pub use sheets::sheet;
 pub use standings::{quote, standing};

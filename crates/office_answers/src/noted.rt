@@ -1,13 +1,13 @@
 //! What the rules of a filing that is only noted read of the filings so far. Each row is asked for once.
 ghost use Rattle.std.specs.Prelude.{◌≡◌, ◌+◌, ◌*◌, ◌≤◌, None};
 ghost use Rattle.aid_filings.specs.Students.{student_of};
-ghost use Rattle.aid_filings.specs.declared.filing.What.TheVariants.{Calendar, Enroll, Repay, Adjust};
+ghost use Rattle.aid_filings.specs.declared.filing.What.TheVariants.{Calendar, Enroll, Repay, Adjust, Sent};
 ghost use Rattle.office_history.specs.FactsOf.{facts_of, no_facts};
 ghost use Rattle.office_history.specs.Rows.{terms_at};
 ghost use Rattle.office_answers.specs.Noted.{IsNoted};
 ghost use Rattle.office_answers.specs.Walked.{walked};
 
-use aid_filings::{Amount, CalendarFacts, EnrollFacts, Filing, What};
+use aid_filings::{Amount, CalendarFacts, EnrollFacts, Filing, SentFacts, What};
 use aid_types::{Key, Program};
 use law_rules::Facts;
 use office_history::{HistoryView, SchoolRow};
@@ -55,6 +55,16 @@ pub(crate) fn noted_facts<P: HistoryView, L: Ledger>(
         },
         What::Repay(amount) => repayment_facts(past, key, amount, steps),
         What::Adjust(amount) => adjustment_facts(past, key, amount, steps),
+        What::Cost(filed) => {
+            let of_year = past.school_year(key.school, filed.student, filed.year, steps);
+            Facts {
+                cost_at: of_year.cost_at,
+                net_all: of_year.net,
+                ..desk_facts(past.front(), &past.school(desk, steps))
+            }
+        }
+        What::Sent(sent) => sending_facts(past, key, sent, steps),
+        What::Amend(_) => desk_facts(past.front(), &past.school(desk, steps)),
         What::Apply(_) | What::Pay(_) | What::Withdraw(_) => unreachable!(),
     }
 }
@@ -152,5 +162,26 @@ fn adjustment_facts<P: HistoryView, L: Ledger>(
         withdrawn_at: place.withdrawn_at,
         net: place.account.net(filed.program),
         ..desk_facts(past.front(), &school)
+    }
+}
+
+// What a return that was sent back reads.
+fn sending_facts<P: HistoryView, L: Ledger>(
+    past: &P,
+    key: &Key,
+    filed: &SentFacts,
+    steps: &mut Steps<L>,
+) -> Facts
+    ensures value { result ≡ facts_of (P.history past.now) key.now (Sent filed.now) }
+    ensures later { steps.old ≤ steps.new }
+    ensures cost { steps.new ≤ steps.old + 2 * P.lookups past.now }
+{
+    let place = past.place(key.school, filed.student, filed.year, filed.term, steps);
+    Facts {
+        withdrawn_at: place.withdrawn_at,
+        determined: place.determined,
+        returned: place.account.returned.at(filed.program),
+        sent: place.account.sent.at(filed.program),
+        ..desk_facts(past.front(), &past.school(key.school.0, steps))
     }
 }

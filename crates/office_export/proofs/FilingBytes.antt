@@ -9,7 +9,7 @@ use Rattle.format_table.specs.Parts.{Slot, width_of}
 use Rattle.format_bytes.specs.Spelling.{spelling}
 use Rattle.format_kinds.specs.Kinds.{code_of, slots_of_kind, table_row_of}
 use Rattle.format_kinds.specs.declared.kind.Kind.{Kind}
-use Rattle.format_kinds.specs.declared.kind.Kind.TheVariants.{Book, School, Calendar, Prior, Apply, Enroll, Originate, Pay, Withdraw, Repay, Adjust}
+use Rattle.format_kinds.specs.declared.kind.Kind.TheVariants.{Book, School, Calendar, Prior, Apply, Enroll, Originate, Pay, Withdraw, Repay, Adjust, Cost, Sent, Amend}
 use Rattle.format_bytes.specs.Numbers.{kind_of, numbers_of}
 use Rattle.hex.specs.Hex.{IsBytes}
 
@@ -48,6 +48,9 @@ code Pay = omega arith
 code Withdraw = omega arith
 code Repay = omega arith
 code Adjust = omega arith
+code Cost = omega arith
+code Sent = omega arith
+code Amend = omega arith
 
 at : (bytes : List ℕ) → Bytes bytes → IsBytes bytes
 at [] h i = omega arith

@@ -6,7 +6,7 @@ use Rattle.std.proofs.lemmas.Int.{ints}
 use Rattle.std.proofs.lemmas.Option.{same_Some}
 use Rattle.aid_filings.specs.declared.filing.Filing.{Filing}
 use Rattle.aid_filings.specs.declared.filing.What.{What}
-use Rattle.aid_filings.specs.declared.filing.What.TheVariants.{Book, School, Calendar, Prior, Apply, Enroll, Originate, Pay, Withdraw, Repay, Adjust}
+use Rattle.aid_filings.specs.declared.filing.What.TheVariants.{Book, School, Calendar, Prior, Apply, Enroll, Originate, Pay, Withdraw, Repay, Adjust, Cost, Sent, Amend}
 use Rattle.aid_types.specs.declared.number.Key.{Key}
 use Rattle.format_table.specs.Layout.{AreNumbers}
 use Rattle.format_table.specs.Limits.{is_between}
@@ -45,6 +45,9 @@ applied year key (Pay x) student numbers e = absurd cc
 applied year key (Withdraw x) student numbers e = absurd cc
 applied year key (Repay x) student numbers e = absurd cc
 applied year key (Adjust x) student numbers e = absurd cc
+applied year key (Cost x) student numbers e = absurd cc
+applied year key (Sent x) student numbers e = absurd cc
+applied year key (Amend x) student numbers e = absurd cc
 
 -- what is among filings in range is in range
 pub is_among : (past : List Filing) (f : Filing) → AllByRecursion IsFiling past → Contains past f → IsFiling f

@@ -6,7 +6,7 @@ use Rattle.aid_types.specs.declared.number.Key.{Key}
 use Rattle.aid_filings.specs.declared.filing.Amount.{Amount}
 use Rattle.aid_filings.specs.declared.filing.Filing.{Filing}
 use Rattle.aid_filings.specs.declared.filing.What.{What}
-use Rattle.aid_filings.specs.declared.filing.What.TheVariants.{Book as BookFiled, School, Calendar, Prior, Apply, Enroll, Originate, Pay, Withdraw, Repay, Adjust}
+use Rattle.aid_filings.specs.declared.filing.What.TheVariants.{Book as BookFiled, School, Calendar, Prior, Apply, Enroll, Originate, Pay, Withdraw, Repay, Adjust, Cost, Sent, Amend}
 use Rattle.office_history.specs.Past.{at_school, withdrawal_in, the_withdrawal}
 use Rattle.office_history.specs.Net.{Cell, cell_of, onto, paid_after, post, in_term}
 use Rattle.office_history.specs.FactsOf.{facts_of}
@@ -63,6 +63,9 @@ after_step past key (Enroll b) ih h = ih
 after_step past key (Originate b) ih h = ih
 after_step past key (Repay b) ih h = ih
 after_step past key (Adjust b) ih h = ih
+after_step past key (Cost b) ih h = ih
+after_step past key (Sent b) ih h = ih
+after_step past key (Amend b) ih h = ih
 
 pub after_holds : (past : List Filing) → IsLegal past → AfterHolds past
 after_holds [] h = λ school student year term. zero-le

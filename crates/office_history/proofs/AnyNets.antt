@@ -4,7 +4,7 @@ use Rattle.aid_types.specs.declared.number.Key.{Key}
 use Rattle.aid_filings.specs.declared.filing.WithdrawFacts.{WithdrawFacts}
 use Rattle.aid_filings.specs.declared.filing.Filing.{Filing}
 use Rattle.aid_filings.specs.declared.filing.What.{What}
-use Rattle.aid_filings.specs.declared.filing.What.TheVariants.{Book as BookFiled, School, Calendar, Prior, Apply, Enroll, Originate, Pay, Withdraw, Repay, Adjust}
+use Rattle.aid_filings.specs.declared.filing.What.TheVariants.{Book as BookFiled, School, Calendar, Prior, Apply, Enroll, Originate, Pay, Withdraw, Repay, Adjust, Cost, Sent, Amend}
 use Rattle.aid_types.specs.Programs.{rank}
 use Rattle.office_history.specs.Past.{the_term}
 use Rattle.office_history.specs.Net.{Cell, Move, is_cell, cell_of, moved, withdrawn_cell, moves_at, paid, taken, owed, repaid, net_at, sheet, days_of, last_of, payments_in, takings_in, owings_in, repayments_in}
@@ -144,6 +144,9 @@ step past key (Adjust a) ih h = λ sel. go sel (sel (cell_of key a)) refl
         let z = owed_split past sel (cell_of key a) e in
         let w = repaid_split past sel (cell_of key a) e in
         (omega arith, omega arith)
+step past key (Cost b) ih h = ih
+step past key (Sent b) ih h = ih
+step past key (Amend b) ih h = ih
 step past key (Repay a) ih h = λ sel. go sel (sel (cell_of key a)) refl
   where
     go : (sel : Cell → Bool) (b : Bool) → sel (cell_of key a) ≡ b →

@@ -11,7 +11,7 @@ use Rattle.aid_filings.specs.declared.filing.SchoolFacts.{SchoolFacts}
 use Rattle.aid_filings.specs.declared.filing.CalendarFacts.{CalendarFacts}
 use Rattle.aid_filings.specs.declared.filing.Filing.{Filing}
 use Rattle.aid_filings.specs.declared.filing.What.{What}
-use Rattle.aid_filings.specs.declared.filing.What.TheVariants.{Book as BookFiled, School, Calendar, Prior, Apply, Enroll, Originate, Pay, Withdraw, Repay, Adjust}
+use Rattle.aid_filings.specs.declared.filing.What.TheVariants.{Book as BookFiled, School, Calendar, Prior, Apply, Enroll, Originate, Pay, Withdraw, Repay, Adjust, Cost, Sent, Amend}
 use Rattle.law_terms.specs.Terms.{shares_day}
 use Rattle.aid_types.specs.Programs.{rank}
 use Rattle.office_history.specs.Past.{first_of_two, if_here, given, earlier, school_in, the_term, FiledTerm, terms_on_file}
@@ -49,6 +49,9 @@ known_code (f ∷ past) code h = go f.what h (known_code past code)
     go (Withdraw b) h ih = ih h
     go (Repay b) h ih = ih h
     go (Adjust b) h ih = ih h
+    go (Cost b) h ih = ih h
+    go (Sent b) h ih = ih h
+    go (Amend b) h ih = ih h
 
 -- money stands at schools with a code above 0
 abbrev CodedHolds : List Filing → Type 0
@@ -81,6 +84,9 @@ coded_step past key (Originate b) ih h = ih
 coded_step past key (Withdraw b) ih h = ih
 coded_step past key (Repay b) ih h = ih
 coded_step past key (Adjust b) ih h = ih
+coded_step past key (Cost b) ih h = ih
+coded_step past key (Sent b) ih h = ih
+coded_step past key (Amend b) ih h = ih
 
 coded_holds : (past : List Filing) → IsLegal past → CodedHolds past
 coded_holds [] h = λ c pos. absurd (omega arith)
@@ -135,6 +141,9 @@ term_stands (f ∷ past) school year number u h p passes = go f.key f.what h (λ
     go key (Withdraw b) h ih = ih h
     go key (Repay b) h ih = ih h
     go key (Adjust b) h ih = ih h
+    go key (Cost b) h ih = ih h
+    go key (Sent b) h ih = ih h
+    go key (Amend b) h ih = ih h
 
 -- a least code of 0 is of no term
 none_least : (p : FiledTerm → Bool) (ts : List FiledTerm) → least_code p ts ≡ 0 → ((o : FiledTerm) → p o ≡ true → 0 < o.school) → list_any p ts ≡ true → ⊥
@@ -268,6 +277,9 @@ not_there (f ∷ past) school year number h = go f.key f.what h (not_there past 
     go key (Withdraw b) h ih = ih h
     go key (Repay b) h ih = ih h
     go key (Adjust b) h ih = ih h
+    go key (Cost b) h ih = ih h
+    go key (Sent b) h ih = ih h
+    go key (Amend b) h ih = ih h
 
 -- where money stands a further calendar doesn't change the term
 same_term : (past : List Filing) (new : Option Term) (student school year number : ℕ) (t : Term) → FiledHolds past → 0 < pell_term past school student year number →
@@ -307,6 +319,9 @@ apart_step past key (Originate b) ih coded filed h = ih
 apart_step past key (Withdraw b) ih coded filed h = apart_kept past key (Withdraw b) ih refl (λ school year number. refl)
 apart_step past key (Repay b) ih coded filed h = apart_kept past key (Repay b) ih refl (λ school year number. refl)
 apart_step past key (Adjust b) ih coded filed h = apart_kept past key (Adjust b) ih refl (λ school year number. refl)
+apart_step past key (Cost b) ih coded filed h = ih
+apart_step past key (Sent b) ih coded filed h = ih
+apart_step past key (Amend b) ih coded filed h = ih
 
 pub apart_holds : (past : List Filing) → IsLegal past → ApartHolds past
 apart_holds [] h = λ student school year number school' year' number' t u ht hu differ shared pos. absurd (omega arith)

@@ -1,5 +1,5 @@
 -- The application in force is the filed one with the highest transaction, and a cost of attendance on file has one.
-use Rattle.std.proofs.Common.{◌≡◌, ℕ, ◌+◌, ◌<◌, ◌≤◌, refl, sym, ap, subst, ◌∙◌, arith, Bool, true, false, List, [], ◌∷◌, length, Option, Some, None, eqb-true, eq-eqb, zero-le, ltb-true, ltb-false, ◌⊎◌, inl, inr}
+use Rattle.std.proofs.Common.{◌≡◌, ℕ, zero, suc, ◌+◌, ◌<◌, ◌≤◌, refl, sym, ap, subst, ◌∙◌, arith, Bool, true, false, List, [], ◌∷◌, length, Option, Some, None, eqb-true, eq-eqb, zero-le, ltb-true, ltb-false, ◌⊎◌, inl, inr}
 use Rattle.std.specs.Prelude.{◌==◌, ◌&&◌, IfSome, is_some, nat_lt, if◌then◌else◌}
 use Rattle.std.specs.List.{Contains}
 use Rattle.std.proofs.lemmas.Option.{same_Some}
@@ -8,16 +8,17 @@ use Rattle.aid_types.specs.declared.application.Application.{Application}
 use Rattle.aid_types.specs.declared.number.Key.{Key}
 use Rattle.aid_filings.specs.declared.filing.Filing.{Filing}
 use Rattle.aid_filings.specs.declared.filing.What.{What}
-use Rattle.aid_filings.specs.declared.filing.What.TheVariants.{Book as BookFiled, School, Calendar, Prior, Apply, Enroll, Originate, Pay, Withdraw, Repay, Adjust}
+use Rattle.aid_filings.specs.declared.filing.What.TheVariants.{Book as BookFiled, School, Calendar, Prior, Apply, Enroll, Originate, Pay, Withdraw, Repay, Adjust, Cost, Sent, Amend}
 use Rattle.aid_types.proofs.Holds.{all_hold, hold_back, lacks_holds}
 use Rattle.aid_types.specs.RuleLines.{lacks, only}
 use Rattle.office_history.specs.Answer.{IsLegal, breaks, standing_of, standing_under}
 use Rattle.office_history.specs.Applications.{IsFiledApplication, IsInForce}
-use Rattle.office_history.specs.Past.{amount_or, application, application_in, at_school, book_in, cost, cost_in, earlier, earliest, first_of_two, given, higher, if_here, the_book}
+use Rattle.office_history.specs.Past.{amount_or, application, application_in, at_school, book_in, cost, earlier, first_of_two, given, higher, if_here, originated_in, the_book}
 use Rattle.office_history.specs.Positions.{book_at, cost_at, school_at, transaction_of}
 use Rattle.office_history.specs.Rules.{rules_of}
 use Rattle.office_history.proofs.Among.{among_cases, among_head, among_rest}
-use Rattle.office_history.proofs.Asked.{some_told, told_at}
+use Rattle.office_history.proofs.Asked.{some_told}
+use Rattle.office_history.proofs.Cost.{cost_unfiled}
 
 -- ---- of two applications
 higher_bounds : (new before : Option Application) → (transaction_of before ≤ transaction_of (higher new before)) × (transaction_of new ≤ transaction_of (higher new before))
@@ -73,6 +74,9 @@ told_apply student year (Pay p) a h = absurd cc
 told_apply student year (Withdraw w) a h = absurd cc
 told_apply student year (Repay r) a h = absurd cc
 told_apply student year (Adjust r) a h = absurd cc
+told_apply student year (Cost o) a h = absurd cc
+told_apply student year (Sent o) a h = absurd cc
+told_apply student year (Amend o) a h = absurd cc
 
 apply_told : (student year : ℕ) (what : What) (a : Application) → what ≡ Apply a → a.student ≡ student → a.year ≡ year → application_in student year what ≡ Some a
 apply_told student year what a is s y = ap (application_in student year) is ∙ rw (eq-eqb a.student student s, eq-eqb a.year year y) refl
@@ -127,7 +131,7 @@ newest_or : (t : Bool) (k n : ℕ) → 0 < first_of_two t k n → (t ≡ true) �
 newest_or true k n h = inl refl
 newest_or false k n h = inr h
 
-of_origination : (past : List Filing) (key : Key) (school student year : ℕ) (what : What) → is_some (at_school school (cost_in student year) (record { key = key; what = what })) ≡ true
+of_origination : (past : List Filing) (key : Key) (school student year : ℕ) (what : What) → is_some (at_school school (originated_in student year) (record { key = key; what = what })) ≡ true
     → breaks past (record { key = key; what = what }) ≡ None → 0 < transaction_of (application past student year)
 of_origination past key school student year (Originate o) t h = go (key.school == school) (o.student == student) (o.year == year) refl refl t
   where
@@ -151,16 +155,19 @@ of_origination past key school student year (Pay p) t h = absurd cc
 of_origination past key school student year (Withdraw w) t h = absurd cc
 of_origination past key school student year (Repay r) t h = absurd cc
 of_origination past key school student year (Adjust r) t h = absurd cc
+of_origination past key school student year (Cost o) t h = absurd cc
+of_origination past key school student year (Sent o) t h = absurd cc
+of_origination past key school student year (Amend o) t h = absurd cc
 
 pub cost_has_one : (past : List Filing) → IsLegal past → CostHasOne past
 cost_has_one [] legal school student year h = absurd (omega (arith, h))
 cost_has_one (f ∷ past) legal school student year h =
-    go (cost_has_one past legal.0 school student year) (newest_or (is_some (at_school school (cost_in student year) f)) (cost_at past school student year) (length past + 1) h)
+    go (cost_has_one past legal.0 school student year) (newest_or (is_some (at_school school (originated_in student year) f)) (cost_at past school student year) (length past + 1) h)
   where
     kept : 0 < transaction_of (application past student year) → 0 < transaction_of (application (f ∷ past) student year)
     kept less = omega (arith, less, (higher_bounds (application_in student year f.what) (application past student year)).0)
 
-    go : (0 < cost_at past school student year → 0 < transaction_of (application past student year)) → (is_some (at_school school (cost_in student year) f) ≡ true) ⊎ (0 < cost_at past school student year) → 0 < transaction_of (application (f ∷ past) student year)
+    go : (0 < cost_at past school student year → 0 < transaction_of (application past student year)) → (is_some (at_school school (originated_in student year) f) ≡ true) ⊎ (0 < cost_at past school student year) → 0 < transaction_of (application (f ∷ past) student year)
     go ih (inl t) = kept (of_origination past f.key school student year f.what t legal.2)
     go ih (inr old) = kept (ih old)
 
@@ -192,6 +199,9 @@ of_application past key student year (Pay p) t h = absurd cc
 of_application past key student year (Withdraw w) t h = absurd cc
 of_application past key student year (Repay r) t h = absurd cc
 of_application past key student year (Adjust r) t h = absurd cc
+of_application past key student year (Cost o) t h = absurd cc
+of_application past key student year (Sent o) t h = absurd cc
+of_application past key student year (Amend o) t h = absurd cc
 
 some_of : (o : Option Application) (a : Application) → o ≡ Some a → is_some o ≡ true
 some_of o a h = ap is_some h
@@ -225,10 +235,10 @@ cost_stands past legal school student year h = under (the_book past year) (appli
     go None e h = absurd (omega (arith, h))
     go (Some a) e h = its_book past student year a legal e
 
--- a cost of attendance in dollars is that of an origination on file
-some_amount : (o : Option ℕ) → 0 < amount_or o → is_some o ≡ true
-some_amount None h = absurd (omega (arith, h))
-some_amount (Some n) h = refl
-
-pub cost_is_filed : (past : List Filing) (school student year : ℕ) → 0 < cost past school student year → 0 < cost_at past school student year
-cost_is_filed past school student year h = told_at (at_school school (cost_in student year)) past (some_amount (earliest (at_school school (cost_in student year)) past) h)
+-- a cost of attendance in dollars has an origination on file
+pub cost_is_filed : (past : List Filing) → IsLegal past → (school student year : ℕ) → 0 < cost past school student year → 0 < cost_at past school student year
+cost_is_filed past legal school student year h = go (cost_at past school student year) refl
+  where
+    go : (n : ℕ) → cost_at past school student year ≡ n → 0 < cost_at past school student year
+    go zero e = absurd (omega (arith, h, ap amount_or (cost_unfiled past legal school student year e)))
+    go (suc n) e = omega (arith, e)

@@ -8,7 +8,7 @@ use Rattle.law_rules.specs.declared.facts.Facts.{Facts}
 use Rattle.aid_filings.specs.declared.filing.Filing.{Filing}
 use Rattle.aid_types.specs.declared.award.Refusal.{Refusal}
 use Rattle.aid_filings.specs.declared.filing.What.{What}
-use Rattle.aid_filings.specs.declared.filing.What.TheVariants.{Book as BookFiled, School, Calendar, Prior, Apply, Enroll, Originate, Pay, Withdraw, Repay, Adjust}
+use Rattle.aid_filings.specs.declared.filing.What.TheVariants.{Book as BookFiled, School, Calendar, Prior, Apply, Enroll, Originate, Pay, Withdraw, Repay, Adjust, Cost, Sent, Amend}
 use Rattle.law_terms.specs.Terms.{intensity_of}
 use Rattle.law_terms.specs.Used.{use_of}
 use Rattle.aid_types.specs.Programs.{rank}
@@ -169,6 +169,9 @@ year_step past key (Originate b) ih h = ih
 year_step past key (Withdraw b) ih h = year_kept past key (Withdraw b) ih refl (λ student year. omega arith)
 year_step past key (Repay b) ih h = year_kept past key (Repay b) ih refl (λ student year. omega arith)
 year_step past key (Adjust b) ih h = year_kept past key (Adjust b) ih refl (λ student year. omega arith)
+year_step past key (Cost b) ih h = ih
+year_step past key (Sent b) ih h = ih
+year_step past key (Amend b) ih h = ih
 
 pub year_holds : (past : List Filing) → IsLegal past → YearHolds past
 year_holds [] h = λ student year. zero-le

@@ -6,7 +6,7 @@ use Rattle.aid_filings.specs.declared.filing.Amount.{Amount}
 use Rattle.aid_filings.specs.declared.filing.EnrollFacts.{EnrollFacts}
 use Rattle.aid_filings.specs.declared.filing.Filing.{Filing}
 use Rattle.aid_filings.specs.declared.filing.What.{What}
-use Rattle.aid_filings.specs.declared.filing.What.TheVariants.{Book as BookFiled, School, Calendar, Prior, Apply, Enroll, Originate, Pay, Withdraw, Repay, Adjust}
+use Rattle.aid_filings.specs.declared.filing.What.TheVariants.{Book as BookFiled, School, Calendar, Prior, Apply, Enroll, Originate, Pay, Withdraw, Repay, Adjust, Cost, Sent, Amend}
 use Rattle.office_history.specs.Past.{amount_or, if_here, given, later, latest, at_school, credits_in, credits}
 use Rattle.office_history.specs.Net.{Cell, Move, is_cell, cell_of, onto, paid, net_at, payments_in}
 use Rattle.office_history.specs.Rules.{rules_of}
@@ -70,6 +70,9 @@ by_credits (f ∷ past) c h = go f.key f.what h (by_credits past c)
     go key (Withdraw b) h ih = kept past _ c (ih h)
     go key (Repay b) h ih = kept past _ c (ih h)
     go key (Adjust b) h ih = kept past _ c (ih h)
+    go key (Cost b) h ih = kept past _ c (ih h)
+    go key (Sent b) h ih = kept past _ c (ih h)
+    go key (Amend b) h ih = kept past _ c (ih h)
 
 -- what was paid at a cell was paid to a student who was enrolled there
 pub paid_enrolled : (past : List Filing) → IsLegal past → (c : Cell) → 0 < paid past (is_cell c) → IsEnrolled past c

@@ -13,7 +13,7 @@ use Rattle.aid_types.specs.declared.number.Key.{Key}
 use Rattle.aid_filings.specs.declared.filing.SchoolFacts.{SchoolFacts}
 use Rattle.aid_filings.specs.declared.filing.Filing.{Filing}
 use Rattle.aid_filings.specs.declared.filing.What.{What}
-use Rattle.aid_filings.specs.declared.filing.What.TheVariants.{Book as BookFiled, School, Calendar, Prior, Apply, Enroll, Originate, Pay, Withdraw, Repay, Adjust}
+use Rattle.aid_filings.specs.declared.filing.What.TheVariants.{Book as BookFiled, School, Calendar, Prior, Apply, Enroll, Originate, Pay, Withdraw, Repay, Adjust, Cost, Sent, Amend}
 use Rattle.law_rules.specs.declared.facts.Facts.{Facts}
 use Rattle.law_rules.specs.InRange.{AreFactsInRange, IsSum}
 use Rattle.law_sai.specs.Formulas.{formula}
@@ -22,13 +22,13 @@ use Rattle.law_pell.specs.Award.{decision_of}
 use Rattle.law_pell.proofs.AwardLaws.{decision_under-award}
 use Rattle.office_history.specs.Past.{school_in, the_book, the_school, application}
 use Rattle.office_history.specs.Award.{award_under, scheduled, scheduled_of}
-use Rattle.office_history.specs.Net.{Cell, net, paid_after, repaid}
+use Rattle.office_history.specs.Net.{Cell, net, paid_after, repaid, sent}
 use Rattle.office_history.specs.FactsOf.{aid_facts, facts_of, payment_facts}
 use Rattle.office_history.specs.Positions.{full_of, school_at, terms_of}
 use Rattle.office_history.specs.Answer.{IsLegal}
 use Rattle.office_history.proofs.Asked.{some_told}
 use Rattle.office_history.proofs.Legal.{legal_is_short}
-use Rattle.office_history.proofs.Ranges.{after_is_paid, credits_in_range, paid_is_small, repaid_is_small}
+use Rattle.office_history.proofs.Ranges.{after_is_paid, credits_in_range, paid_is_small, repaid_is_small, sent_is_small}
 
 -- the figures of a school on file are those of its type
 pub school_in_range : (past : List Filing) (code : ℕ) → (school_at past code ≡ 0 → ⊥) → IsBetween 2 3 (terms_of (the_school past code)) × IsBetween 1 40 (full_of (the_school past code))
@@ -70,6 +70,9 @@ after_in_range past legal sel =
 pub repaid_in_range : (past : List Filing) → IsLegal past → (sel : Cell → Bool) → IsSum (repaid past sel)
 repaid_in_range past legal sel = let p = repaid_is_small past sel in let s = legal_is_short past legal in omega arith
 
+pub sent_in_range : (past : List Filing) → IsLegal past → (sel : Cell → Bool) → IsSum (sent past sel)
+sent_in_range past legal sel = let p = sent_is_small past sel in let s = legal_is_short past legal in omega arith
+
 -- what a withdrawal reads
 pub aid_in_range : (past : List Filing) → IsLegal past → (school student year term : ℕ) → AreFactsInRange (aid_facts past school student year term)
 aid_in_range past legal school student year term = record {
@@ -83,6 +86,7 @@ aid_in_range past legal school student year term = record {
   after = zero-le;
   after_all = zero-le;
   repaid = zero-le;
+  sent = zero-le;
 }
 
 -- what a payment reads, and what a quote does
@@ -98,22 +102,24 @@ payment_in_range past legal school student year term program = record {
   after = after_in_range past legal _;
   after_all = after_in_range past legal _;
   repaid = zero-le;
+  sent = zero-le;
 }
 
 -- facts that hold no sums and no award
 bare_in_range : (f : Facts) → ((f.school_at ≡ 0 → ⊥) → IsBetween 2 3 f.terms × IsBetween 1 40 f.full) → f.scheduled ≡ 0 → f.credits ≡ 0 → f.pell_term ≡ 0 → IsSum f.pell_year →
-    f.fseog_year ≡ 0 → f.net_all ≡ 0 → f.after ≡ 0 → f.after_all ≡ 0 → IsSum f.repaid → AreFactsInRange f
-bare_in_range f school scheduled credits term year fseog all after after_all repaid = record {
+    f.fseog_year ≡ 0 → IsSum f.net_all → f.after ≡ 0 → f.after_all ≡ 0 → IsSum f.repaid → IsSum f.sent → AreFactsInRange f
+bare_in_range f school scheduled credits term year fseog all after after_all repaid sent = record {
   school = school;
   scheduled = omega arith;
   credits = omega arith;
   pell_term = omega arith;
   pell_year = year;
   fseog_year = omega arith;
-  net_all = omega arith;
+  net_all = all;
   after = omega arith;
   after_all = omega arith;
   repaid = repaid;
+  sent = sent;
 }
 
 -- what a filing reads
@@ -131,17 +137,21 @@ facts_of_kind past legal key (Enroll e) = record {
   after = zero-le;
   after_all = zero-le;
   repaid = zero-le;
+  sent = zero-le;
 }
 facts_of_kind past legal key (Apply a) =
-    bare_in_range (facts_of past key (Apply a)) (school_in_range past key.school) refl refl refl (net_in_range past legal _) refl refl refl refl zero-le
+    bare_in_range (facts_of past key (Apply a)) (school_in_range past key.school) refl refl refl (net_in_range past legal _) refl zero-le refl refl zero-le zero-le
 facts_of_kind past legal key (Repay a) =
-    bare_in_range (facts_of past key (Repay a)) (school_in_range past key.school) refl refl refl zero-le refl refl refl refl (repaid_in_range past legal _)
-facts_of_kind past legal key (BookFiled b) = bare_in_range (facts_of past key (BookFiled b)) (school_in_range past key.school) refl refl refl zero-le refl refl refl refl zero-le
-facts_of_kind past legal key (School b) = bare_in_range (facts_of past key (School b)) (school_in_range past key.school) refl refl refl zero-le refl refl refl refl zero-le
-facts_of_kind past legal key (Calendar b) = bare_in_range (facts_of past key (Calendar b)) (school_in_range past key.school) refl refl refl zero-le refl refl refl refl zero-le
-facts_of_kind past legal key (Prior b) = bare_in_range (facts_of past key (Prior b)) (school_in_range past key.school) refl refl refl zero-le refl refl refl refl zero-le
-facts_of_kind past legal key (Originate b) = bare_in_range (facts_of past key (Originate b)) (school_in_range past key.school) refl refl refl zero-le refl refl refl refl zero-le
-facts_of_kind past legal key (Adjust b) = bare_in_range (facts_of past key (Adjust b)) (school_in_range past key.school) refl refl refl zero-le refl refl refl refl zero-le
+    bare_in_range (facts_of past key (Repay a)) (school_in_range past key.school) refl refl refl zero-le refl zero-le refl refl (repaid_in_range past legal _) zero-le
+facts_of_kind past legal key (BookFiled b) = bare_in_range (facts_of past key (BookFiled b)) (school_in_range past key.school) refl refl refl zero-le refl zero-le refl refl zero-le zero-le
+facts_of_kind past legal key (School b) = bare_in_range (facts_of past key (School b)) (school_in_range past key.school) refl refl refl zero-le refl zero-le refl refl zero-le zero-le
+facts_of_kind past legal key (Calendar b) = bare_in_range (facts_of past key (Calendar b)) (school_in_range past key.school) refl refl refl zero-le refl zero-le refl refl zero-le zero-le
+facts_of_kind past legal key (Prior b) = bare_in_range (facts_of past key (Prior b)) (school_in_range past key.school) refl refl refl zero-le refl zero-le refl refl zero-le zero-le
+facts_of_kind past legal key (Originate b) = bare_in_range (facts_of past key (Originate b)) (school_in_range past key.school) refl refl refl zero-le refl zero-le refl refl zero-le zero-le
+facts_of_kind past legal key (Adjust b) = bare_in_range (facts_of past key (Adjust b)) (school_in_range past key.school) refl refl refl zero-le refl zero-le refl refl zero-le zero-le
+facts_of_kind past legal key (Cost b) = bare_in_range (facts_of past key (Cost b)) (school_in_range past key.school) refl refl refl zero-le refl (net_in_range past legal _) refl refl zero-le zero-le
+facts_of_kind past legal key (Sent b) = bare_in_range (facts_of past key (Sent b)) (school_in_range past key.school) refl refl refl zero-le refl zero-le refl refl zero-le (sent_in_range past legal _)
+facts_of_kind past legal key (Amend b) = bare_in_range (facts_of past key (Amend b)) (school_in_range past key.school) refl refl refl zero-le refl zero-le refl refl zero-le zero-le
 
 pub facts_in_range : (past : List Filing) → IsLegal past → (f : Filing) → AreFactsInRange (facts_of past f.key f.what)
 facts_in_range past legal f = facts_of_kind past legal f.key f.what

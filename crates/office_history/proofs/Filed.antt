@@ -8,7 +8,7 @@ use Rattle.aid_filings.specs.declared.filing.Amount.{Amount}
 use Rattle.aid_filings.specs.declared.filing.CalendarFacts.{CalendarFacts}
 use Rattle.aid_filings.specs.declared.filing.Filing.{Filing}
 use Rattle.aid_filings.specs.declared.filing.What.{What}
-use Rattle.aid_filings.specs.declared.filing.What.TheVariants.{Book as BookFiled, School, Calendar, Prior, Apply, Enroll, Originate, Pay, Withdraw, Repay, Adjust}
+use Rattle.aid_filings.specs.declared.filing.What.TheVariants.{Book as BookFiled, School, Calendar, Prior, Apply, Enroll, Originate, Pay, Withdraw, Repay, Adjust, Cost, Sent, Amend}
 use Rattle.office_history.specs.Past.{first_of_two, at_school, if_here, given, term_in, FiledTerm, terms_on_file}
 use Rattle.office_history.specs.Net.{Cell, is_cell, cell_of, paid}
 use Rattle.office_history.specs.FactsOf.{facts_of}
@@ -63,6 +63,9 @@ at_filed (f ∷ past) school year number h = go f.key f.what h (at_filed past sc
     go key (Withdraw b) h ih = ih h
     go key (Repay b) h ih = ih h
     go key (Adjust b) h ih = ih h
+    go key (Cost b) h ih = ih h
+    go key (Sent b) h ih = ih h
+    go key (Amend b) h ih = ih h
 
 -- a filing leaves the terms on file
 abbrev pub FiledHolds : List Filing → Type 0
@@ -87,6 +90,9 @@ still past f school year number h = go f.key f.what
     go key (Withdraw b) = h
     go key (Repay b) = h
     go key (Adjust b) = h
+    go key (Cost b) = h
+    go key (Sent b) = h
+    go key (Amend b) = h
 
 filed_paid : (past : List Filing) (key : Key) (a : Amount) → FiledHolds past → breaks past (record { key = key; what = Pay a }) ≡ None →
     FiledHolds (record { key = key; what = Pay a } ∷ past)
@@ -114,6 +120,9 @@ filed_step past key (Originate b) ih h = ih
 filed_step past key (Withdraw b) ih h = ih
 filed_step past key (Repay b) ih h = ih
 filed_step past key (Adjust b) ih h = ih
+filed_step past key (Cost b) ih h = ih
+filed_step past key (Sent b) ih h = ih
+filed_step past key (Amend b) ih h = ih
 
 pub filed_holds : (past : List Filing) → IsLegal past → FiledHolds past
 filed_holds [] h = λ c pos. absurd (omega arith)

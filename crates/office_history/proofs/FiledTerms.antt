@@ -7,7 +7,7 @@ use Rattle.std.proofs.lemmas.List.Sums.{sum_by-append}
 use Rattle.aid_types.specs.declared.term.Term.{Term}
 use Rattle.aid_filings.specs.declared.filing.Filing.{Filing}
 use Rattle.aid_filings.specs.declared.filing.What.{What}
-use Rattle.aid_filings.specs.declared.filing.What.TheVariants.{Book, School, Calendar, Prior, Apply, Enroll, Originate, Pay, Withdraw, Repay, Adjust}
+use Rattle.aid_filings.specs.declared.filing.What.TheVariants.{Book, School, Calendar, Prior, Apply, Enroll, Originate, Pay, Withdraw, Repay, Adjust, Cost, Sent, Amend}
 use Rattle.law_terms.specs.Terms.{shares_day}
 use Rattle.office_history.specs.Past.{FiledTerm, on_file, terms_on_file, first_at, first_of_two}
 use Rattle.office_history.specs.Positions.{first_term_at}
@@ -41,6 +41,9 @@ module _ (school : ℕ) (term : Term) where
   one_overlap filer here (Withdraw w) rest = refl
   one_overlap filer here (Repay a) rest = refl
   one_overlap filer here (Adjust a) rest = refl
+  one_overlap filer here (Cost o) rest = refl
+  one_overlap filer here (Sent o) rest = refl
+  one_overlap filer here (Amend o) rest = refl
 
   pub overlap_place : (past : List Filing)
       → first_at (λ f. is_overlapping school term f.key.school f.what) past ≡ first_term_at (λ t. t.school == school && shares_day term t.term) (terms_on_file past)
@@ -68,6 +71,9 @@ module _ (school year : ℕ) where
   one_main filer here (Withdraw w) rest = omega arith
   one_main filer here (Repay a) rest = omega arith
   one_main filer here (Adjust a) rest = omega arith
+  one_main filer here (Cost o) rest = omega arith
+  one_main filer here (Sent o) rest = omega arith
+  one_main filer here (Amend o) rest = omega arith
 
   mains : (past : List Filing)
       → count_by (λ f. is_main_term school year f.key.school f.what) past ≡ length (filter (λ t. t.school == school && (t.year == year && not t.term.extra)) (terms_on_file past))

@@ -1,13 +1,13 @@
 -- The application in force is the filing at its position.
-use Rattle.std.proofs.Common.{◌≡◌, ℕ, zero, suc, ◌+◌, ◌≤◌, refl, sym, ap, ◌∙◌, arith, Bool, true, false, List, [], ◌∷◌, ◌++◌, length, reverse, Option, Some, None, add-one, ◌⊎◌, inl, inr}
+use Rattle.std.proofs.Common.{◌≡◌, ℕ, zero, suc, ◌+◌, refl, sym, ap, ◌∙◌, arith, Bool, true, false, List, [], ◌∷◌, ◌++◌, length, reverse, Option, Some, None, add-one, ◌⊎◌, inl, inr}
 use Rattle.std.specs.Prelude.{◌==◌, ◌&&◌, if◌then◌else◌}
 use Rattle.std.specs.List.{slice_get}
 use Rattle.std.proofs.lemmas.List.{length-reverse, reverse-append}
 use Rattle.aid_types.specs.declared.application.Application.{Application}
 use Rattle.aid_filings.specs.declared.filing.Filing.{Filing}
 use Rattle.aid_filings.specs.declared.filing.What.{What}
-use Rattle.aid_filings.specs.declared.filing.What.TheVariants.{Book as BookFiled, School, Calendar, Prior, Apply, Enroll, Originate, Pay, Withdraw, Repay, Adjust}
-use Rattle.office_history.specs.Past.{application, application_in, given, higher, is_higher}
+use Rattle.aid_filings.specs.declared.filing.What.TheVariants.{Book as BookFiled, School, Calendar, Prior, Apply, Enroll, Originate, Pay, Withdraw, Repay, Adjust, Cost, Sent, Amend}
+use Rattle.office_history.specs.Past.{application, application_in, given, is_higher}
 use Rattle.office_history.specs.Positions.{application_at}
 use Rattle.office_history.specs.Rows.{filed_application, filing_in, told_application}
 
@@ -48,6 +48,9 @@ told_is_filed student year (Pay p) a h = absurd cc
 told_is_filed student year (Withdraw w) a h = absurd cc
 told_is_filed student year (Repay r) a h = absurd cc
 told_is_filed student year (Adjust r) a h = absurd cc
+told_is_filed student year (Cost o) a h = absurd cc
+told_is_filed student year (Sent o) a h = absurd cc
+told_is_filed student year (Amend o) a h = absurd cc
 
 module _ (student year : ℕ) where
   -- nothing is in force and it has no position, or it is the filing at its position

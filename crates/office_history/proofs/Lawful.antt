@@ -9,7 +9,7 @@ use Rattle.aid_filings.specs.declared.filing.CalendarFacts.{CalendarFacts}
 use Rattle.aid_filings.specs.declared.filing.WithdrawFacts.{WithdrawFacts}
 use Rattle.aid_filings.specs.declared.filing.Filing.{Filing}
 use Rattle.aid_filings.specs.declared.filing.What.{What}
-use Rattle.aid_filings.specs.declared.filing.What.TheVariants.{Book as BookFiled, School, Calendar, Prior, Apply, Enroll, Originate, Pay, Withdraw, Repay, Adjust}
+use Rattle.aid_filings.specs.declared.filing.What.TheVariants.{Book as BookFiled, School, Calendar, Prior, Apply, Enroll, Originate, Pay, Withdraw, Repay, Adjust, Cost, Sent, Amend}
 use Rattle.law_terms.specs.Terms.{AreAfter, IsLawful}
 use Rattle.aid_types.specs.RuleLines.{stands, too_early}
 use Rattle.law_rules.specs.Rules.{breaks_in_order, breaks_inside, rule_21, rule_23, rule_24, rule_62, first_break_in_order}
@@ -93,6 +93,9 @@ term_is_lawful (f ∷ past) h school year number t e = go f.key f.what h.2 e (te
     go key (Withdraw b) rule e ih = ih e
     go key (Repay b) rule e ih = ih e
     go key (Adjust b) rule e ih = ih e
+    go key (Cost b) rule e ih = ih e
+    go key (Sent b) rule e ih = ih e
+    go key (Amend b) rule e ih = ih e
 
 worked_out : (past : List Filing) (key : Key) (w : WithdrawFacts) → IsLegal past → breaks past (record { key = key; what = Withdraw w }) ≡ None → CanBeWorkedOut past key w
 worked_out past key w legal h = go (the_term past key.school w.year w.term) refl

@@ -7,7 +7,7 @@ use Rattle.std.proofs.lemmas.Bool.Decides.{nat_tests}
 use Rattle.aid_types.specs.declared.number.Key.{Key}
 use Rattle.aid_filings.specs.declared.filing.Filing.{Filing}
 use Rattle.aid_filings.specs.declared.filing.What.{What}
-use Rattle.aid_filings.specs.declared.filing.What.TheVariants.{Book as BookFiled, School, Calendar, Prior, Apply, Enroll, Originate, Pay, Withdraw, Repay, Adjust}
+use Rattle.aid_filings.specs.declared.filing.What.TheVariants.{Book as BookFiled, School, Calendar, Prior, Apply, Enroll, Originate, Pay, Withdraw, Repay, Adjust, Cost, Sent, Amend}
 use Rattle.aid_types.specs.declared.award.Refusal.{Refusal}
 use Rattle.aid_types.specs.RuleLines.{first_broken}
 use Rattle.office_history.specs.Past.{same_filing, same_key, first_of_two, key_at, filing_at}
@@ -82,6 +82,9 @@ room_left past f h = by (f.what) h
     by (Withdraw x) h = first (nat_le 1000000 (length past)) (length past) _ _ refl h
     by (Repay x) h = first (nat_le 1000000 (length past)) (length past) _ _ refl h
     by (Adjust x) h = first (nat_le 1000000 (length past)) (length past) _ _ refl h
+    by (Cost x) h = first (nat_le 1000000 (length past)) (length past) _ _ refl h
+    by (Sent x) h = first (nat_le 1000000 (length past)) (length past) _ _ refl h
+    by (Amend x) h = first (nat_le 1000000 (length past)) (length past) _ _ refl h
 
 -- a legal history has at most 1,000,000 filings
 pub legal_is_short : (past : List Filing) → IsLegal past → length past ≤ 1000000

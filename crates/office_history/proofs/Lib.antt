@@ -21,6 +21,7 @@ pub mod Terms
 pub mod Apart
 pub mod Main
 pub mod Ranges
+pub mod Sendings
 pub mod After
 pub mod LegalWithin
 pub mod FactsInRange

@@ -9,7 +9,7 @@ use Rattle.aid_filings.specs.declared.filing.PriorFacts.{PriorFacts}
 use Rattle.aid_types.specs.declared.application.Application.{Application}
 use Rattle.aid_filings.specs.declared.filing.Filing.{Filing}
 use Rattle.aid_filings.specs.declared.filing.What.{What}
-use Rattle.aid_filings.specs.declared.filing.What.TheVariants.{Book as BookFiled, School, Calendar, Prior, Apply, Enroll, Originate, Pay, Withdraw, Repay, Adjust}
+use Rattle.aid_filings.specs.declared.filing.What.TheVariants.{Book as BookFiled, School, Calendar, Prior, Apply, Enroll, Originate, Pay, Withdraw, Repay, Adjust, Cost, Sent, Amend}
 use Rattle.law_terms.specs.Used.{use_of}
 use Rattle.aid_types.specs.Programs.{rank}
 use Rattle.office_history.specs.Past.{earliest, earlier, given, amount_or, prior_units, prior_in, pell_payment_in, the_book}
@@ -117,6 +117,9 @@ no_pell (f ∷ past) student year h =
     go key (Withdraw b) e ih = ih
     go key (Repay b) e ih = ih
     go key (Adjust b) e ih = ih
+    go key (Cost b) e ih = ih
+    go key (Sent b) e ih = ih
+    go key (Amend b) e ih = ih
 
 sum_none : (g : ℕ → ℕ) (ys : List ℕ) → ((y : ℕ) → g y ≡ 0) → sum_over g ys ≡ 0
 sum_none g [] h = refl
@@ -288,6 +291,9 @@ lifetime_step past key (Originate b) year ih h = ih
 lifetime_step past key (Withdraw b) year ih h = lifetime_kept past (record { key = key; what = Withdraw b }) ih (λ student. omega arith) (λ student y. use_lower past key (Withdraw b) student y refl)
 lifetime_step past key (Repay b) year ih h = lifetime_kept past (record { key = key; what = Repay b }) ih (λ student. omega arith) (λ student y. use_lower past key (Repay b) student y refl)
 lifetime_step past key (Adjust b) year ih h = lifetime_kept past (record { key = key; what = Adjust b }) ih (λ student. omega arith) (λ student y. use_lower past key (Adjust b) student y refl)
+lifetime_step past key (Cost b) year ih h = ih
+lifetime_step past key (Sent b) year ih h = ih
+lifetime_step past key (Amend b) year ih h = ih
 lifetime_step past key (BookFiled b) year ih h = lifetime_book past key b year ih h
 lifetime_step past key (Apply a) year ih h = lifetime_applied past key a ih h
 

@@ -11,7 +11,7 @@ use Rattle.aid_types.specs.declared.application.Application.{Application}
 use Rattle.aid_filings.specs.declared.filing.CalendarFacts.{CalendarFacts}
 use Rattle.aid_filings.specs.declared.filing.Filing.{Filing}
 use Rattle.aid_filings.specs.declared.filing.What.{What}
-use Rattle.aid_filings.specs.declared.filing.What.TheVariants.{Book as BookFiled, School, Calendar, Prior, Apply, Enroll, Originate, Pay, Withdraw, Repay, Adjust}
+use Rattle.aid_filings.specs.declared.filing.What.TheVariants.{Book as BookFiled, School, Calendar, Prior, Apply, Enroll, Originate, Pay, Withdraw, Repay, Adjust, Cost, Sent, Amend}
 use Rattle.aid_types.specs.Programs.{rank}
 use Rattle.office_history.specs.Past.{the_term, is_extra, earlier, at_school, term_in, the_book}
 use Rattle.office_history.specs.Award.{award_under, scheduled}
@@ -129,6 +129,9 @@ paid_unfiled (f ∷ past) h t off = go f.key f.what h.2 off (paid_unfiled past h
     go key (Withdraw b) rule off ih = ih off
     go key (Repay b) rule off ih = ih off
     go key (Adjust b) rule off ih = ih off
+    go key (Cost b) rule off ih = ih off
+    go key (Sent b) rule off ih = ih off
+    go key (Amend b) rule off ih = ih off
 
 -- whether a cell's term is on file
 abbrev filed_cell : List Filing → Cell → Bool
@@ -285,6 +288,9 @@ main_step past key (Originate b) legal ih h = ih
 main_step past key (Withdraw b) legal ih h = main_kept past key (Withdraw b) ih refl (λ student year. refl) (λ student year. omega arith)
 main_step past key (Repay b) legal ih h = main_kept past key (Repay b) ih refl (λ student year. refl) (λ student year. omega arith)
 main_step past key (Adjust b) legal ih h = main_kept past key (Adjust b) ih refl (λ student year. refl) (λ student year. omega arith)
+main_step past key (Cost b) legal ih h = ih
+main_step past key (Sent b) legal ih h = ih
+main_step past key (Amend b) legal ih h = ih
 
 pub main_holds : (past : List Filing) → IsLegal past → MainHolds past
 main_holds [] h = λ student year. zero-le

@@ -6,7 +6,7 @@ use Rattle.aid_filings.specs.declared.filing.Amount.{Amount}
 use Rattle.aid_filings.specs.declared.filing.WithdrawFacts.{WithdrawFacts}
 use Rattle.aid_filings.specs.declared.filing.Filing.{Filing}
 use Rattle.aid_filings.specs.declared.filing.What.{What}
-use Rattle.aid_filings.specs.declared.filing.What.TheVariants.{Book as BookFiled, School, Calendar, Prior, Apply, Enroll, Originate, Pay, Withdraw, Repay, Adjust}
+use Rattle.aid_filings.specs.declared.filing.What.TheVariants.{Book as BookFiled, School, Calendar, Prior, Apply, Enroll, Originate, Pay, Withdraw, Repay, Adjust, Cost, Sent, Amend}
 use Rattle.aid_types.specs.Programs.{rank}
 use Rattle.office_history.specs.Past.{first_of_two, at_school, if_here, given, withdrawal_in, the_term}
 use Rattle.office_history.specs.Net.{Cell, is_cell, cell_of, moved, withdrawn_cell, moves_at, paid, taken, owed, repaid, net_at, sheet, days_of, last_of}
@@ -71,6 +71,9 @@ none_owed (f ∷ past) school student year term program h =
     go key (Pay b) off ih = ih
     go key (Repay b) off ih = ih
     go key (Adjust b) off ih = ih
+    go key (Cost b) off ih = ih
+    go key (Sent b) off ih = ih
+    go key (Amend b) off ih = ih
 
 -- at each cell: no more is repaid than was owed, and what was taken and is owed is at most what was paid and repaid
 abbrev pub Covered : List Filing → Cell → Type 0
@@ -127,6 +130,9 @@ step past key (Adjust a) ih h c =
     let x : cond (is_cell c (cell_of key a)) a.cents 0 ≤ room past c =
     within_cell (room past) c (cell_of key a) a.cents (omega arith) in
     (omega arith, omega arith)
+step past key (Cost b) ih h c = ih c
+step past key (Sent b) ih h c = ih c
+step past key (Amend b) ih h c = ih c
 step past key (Repay a) ih h c =
     let k = ih c in
     let r = repaid_within past key a h in

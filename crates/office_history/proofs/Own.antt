@@ -10,10 +10,10 @@ use Rattle.aid_filings.specs.declared.filing.Amount.{Amount}
 use Rattle.aid_filings.specs.declared.filing.Filing.{Filing}
 use Rattle.aid_filings.specs.declared.filing.WithdrawFacts.{WithdrawFacts}
 use Rattle.aid_filings.specs.declared.filing.What.{What}
-use Rattle.aid_filings.specs.declared.filing.What.TheVariants.{Book, School, Calendar, Prior, Apply, Enroll, Originate, Pay, Withdraw, Repay, Adjust}
+use Rattle.aid_filings.specs.declared.filing.What.TheVariants.{Book, School, Calendar, Prior, Apply, Enroll, Originate, Pay, Withdraw, Repay, Adjust, Cost, Sent, Amend}
 use Rattle.law_r2t4.specs.Worksheet.{worksheet_of}
 use Rattle.office_history.specs.Past.{the_withdrawal}
-use Rattle.office_history.specs.Net.{Cell, Move, cell_of, in_term, is_cell, moved, moves_at, net_at, owings_in, payments_after, payments_in, posts_in, repayments_in, sheet, takings_in, cell_at}
+use Rattle.office_history.specs.Net.{Cell, Move, cell_of, in_term, is_cell, moved, moves_at, net_at, owings_in, payments_after, payments_in, posts_in, repayments_in, returns_in, sendings_in, sheet, takings_in, cell_at}
 use Rattle.office_history.specs.Accounts.{IsEntry, nothing}
 use Rattle.office_history.specs.Own.{IsEntryAt, IsOwnEntry, is_place, own_place}
 use Rattle.office_history.specs.declared.account.Account.{Account}
@@ -39,6 +39,8 @@ pub record MovesIn (past : List Filing) (key : Key) (what : What) (p : Place) : 
   pub taken : AreIn p (takings_in past (net_at past) key what)
   pub owed : AreIn p (owings_in past key what)
   pub repaid : AreIn p (repayments_in key what)
+  pub returned : AreIn p (returns_in past key what)
+  pub sent : AreIn p (sendings_in key what)
   pub after : AreIn p (payments_after past key what)
   pub post : AreIn p (posts_in past key what)
 
@@ -76,21 +78,26 @@ module _ (past : List Filing) (key : Key) where
 
   pub moves : (what : What) → MovesAt past key what (own_place key what)
   unfolding worksheet_of
-  moves (Book b) = record { paid = refl; taken = refl; entry = λ p. record { paid = refl; taken = refl; owed = refl; repaid = refl; after = refl; after_all = refl; post = refl } }
-  moves (School b) = record { paid = refl; taken = refl; entry = λ p. record { paid = refl; taken = refl; owed = refl; repaid = refl; after = refl; after_all = refl; post = refl } }
-  moves (Calendar b) = record { paid = refl; taken = refl; entry = λ p. record { paid = refl; taken = refl; owed = refl; repaid = refl; after = refl; after_all = refl; post = refl } }
-  moves (Prior b) = record { paid = refl; taken = refl; entry = λ p. record { paid = refl; taken = refl; owed = refl; repaid = refl; after = refl; after_all = refl; post = refl } }
-  moves (Apply b) = record { paid = refl; taken = refl; entry = λ p. record { paid = refl; taken = refl; owed = refl; repaid = refl; after = refl; after_all = refl; post = refl } }
-  moves (Enroll b) = record { paid = refl; taken = refl; entry = λ p. record { paid = refl; taken = refl; owed = refl; repaid = refl; after = refl; after_all = refl; post = refl } }
-  moves (Originate b) = record { paid = refl; taken = refl; entry = λ p. record { paid = refl; taken = refl; owed = refl; repaid = refl; after = refl; after_all = refl; post = refl } }
-  moves (Pay a) = record { paid = one a; taken = tt; owed = tt; repaid = tt; after = one_if a (is_some (the_withdrawal past key.school a.student a.year a.term)); post = tt }
-  moves (Repay a) = record { paid = tt; taken = one a; owed = tt; repaid = one a; after = tt; post = tt }
-  moves (Adjust a) = record { paid = tt; taken = one a; owed = tt; repaid = tt; after = tt; post = tt }
+  moves (Book b) = record { paid = refl; taken = refl; entry = λ p. record { paid = refl; taken = refl; owed = refl; repaid = refl; returned = refl; sent = refl; after = refl; after_all = refl; post = refl } }
+  moves (School b) = record { paid = refl; taken = refl; entry = λ p. record { paid = refl; taken = refl; owed = refl; repaid = refl; returned = refl; sent = refl; after = refl; after_all = refl; post = refl } }
+  moves (Calendar b) = record { paid = refl; taken = refl; entry = λ p. record { paid = refl; taken = refl; owed = refl; repaid = refl; returned = refl; sent = refl; after = refl; after_all = refl; post = refl } }
+  moves (Prior b) = record { paid = refl; taken = refl; entry = λ p. record { paid = refl; taken = refl; owed = refl; repaid = refl; returned = refl; sent = refl; after = refl; after_all = refl; post = refl } }
+  moves (Apply b) = record { paid = refl; taken = refl; entry = λ p. record { paid = refl; taken = refl; owed = refl; repaid = refl; returned = refl; sent = refl; after = refl; after_all = refl; post = refl } }
+  moves (Enroll b) = record { paid = refl; taken = refl; entry = λ p. record { paid = refl; taken = refl; owed = refl; repaid = refl; returned = refl; sent = refl; after = refl; after_all = refl; post = refl } }
+  moves (Originate b) = record { paid = refl; taken = refl; entry = λ p. record { paid = refl; taken = refl; owed = refl; repaid = refl; returned = refl; sent = refl; after = refl; after_all = refl; post = refl } }
+  moves (Pay a) = record { paid = one a; taken = tt; owed = tt; repaid = tt; returned = tt; sent = tt; after = one_if a (is_some (the_withdrawal past key.school a.student a.year a.term)); post = tt }
+  moves (Repay a) = record { paid = tt; taken = one a; owed = tt; repaid = one a; returned = tt; sent = tt; after = tt; post = tt }
+  moves (Adjust a) = record { paid = tt; taken = one a; owed = tt; repaid = tt; returned = tt; sent = tt; after = tt; post = tt }
+  moves (Cost b) = record { paid = refl; taken = refl; entry = λ p. record { paid = refl; taken = refl; owed = refl; repaid = refl; returned = refl; sent = refl; after = refl; after_all = refl; post = refl } }
+  moves (Sent s) = record { paid = tt; taken = tt; owed = tt; repaid = tt; returned = tt; sent = (record { program = rank s.program; few = few-programs s.program; is = refl }, tt); after = tt; post = tt }
+  moves (Amend b) = record { paid = refl; taken = refl; entry = λ p. record { paid = refl; taken = refl; owed = refl; repaid = refl; returned = refl; sent = refl; after = refl; after_all = refl; post = refl } }
   moves (Withdraw w) = record {
     paid = tt;
     taken = each w 0 (sheet past key w).returned (omega arith);
     owed = each w 0 (sheet past key w).owed (omega arith);
     repaid = tt;
+    returned = each w 0 (sheet past key w).returned (omega arith);
+    sent = tt;
     after = tt;
     post = (record { program = 0; few = omega arith; is = refl }, tt);
   }
@@ -160,6 +167,8 @@ entry-elsewhere past key what p o m away =
       taken = none (takings_in past (net_at past) key what) m.taken;
       owed = none (owings_in past key what) m.owed;
       repaid = none (repayments_in key what) m.repaid;
+      returned = none (returns_in past key what) m.returned;
+      sent = none (sendings_in key what) m.sent;
       after = none (payments_after past key what) m.after;
       after_all = sym (moved-none (in_term p.school p.student p.year p.term) o (payments_after past key what) m.after (λ q. away));
       post = sym (moved-none (in_term p.school p.student p.year p.term) o (posts_in past key what) m.post (λ q. away));

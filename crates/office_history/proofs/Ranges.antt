@@ -5,13 +5,13 @@ use Rattle.std.proofs.lemmas.Bool.Decides.{nat_tests}
 use Rattle.aid_types.specs.Programs.{six}
 use Rattle.aid_types.specs.declared.number.Key.{Key}
 use Rattle.aid_filings.specs.declared.filing.What.{What}
-use Rattle.aid_filings.specs.declared.filing.What.TheVariants.{Book as BookFiled, School, Calendar, Prior, Apply, Enroll, Originate, Pay, Withdraw, Repay, Adjust}
+use Rattle.aid_filings.specs.declared.filing.What.TheVariants.{Book as BookFiled, School, Calendar, Prior, Apply, Enroll, Originate, Pay, Withdraw, Repay, Adjust, Cost, Sent, Amend}
 use Rattle.law_rules.specs.Lines.{rule_63, past_payment, past_year, past_lifetime, past_fseog, past_cost}
 use Rattle.aid_types.specs.RuleLines.{stands, where_true, only, over, too_early}
 use Rattle.law_rules.specs.Rules.{rule_21, rule_23, rule_24, rule_62}
 use Rattle.aid_filings.specs.declared.filing.Filing.{Filing}
-use Rattle.office_history.specs.Past.{amount_or, at_school, cost, cost_in, credits, credits_in, earlier, earliest, given, if_here, later, latest, FiledTerm, terms_on_file, the_school, the_withdrawal, the_term}
-use Rattle.office_history.specs.Net.{Cell, is_cell, paid, net_at, at_school_in_year, Move, onto, cell_of, paid_after, repaid, used_else, use_in, all_years, net, taken, owed, post, sheet, days_of, last_of, withdrawn_cell}
+use Rattle.office_history.specs.Past.{amount_or, at_school, cost, cost_in, credits, credits_in, given, if_here, later, latest, FiledTerm, terms_on_file, the_school, the_withdrawal, the_term}
+use Rattle.office_history.specs.Net.{Cell, is_cell, paid, net_at, at_school_in_year, Move, onto, cell_of, paid_after, repaid, returned, sent, sent_cell, used_else, use_in, all_years, net, taken, owed, post, sheet, days_of, last_of, withdrawn_cell}
 use Rattle.office_history.specs.FactsOf.{facts_of}
 use Rattle.office_history.specs.Positions.{terms_of}
 use Rattle.office_history.specs.Rules.{rules_of}
@@ -20,6 +20,7 @@ use Rattle.aid_types.proofs.Holds.{all_hold, hold_back, hold_only, AllHold, over
 use Rattle.office_history.proofs.Main.{of_sort, not_of_sort, paid_parts, taken_parts, paid_same, taken_same}
 use Rattle.office_history.proofs.AnyNets.{any_net_stands, covered_all}
 use Rattle.office_history.proofs.Cost.{cost_holds}
+use Rattle.office_history.proofs.Sendings.{returned_is_taken}
 use Rattle.std.specs.List.{filter}
 use Rattle.aid_filings.specs.Calendars.{term_of}
 use Rattle.aid_filings.specs.declared.filing.SchoolFacts.{SchoolFacts}
@@ -49,11 +50,6 @@ cell_within_cost past legal c =
         go false true e f g = refl
         go false false e f g = refl
 
-one_of : (bound : ℕ) (new before : Option ℕ) → amount_or new ≤ bound → amount_or before ≤ bound → amount_or (earlier new before) ≤ bound
-one_of bound None before h k = k
-one_of bound (Some a) None h k = h
-one_of bound (Some a) (Some b) h k = k
-
 last_of_two : (bound : ℕ) (new before : Option ℕ) → amount_or new ≤ bound → amount_or before ≤ bound → amount_or (later new before) ≤ bound
 last_of_two bound None before h k = k
 last_of_two bound (Some a) before h k = h
@@ -68,7 +64,7 @@ told_here bound false false n h = zero-le
 pub cost_is_small : (past : List Filing) (school student year : ℕ) → cost past school student year ≤ 999999
 cost_is_small [] school student year = zero-le
 cost_is_small (f ∷ past) school student year =
-    one_of 999999 (at_school school (cost_in student year) f) (earliest (at_school school (cost_in student year)) past) (go f.key f.what)
+    last_of_two 999999 (at_school school (cost_in student year) f) (latest (at_school school (cost_in student year)) past) (go f.key f.what)
     (cost_is_small past school student year)
   where
     go : (key : Key) (what : What) → amount_or (at_school school (cost_in student year) (record { key = key; what = what })) ≤ 999999
@@ -83,6 +79,9 @@ cost_is_small (f ∷ past) school student year =
     go key (Withdraw b) = zero-le
     go key (Repay b) = zero-le
     go key (Adjust b) = zero-le
+    go key (Cost o) = told_here 999999 (key.school == school) (o.student == student && o.year == year) o.cost o.in_range
+    go key (Sent o) = zero-le
+    go key (Amend o) = zero-le
 
 -- the net at a cell is below a million dollars
 pub net_is_small : (past : List Filing) → IsLegal past → (c : Cell) → net_at past c ≤ 99999999
@@ -117,6 +116,9 @@ credits_in_range (f ∷ past) legal school student year term =
     go key (Withdraw b) h = zero-le
     go key (Repay b) h = zero-le
     go key (Adjust b) h = zero-le
+    go key (Cost b) h = zero-le
+    go key (Sent b) h = zero-le
+    go key (Amend b) h = zero-le
 
 -- what a test keeps of an amount is at most the amount
 kept_below : (b : Bool) (n bound : ℕ) → n ≤ bound → cond b n 0 ≤ bound
@@ -141,6 +143,9 @@ paid_is_small (f ∷ past) sel = go f.key f.what (paid_is_small past sel)
     go key (Withdraw b) ih = omega arith
     go key (Repay b) ih = omega arith
     go key (Adjust b) ih = omega arith
+    go key (Cost b) ih = omega arith
+    go key (Sent b) ih = omega arith
+    go key (Amend b) ih = omega arith
 
 pub repaid_is_small : (past : List Filing) (sel : Cell → Bool) → repaid past sel ≤ 99999999 * length past
 repaid_is_small [] sel = zero-le
@@ -159,6 +164,30 @@ repaid_is_small (f ∷ past) sel = go f.key f.what (repaid_is_small past sel)
     go key (Pay b) ih = omega arith
     go key (Withdraw b) ih = omega arith
     go key (Adjust b) ih = omega arith
+    go key (Cost b) ih = omega arith
+    go key (Sent b) ih = omega arith
+    go key (Amend b) ih = omega arith
+
+pub sent_is_small : (past : List Filing) (sel : Cell → Bool) → sent past sel ≤ 99999999 * length past
+sent_is_small [] sel = zero-le
+sent_is_small (f ∷ past) sel = go f.key f.what (sent_is_small past sel)
+  where
+    go : (key : Key) (what : What) → sent past sel ≤ 99999999 * length past →
+        sent (record { key = key; what = what } ∷ past) sel ≤ 99999999 * length (f ∷ past)
+    go key (Sent s) ih = let k = kept_below (sel (sent_cell key s)) s.cents 99999999 s.in_range.1 in omega arith
+    go key (BookFiled b) ih = omega arith
+    go key (School b) ih = omega arith
+    go key (Calendar b) ih = omega arith
+    go key (Prior b) ih = omega arith
+    go key (Apply b) ih = omega arith
+    go key (Enroll b) ih = omega arith
+    go key (Originate b) ih = omega arith
+    go key (Pay b) ih = omega arith
+    go key (Withdraw b) ih = omega arith
+    go key (Repay b) ih = omega arith
+    go key (Adjust b) ih = omega arith
+    go key (Cost b) ih = omega arith
+    go key (Amend b) ih = omega arith
 
 -- what was paid after withdrawals is a part of what was paid
 pub after_is_paid : (past : List Filing) (sel : Cell → Bool) → paid_after past sel ≤ paid past sel
@@ -183,6 +212,9 @@ after_is_paid (f ∷ past) sel = go f.key f.what (after_is_paid past sel)
     go key (Withdraw b) ih = ih
     go key (Repay b) ih = ih
     go key (Adjust b) ih = ih
+    go key (Cost b) ih = ih
+    go key (Sent b) ih = ih
+    go key (Amend b) ih = ih
 
 -- what was taken back, and what is still owed
 pub taken_is_small : (past : List Filing) → IsLegal past → (sel : Cell → Bool) → taken past sel ≤ 99999999 * length past
@@ -190,6 +222,10 @@ taken_is_small past legal sel =
     let p = paid_is_small past sel in
     let k = any_net_stands past legal sel in
     omega arith
+
+-- what withdrawals return is a part of it
+pub returned_is_small : (past : List Filing) → IsLegal past → (sel : Cell → Bool) → returned past sel ≤ 99999999 * length past
+returned_is_small past legal sel = omega (arith, returned_is_taken past sel, taken_is_small past legal sel)
 
 pub owed_is_small : (past : List Filing) → IsLegal past → (sel : Cell → Bool) → owed past sel ≤ 199999998 * length past
 owed_is_small past legal sel =
@@ -238,6 +274,9 @@ post_is_small (f ∷ past) legal sel = go f.key f.what legal.2 (post_is_small pa
     go key (Pay b) h ih = omega arith
     go key (Repay b) h ih = omega arith
     go key (Adjust b) h ih = omega arith
+    go key (Cost b) h ih = omega arith
+    go key (Sent b) h ih = omega arith
+    go key (Amend b) h ih = omega arith
 
 -- lifetime use but of one year
 pub used_else_within : (past : List Filing) → IsLegal past → (student year : ℕ) → used_else past student year ≤ 600000
@@ -305,3 +344,6 @@ main_terms_are_few (f ∷ past) legal school year = go f.key f.what legal.2 (mai
     go key (Withdraw b) h ih = ih
     go key (Repay b) h ih = ih
     go key (Adjust b) h ih = ih
+    go key (Cost b) h ih = ih
+    go key (Sent b) h ih = ih
+    go key (Amend b) h ih = ih

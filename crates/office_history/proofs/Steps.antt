@@ -6,7 +6,7 @@ use Rattle.aid_types.specs.declared.number.Key.{Key}
 use Rattle.aid_filings.specs.declared.filing.Amount.{Amount}
 use Rattle.aid_filings.specs.declared.filing.Filing.{Filing}
 use Rattle.aid_filings.specs.declared.filing.What.{What}
-use Rattle.aid_filings.specs.declared.filing.What.TheVariants.{Book as BookFiled, School, Calendar, Prior, Apply, Enroll, Originate, Pay, Withdraw, Repay, Adjust}
+use Rattle.aid_filings.specs.declared.filing.What.TheVariants.{Book as BookFiled, School, Calendar, Prior, Apply, Enroll, Originate, Pay, Withdraw, Repay, Adjust, Cost, Sent, Amend}
 use Rattle.office_history.specs.Past.{earlier, amount_or}
 use Rattle.office_history.specs.Net.{Cell, Move, cell_of, moved, payments_in, takings_in, paid, taken, net, net_at, in_year, at_school_in_year}
 use Rattle.office_history.proofs.Cells.{onto_is}
@@ -24,6 +24,9 @@ by_payment P key pays not (Originate b) = not (Originate b) refl
 by_payment P key pays not (Withdraw b) = not (Withdraw b) refl
 by_payment P key pays not (Repay b) = not (Repay b) refl
 by_payment P key pays not (Adjust b) = not (Adjust b) refl
+by_payment P key pays not (Cost b) = not (Cost b) refl
+by_payment P key pays not (Sent b) = not (Sent b) refl
+by_payment P key pays not (Amend b) = not (Amend b) refl
 
 -- a net rises by no more than what the filing pays
 pub net_step : (past : List Filing) (f : Filing) (sel : Cell → Bool) → net (f ∷ past) sel ≤ moved sel (payments_in f.key f.what) + net past sel

@@ -11,7 +11,7 @@ use Rattle.aid_filings.specs.declared.filing.EnrollFacts.{EnrollFacts}
 use Rattle.aid_types.specs.declared.application.Application.{Application}
 use Rattle.aid_filings.specs.declared.filing.Filing.{Filing}
 use Rattle.aid_filings.specs.declared.filing.What.{What}
-use Rattle.aid_filings.specs.declared.filing.What.TheVariants.{Book as BookFiled, School, Calendar, Prior, Apply, Enroll, Originate, Pay, Withdraw, Repay, Adjust}
+use Rattle.aid_filings.specs.declared.filing.What.TheVariants.{Book as BookFiled, School, Calendar, Prior, Apply, Enroll, Originate, Pay, Withdraw, Repay, Adjust, Cost, Sent, Amend}
 use Rattle.law_terms.specs.Terms.{intensity_of, payment_of}
 use Rattle.aid_types.specs.Programs.{rank}
 use Rattle.office_history.specs.Past.{at_school, if_here, given, later, latest, earlier, amount_or, credits, credits_in, the_school, school_in, the_book, FiledTerm, terms_on_file}
@@ -198,6 +198,9 @@ term_step past key (Originate b) ih filed h = ih
 term_step past key (Withdraw b) ih filed h = term_kept past key (Withdraw b) ih refl (λ school student year number. omega arith)
 term_step past key (Repay b) ih filed h = term_kept past key (Repay b) ih refl (λ school student year number. omega arith)
 term_step past key (Adjust b) ih filed h = term_kept past key (Adjust b) ih refl (λ school student year number. omega arith)
+term_step past key (Cost b) ih filed h = ih
+term_step past key (Sent b) ih filed h = ih
+term_step past key (Amend b) ih filed h = ih
 
 pub term_holds : (past : List Filing) → IsLegal past → TermHolds past
 term_holds [] h = λ school student year number. zero-le

@@ -10,7 +10,7 @@ use Rattle.aid_types.specs.declared.number.Key.{Key}
 use Rattle.aid_filings.specs.declared.filing.CalendarFacts.{CalendarFacts}
 use Rattle.aid_filings.specs.declared.filing.Filing.{Filing}
 use Rattle.aid_filings.specs.declared.filing.What.{What}
-use Rattle.aid_filings.specs.declared.filing.What.TheVariants.{Book as BookFiled, School, Calendar, Prior, Apply, Enroll, Originate, Pay, Withdraw, Repay, Adjust}
+use Rattle.aid_filings.specs.declared.filing.What.TheVariants.{Book as BookFiled, School, Calendar, Prior, Apply, Enroll, Originate, Pay, Withdraw, Repay, Adjust, Cost, Sent, Amend}
 use Rattle.office_history.specs.Past.{FiledTerm, on_file, at_school, term_in, terms_on_file}
 use Rattle.office_history.specs.Rules.{rules_of}
 use Rattle.office_history.specs.Positions.{school_at, term_at, is_over, least_term}
@@ -46,6 +46,9 @@ by_calendar P past f new same = go f.what refl
     go (Withdraw b) e = same
     go (Repay b) e = same
     go (Adjust b) e = same
+    go (Cost b) e = same
+    go (Sent b) e = same
+    go (Amend b) e = same
 
 -- positions are at most the length of the history
 within : (past : List Filing) → All (λ t. t.position < length past + 1) (terms_on_file past)

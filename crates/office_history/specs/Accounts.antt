@@ -4,7 +4,7 @@ use Rattle.aid_types.specs.Programs.{plus, six}
 use Rattle.aid_types.specs.declared.number.Key.{Key}
 use Rattle.aid_filings.specs.declared.filing.Filing.{Filing}
 use Rattle.aid_filings.specs.declared.filing.What.{What}
-use Rattle.office_history.specs.Net.{is_cell, in_term, moved, net_at, paid, taken, owed, repaid, post, paid_after, payments_in, takings_in, owings_in, repayments_in, payments_after, posts_in, cell_at}
+use Rattle.office_history.specs.Net.{is_cell, in_term, moved, net_at, paid, taken, owed, repaid, returned, sent, post, paid_after, payments_in, takings_in, owings_in, repayments_in, returns_in, sendings_in, payments_after, posts_in, cell_at}
 use Rattle.office_history.specs.declared.account.Account.{Account}
 
 -- by program the sums of what moved at its cell, and the sums over all programs of the term
@@ -13,6 +13,8 @@ pub record IsAccount (past : List Filing) (school student year term : ℕ) (a : 
   pub taken : a.taken ≡ six (λ p. taken past (is_cell (cell_at school student year term p)))
   pub owed : a.owed ≡ six (λ p. owed past (is_cell (cell_at school student year term p)))
   pub repaid : a.repaid ≡ six (λ p. repaid past (is_cell (cell_at school student year term p)))
+  pub returned : a.returned ≡ six (λ p. returned past (is_cell (cell_at school student year term p)))
+  pub sent : a.sent ≡ six (λ p. sent past (is_cell (cell_at school student year term p)))
   pub after : a.after ≡ six (λ p. paid_after past (is_cell (cell_at school student year term p)))
   pub after_all : a.after_all ≡ paid_after past (in_term school student year term)
   pub post : a.post ≡ post past (in_term school student year term)
@@ -23,6 +25,8 @@ pub record IsEntry (past : List Filing) (key : Key) (what : What) (school studen
   pub taken : a.taken ≡ six (λ p. moved (is_cell (cell_at school student year term p)) (takings_in past (net_at past) key what))
   pub owed : a.owed ≡ six (λ p. moved (is_cell (cell_at school student year term p)) (owings_in past key what))
   pub repaid : a.repaid ≡ six (λ p. moved (is_cell (cell_at school student year term p)) (repayments_in key what))
+  pub returned : a.returned ≡ six (λ p. moved (is_cell (cell_at school student year term p)) (returns_in past key what))
+  pub sent : a.sent ≡ six (λ p. moved (is_cell (cell_at school student year term p)) (sendings_in key what))
   pub after : a.after ≡ six (λ p. moved (is_cell (cell_at school student year term p)) (payments_after past key what))
   pub after_all : a.after_all ≡ moved (in_term school student year term) (payments_after past key what)
   pub post : a.post ≡ moved (in_term school student year term) (posts_in past key what)
@@ -34,6 +38,8 @@ nothing = record {
   taken = 0 ∷ 0 ∷ 0 ∷ 0 ∷ 0 ∷ 0 ∷ [];
   owed = 0 ∷ 0 ∷ 0 ∷ 0 ∷ 0 ∷ 0 ∷ [];
   repaid = 0 ∷ 0 ∷ 0 ∷ 0 ∷ 0 ∷ 0 ∷ [];
+  returned = 0 ∷ 0 ∷ 0 ∷ 0 ∷ 0 ∷ 0 ∷ [];
+  sent = 0 ∷ 0 ∷ 0 ∷ 0 ∷ 0 ∷ 0 ∷ [];
   after = 0 ∷ 0 ∷ 0 ∷ 0 ∷ 0 ∷ 0 ∷ [];
   after_all = 0;
   post = 0;
@@ -51,6 +57,8 @@ joined a b = record {
   taken = plus a.taken b.taken;
   owed = plus a.owed b.owed;
   repaid = plus a.repaid b.repaid;
+  returned = plus a.returned b.returned;
+  sent = plus a.sent b.sent;
   after = plus a.after b.after;
   after_all = a.after_all + b.after_all;
   post = a.post + b.post;
@@ -65,6 +73,8 @@ pub record HasSums (a : Account) : Type 0 where
   pub taken : AreSums a.taken
   pub owed : AreSums a.owed
   pub repaid : AreSums a.repaid
+  pub returned : AreSums a.returned
+  pub sent : AreSums a.sent
   pub after : AreSums a.after
   pub after_all : a.after_all ≤ 10 ^ 18
   pub post : a.post ≤ 10 ^ 18

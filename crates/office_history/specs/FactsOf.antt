@@ -7,11 +7,11 @@ use Rattle.aid_types.specs.declared.application.Application.{Application}
 use Rattle.law_rules.specs.declared.facts.Facts.{Facts}
 use Rattle.aid_filings.specs.declared.filing.Filing.{Filing}
 use Rattle.aid_filings.specs.declared.filing.What.{What}
-use Rattle.aid_filings.specs.declared.filing.What.TheVariants.{Book as BookFiled, School, Calendar, Prior, Apply, Enroll, Originate, Pay, Withdraw, Repay, Adjust}
+use Rattle.aid_filings.specs.declared.filing.What.TheVariants.{Book as BookFiled, School, Calendar, Prior, Apply, Enroll, Originate, Pay, Withdraw, Repay, Adjust, Cost, Sent, Amend}
 use Rattle.office_history.specs.Past.{the_book, the_school, the_term, the_withdrawal, credits, cost, application, terms_on_file}
 use Rattle.office_history.specs.Award.{ceiling, scheduled, unfit_under}
-use Rattle.office_history.specs.Net.{cell_of, is_cell, net, cell_at, net_at, in_year, in_term, at_school_in_year, pell_term, pell_year, pell_main, used_else, owed, repaid, post, paid_after}
-use Rattle.office_history.specs.Positions.{terms_of, full_of, book_at, school_at, term_at, prior_at, pell_at, cost_at, withdrawn_at, transaction_of, could_of, least_code, is_paid_beside, term_over, overlap_at, main_term_count, award_filed}
+use Rattle.office_history.specs.Net.{cell_of, is_cell, net, cell_at, net_at, in_year, in_term, at_school_in_year, sent_cell, pell_term, pell_year, pell_main, used_else, owed, repaid, returned, sent, post, paid_after}
+use Rattle.office_history.specs.Positions.{terms_of, full_of, book_at, school_at, term_at, prior_at, pell_at, cost_at, withdrawn_at, transaction_of, could_of, determined_of, least_code, is_paid_beside, term_over, overlap_at, main_term_count, award_filed}
 
 -- no filings
 abbrev pub no_facts : Facts
@@ -50,6 +50,9 @@ no_facts = record {
   could = 0 ∷ 0 ∷ 0 ∷ 0 ∷ 0 ∷ 0 ∷ [];
   owed = 0;
   repaid = 0;
+  determined = 0;
+  returned = 0;
+  sent = 0;
   unfit = None;
   next_scheduled = 0;
   term_over = None;
@@ -142,3 +145,14 @@ facts_of past key (Adjust a) = record (desk_facts past key.school) {
   withdrawn_at = withdrawn_at past key.school a.student a.year a.term;
   net = net_at past (cell_of key a);
 }
+facts_of past key (Cost o) = record (desk_facts past key.school) {
+  cost_at = cost_at past key.school o.student o.year;
+  net_all = net past (at_school_in_year key.school o.student o.year);
+}
+facts_of past key (Sent s) = record (desk_facts past key.school) {
+  withdrawn_at = withdrawn_at past key.school s.student s.year s.term;
+  determined = determined_of (the_withdrawal past key.school s.student s.year s.term);
+  returned = returned past (is_cell (sent_cell key s));
+  sent = sent past (is_cell (sent_cell key s));
+}
+facts_of past key (Amend a) = desk_facts past key.school

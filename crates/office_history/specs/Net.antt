@@ -8,7 +8,8 @@ use Rattle.aid_filings.specs.declared.filing.Amount.{Amount}
 use Rattle.aid_filings.specs.declared.filing.WithdrawFacts.{WithdrawFacts}
 use Rattle.aid_filings.specs.declared.filing.Filing.{Filing}
 use Rattle.aid_filings.specs.declared.filing.What.{What}
-use Rattle.aid_filings.specs.declared.filing.What.TheVariants.{Pay, Withdraw, Repay, Adjust}
+use Rattle.aid_filings.specs.declared.filing.What.TheVariants.{Pay, Withdraw, Repay, Adjust, Sent}
+use Rattle.aid_filings.specs.declared.filing.SentFacts.{SentFacts}
 use Rattle.law_terms.specs.Terms.{days_upto}
 use Rattle.law_terms.specs.Used.{use_of}
 use Rattle.office_history.specs.Past.{the_term, is_extra, the_withdrawal, prior_units}
@@ -124,6 +125,26 @@ repayments_in key _ = []
 abbrev pub repaid : List Filing → (Cell → Bool) → ℕ
 repaid [] sel = 0
 repaid (f ∷ past) sel = onto sel (repayments_in f.key f.what) (repaid past sel)
+
+-- what withdrawals return, and what the school sent back of it
+abbrev pub returns_in : List Filing → Key → What → List Move
+returns_in past key (Withdraw w) = moves_at key w 0 (sheet past key w).returned
+returns_in past key _ = []
+
+abbrev pub returned : List Filing → (Cell → Bool) → ℕ
+returned [] sel = 0
+returned (f ∷ past) sel = onto sel (returns_in past f.key f.what) (returned past sel)
+
+abbrev pub sent_cell : Key → SentFacts → Cell
+sent_cell key s = record { student = s.student; school = key.school; year = s.year; term = s.term; program = rank s.program }
+
+abbrev pub sendings_in : Key → What → List Move
+sendings_in key (Sent s) = record { at = sent_cell key s; cents = s.cents } ∷ []
+sendings_in key _ = []
+
+abbrev pub sent : List Filing → (Cell → Bool) → ℕ
+sent [] sel = 0
+sent (f ∷ past) sel = onto sel (sendings_in f.key f.what) (sent past sel)
 
 -- the post-withdrawal amount of a term, over all its withdrawals
 abbrev pub posts_in : List Filing → Key → What → List Move

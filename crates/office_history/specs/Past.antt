@@ -12,7 +12,7 @@ use Rattle.aid_types.specs.declared.application.Application.{Application}
 use Rattle.aid_filings.specs.declared.filing.WithdrawFacts.{WithdrawFacts}
 use Rattle.aid_filings.specs.declared.filing.Filing.{Filing}
 use Rattle.aid_filings.specs.declared.filing.What.{What}
-use Rattle.aid_filings.specs.declared.filing.What.TheVariants.{Book as BookFiled, School, Calendar, Prior, Apply, Enroll, Originate, Pay, Withdraw}
+use Rattle.aid_filings.specs.declared.filing.What.TheVariants.{Book as BookFiled, School, Calendar, Prior, Apply, Enroll, Originate, Pay, Withdraw, Cost}
 use Rattle.aid_filings.specs.contracts.filing.FilingPartialEq.TheImpl.{eq-value as filing_eq}
 use Rattle.aid_types.specs.contracts.number.KeyPartialEq.TheImpl.{eq-value as key_eq}
 use Rattle.aid_types.specs.Limits.{is_pell}
@@ -87,8 +87,14 @@ abbrev pub credits_in : ℕ → ℕ → ℕ → What → Option ℕ
 credits_in student year term (Enroll e) = given (e.student == student && (e.year == year && e.term == term)) e.credits
 credits_in student year term _ = None
 
+abbrev pub originated_in : ℕ → ℕ → What → Option ℕ
+originated_in student year (Originate o) = given (o.student == student && o.year == year) o.cost
+originated_in student year _ = None
+
+-- a cost of attendance: the first one, or a changed one
 abbrev pub cost_in : ℕ → ℕ → What → Option ℕ
 cost_in student year (Originate o) = given (o.student == student && o.year == year) o.cost
+cost_in student year (Cost o) = given (o.student == student && o.year == year) o.cost
 cost_in student year _ = None
 
 abbrev pub withdrawal_in : ℕ → ℕ → ℕ → What → Option WithdrawFacts
@@ -121,7 +127,7 @@ the_term past school year number = earliest (at_school school (term_in year numb
 abbrev pub the_withdrawal : List Filing → ℕ → ℕ → ℕ → ℕ → Option WithdrawFacts
 the_withdrawal past school student year term = earliest (at_school school (withdrawal_in student year term)) past
 
--- prior units, credits in force, cost on file; 0 where there is nothing
+-- prior units, credits in force, cost in force; 0 where there is nothing
 abbrev pub prior_units : List Filing → ℕ → ℕ
 prior_units past student = amount_or (earliest (λ f. prior_in student f.what) past)
 
@@ -129,7 +135,7 @@ abbrev pub credits : List Filing → ℕ → ℕ → ℕ → ℕ → ℕ
 credits past school student year term = amount_or (latest (at_school school (credits_in student year term)) past)
 
 abbrev pub cost : List Filing → ℕ → ℕ → ℕ → ℕ
-cost past school student year = amount_or (earliest (at_school school (cost_in student year)) past)
+cost past school student year = amount_or (latest (at_school school (cost_in student year)) past)
 
 -- whether an application has a higher transaction than the one before it
 abbrev pub is_higher : Option Application → Option Application → Bool

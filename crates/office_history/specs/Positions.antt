@@ -8,7 +8,7 @@ use Rattle.aid_filings.specs.declared.filing.WithdrawFacts.{WithdrawFacts}
 use Rattle.aid_types.specs.declared.award.Refusal.{Refusal}
 use Rattle.aid_filings.specs.declared.filing.Filing.{Filing}
 use Rattle.law_terms.specs.Terms.{intensity_of, payment_of, shares_day}
-use Rattle.office_history.specs.Past.{first_at, book_in, school_in, term_in, prior_in, application, application_in, is_higher, cost_in, withdrawal_in, pell_payment_in, at_school, the_book, the_school, credits, FiledTerm, terms_on_file, first_of_two}
+use Rattle.office_history.specs.Past.{first_at, book_in, school_in, term_in, prior_in, application, application_in, is_higher, originated_in, withdrawal_in, pell_payment_in, at_school, the_book, the_school, credits, FiledTerm, terms_on_file, first_of_two}
 use Rattle.office_history.specs.Award.{award_under, unfit_under}
 use Rattle.office_history.specs.Net.{pell_term}
 
@@ -37,7 +37,7 @@ abbrev pub pell_at : List Filing → ℕ → ℕ
 pell_at past student = first_at (λ f. pell_payment_in student f.what) past
 
 abbrev pub cost_at : List Filing → ℕ → ℕ → ℕ → ℕ
-cost_at past school student year = first_at (λ f. is_some (at_school school (cost_in student year) f)) past
+cost_at past school student year = first_at (λ f. is_some (at_school school (originated_in student year) f)) past
 
 abbrev pub withdrawn_at : List Filing → ℕ → ℕ → ℕ → ℕ → ℕ
 withdrawn_at past school student year term = first_at (λ f. is_some (at_school school (withdrawal_in student year term) f)) past
@@ -56,6 +56,11 @@ transaction_of (Some a) = a.transaction
 abbrev pub could_of : Option WithdrawFacts → List ℕ
 could_of None = 0 ∷ 0 ∷ 0 ∷ 0 ∷ 0 ∷ 0 ∷ []
 could_of (Some w) = w.could
+
+-- the day on which a withdrawal was determined, 0 where there is none
+abbrev pub determined_of : Option WithdrawFacts → ℕ
+determined_of None = 0
+determined_of (Some w) = w.determined
 
 -- the position of the earliest term on file that passes
 abbrev pub first_term_at : (FiledTerm → Bool) → List FiledTerm → ℕ

@@ -10,8 +10,8 @@ use Rattle.aid_types.specs.declared.application.Application.{Application}
 use Rattle.aid_types.specs.Programs.{six}
 use Rattle.law_terms.specs.Terms.{shares_day}
 use Rattle.office_history.specs.Award.{ceiling, scheduled}
-use Rattle.office_history.specs.Net.{cell_at, at_school_in_year, in_term, in_year, is_cell, net, owed, paid, paid_after, pell_main, post, repaid, taken, used}
-use Rattle.office_history.specs.Positions.{application_at, cost_at, could_of, first_term_at, full_of, pell_at, prior_at, school_at, term_at, terms_of, transaction_of, withdrawn_at}
+use Rattle.office_history.specs.Net.{cell_at, at_school_in_year, in_term, in_year, is_cell, net, owed, paid, paid_after, pell_main, post, repaid, returned, sent, taken, used}
+use Rattle.office_history.specs.Positions.{application_at, cost_at, could_of, determined_of, first_term_at, full_of, pell_at, prior_at, school_at, term_at, terms_of, transaction_of, withdrawn_at}
 use Rattle.office_history.specs.Past.{application, cost, credits, terms_on_file, the_school, the_term, the_withdrawal}
 use Rattle.office_history.specs.declared.account.Account.{Account}
 use Rattle.office_history.specs.declared.rows.CalendarRow.{CalendarRow}
@@ -58,6 +58,8 @@ account_row past school student year term = record {
   taken = six (λ p. taken past (is_cell (cell_at school student year term p)));
   owed = six (λ p. owed past (is_cell (cell_at school student year term p)));
   repaid = six (λ p. repaid past (is_cell (cell_at school student year term p)));
+  returned = six (λ p. returned past (is_cell (cell_at school student year term p)));
+  sent = six (λ p. sent past (is_cell (cell_at school student year term p)));
   after = six (λ p. paid_after past (is_cell (cell_at school student year term p)));
   after_all = paid_after past (in_term school student year term);
   post = post past (in_term school student year term);
@@ -68,6 +70,7 @@ place_row past school student year term = record {
   credits = credits past school student year term;
   withdrawn_at = withdrawn_at past school student year term;
   could = could_of (the_withdrawal past school student year term);
+  determined = determined_of (the_withdrawal past school student year term);
   account = account_row past school student year term;
 }
 

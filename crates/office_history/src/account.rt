@@ -7,14 +7,16 @@ use aid_types::{ByProgram, Program};
 
 /// What moved in a student's term at a school, in cents and by program in the order of returns: what was paid and what
 /// was taken back by returns, repayments and adjustments; what withdrawals left the student to repay and what was
-/// repaid; and what was paid after a withdrawal, of each program and of all. `post` is the post-withdrawal amount
-/// (34 CFR 668.22).
+/// repaid; what withdrawals return and what the school sent back of it; and what was paid after a withdrawal, of each
+/// program and of all. `post` is the post-withdrawal amount (34 CFR 668.22).
 #[derive(Clone, Copy, PartialEq, Eq)]
 pub struct Account {
     pub paid: ByProgram,
     pub taken: ByProgram,
     pub owed: ByProgram,
     pub repaid: ByProgram,
+    pub returned: ByProgram,
+    pub sent: ByProgram,
     pub after: ByProgram,
     pub after_all: u64,
     pub post: u64,
@@ -27,6 +29,8 @@ impl Account {
         taken: ByProgram::EMPTY,
         owed: ByProgram::EMPTY,
         repaid: ByProgram::EMPTY,
+        returned: ByProgram::EMPTY,
+        sent: ByProgram::EMPTY,
         after: ByProgram::EMPTY,
         after_all: 0,
         post: 0,
@@ -50,6 +54,8 @@ impl Account {
             taken: self.taken.plus(&other.taken),
             owed: self.owed.plus(&other.owed),
             repaid: self.repaid.plus(&other.repaid),
+            returned: self.returned.plus(&other.returned),
+            sent: self.sent.plus(&other.sent),
             after: self.after.plus(&other.after),
             after_all: self.after_all + other.after_all,
             post: self.post + other.post,

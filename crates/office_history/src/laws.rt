@@ -1,13 +1,14 @@
 //! Laws of histories, each as the contract of a function that computes nothing. A slice has the oldest filing first.
-ghost use Rattle.std.specs.List.{AllPairs};
+ghost use Rattle.std.specs.List.{AllByRecursion, AllPairs};
 ghost use Rattle.std.specs.Prelude.{◌≡◌, ◌≢◌, ◌↔◌, ◌+◌, ◌<◌, ◌≤◌, ◌++◌, ◌∷◌, ℕ, true, None, IfSome, IsSome, IsTrue, reverse, length, take, Some, slice_get};
 ghost use Rattle.aid_types.specs.declared.application.Application.{Application};
 ghost use Rattle.aid_filings.specs.declared.filing.Filing.{Filing};
+ghost use Rattle.aid_filings.specs.declared.filing.OriginateFacts.{OriginateFacts};
 ghost use Rattle.aid_filings.specs.declared.filing.WithdrawFacts.{WithdrawFacts};
-ghost use Rattle.aid_filings.specs.declared.filing.What.TheVariants.{Withdraw};
+ghost use Rattle.aid_filings.specs.declared.filing.What.TheVariants.{Cost, Withdraw};
 ghost use Rattle.aid_filings.specs.declared.reply.Response.TheVariants.{Again, Admit};
 ghost use Rattle.office_history.specs.Applications.{IsFiledApplication, IsInForce};
-ghost use Rattle.office_history.specs.Past.{application, cost, key_at, same_filing};
+ghost use Rattle.office_history.specs.Past.{amount_or, application, at_school, cost, earliest, key_at, originated_in, same_filing};
 ghost use Rattle.office_history.specs.Positions.{cost_at};
 ghost use Rattle.office_history.specs.Sheets.{CanBeWorkedOut};
 ghost use Rattle.office_history.specs.Answer.{breaks, outcome_of, outcome_at, answer_of, is_admit, standing_of, IsLegal};
@@ -123,6 +124,16 @@ pub fn cost_has_application(history: &[Filing])
     ensures originated { (school student year : ℕ) → 0 < cost_at (reverse history.now) school student year → IsSome (application (reverse history.now) student year) }
     ensures cost { (school student year : ℕ) → 0 < cost (reverse history.now) school student year → IsSome (application (reverse history.now) student year) }
     ensures standing { (school student year : ℕ) → 0 < cost_at (reverse history.now) school student year → 0 < (standing_of (reverse history.now) student year).transaction }
+{
+    let _ = history;
+}
+
+/// In a legal list in which no cost of attendance was changed, the one in force is that of the origination.
+pub fn unchanged_cost(history: &[Filing])
+    requires legal { IsLegal (reverse history.now) }
+    requires unchanged { AllByRecursion (λ f. (o : OriginateFacts) → f.what ≢ Cost o) (reverse history.now) }
+    ensures { (school student year : ℕ) → cost (reverse history.now) school student year
+        ≡ amount_or (earliest (at_school school (originated_in student year)) (reverse history.now)) }
 {
     let _ = history;
 }

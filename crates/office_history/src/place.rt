@@ -15,7 +15,7 @@ pub struct Place {
 }
 
 impl Place {
-    /// The term in which a filing moves money; `None` where it moves none.
+    /// The term in which a filing moves money, or says that it was sent back; `None` where it does neither.
     pub fn of(filing: &Filing) -> Option<Place>
         ensures { result ≡ own_place filing.now.key filing.now.what }
     {
@@ -32,6 +32,12 @@ impl Place {
                 student: facts.student,
                 year: facts.year,
                 term: facts.term,
+            }),
+            What::Sent(sent) => Some(Place {
+                school,
+                student: sent.student,
+                year: sent.year,
+                term: sent.term,
             }),
             _ => None,
         }

@@ -1,7 +1,7 @@
 //! What is on file of one thing: a school, a term, a student, a student's year. A position counts from 1, and is 0 where there
 //! is nothing; amounts are in cents, awards and costs in dollars, lifetime use in thousandths of a percent.
 use crate::account::Account;
-use aid_types::{ByProgram, Term};
+use aid_types::{ByProgram, Day, Term};
 use law_pell::Ceiling;
 
 /// A school: its position, its main terms in a year and its full-time credits.
@@ -28,13 +28,14 @@ pub struct CalendarRow {
     pub main_terms: u32,
 }
 
-/// A student's term at a school: the credits in force, the position of the withdrawal and what could have been disbursed
-/// by it, and what moved.
+/// A student's term at a school: the credits in force, the position of the withdrawal with what could have been disbursed
+/// by it and the day on which it was determined, 1900-01-01 where there is none, and what moved.
 #[derive(Clone, Copy, PartialEq, Eq)]
 pub struct PlaceRow {
     pub credits: u8,
     pub withdrawn_at: u32,
     pub could: ByProgram,
+    pub determined: Day,
     pub account: Account,
 }
 
@@ -50,7 +51,7 @@ pub struct YearRow {
     pub main: u64,
 }
 
-/// A student's year at a school: the position of the cost of attendance, the cost, and the net of all programs.
+/// A student's year at a school: the position of the origination, the cost of attendance in force, and the net of all programs.
 #[derive(Clone, Copy, PartialEq, Eq)]
 pub struct SchoolYearRow {
     pub cost_at: u32,

@@ -1,7 +1,7 @@
 //! Laws on nets, each as the contract of a function that computes nothing. A slice has the oldest filing first.
 ghost use Rattle.std.specs.Prelude.{◌≡◌, ◌<◌, ◌≤◌, Bool, List, reverse};
 ghost use Rattle.std.specs.List.{filter, sum_by};
-ghost use Rattle.office_history.specs.Net.{Cell, net, net_at};
+ghost use Rattle.office_history.specs.Net.{Cell, net, net_at, returned, sent, taken};
 ghost use Rattle.office_history.specs.Answer.{IsLegal};
 ghost use Rattle.office_history.specs.Least.{HoldsPaid, IsEnrolled};
 
@@ -31,6 +31,15 @@ pub fn net_is_small(history: &[Filing])
 pub fn paid_is_enrolled(history: &[Filing])
     requires { IsLegal (reverse history.now) }
     ensures { (c : Cell) → 0 < net_at (reverse history.now) c → IsEnrolled history.now c }
+{
+    let _ = history;
+}
+
+/// In a legal list no more is sent back than withdrawals return, at any cells; and what they return was taken from the nets.
+pub fn sent_is_returned(history: &[Filing])
+    requires { IsLegal (reverse history.now) }
+    ensures sent { (passes : Cell → Bool) → sent (reverse history.now) passes ≤ returned (reverse history.now) passes }
+    ensures taken { (passes : Cell → Bool) → returned (reverse history.now) passes ≤ taken (reverse history.now) passes }
 {
     let _ = history;
 }

@@ -6,7 +6,7 @@ use Rattle.aid_types.proofs.Same.{tells_key}
 use Rattle.aid_books.specs.declared.book.Book.{Book}
 use Rattle.aid_filings.specs.declared.filing.Filing.{Filing}
 use Rattle.aid_filings.specs.declared.filing.What.{What}
-use Rattle.aid_filings.specs.declared.filing.What.TheVariants.{Book as BookFiled, School, Calendar, Prior, Apply, Enroll, Originate, Pay, Withdraw, Repay, Adjust}
+use Rattle.aid_filings.specs.declared.filing.What.TheVariants.{Book as BookFiled, School, Calendar, Prior, Apply, Enroll, Originate, Pay, Withdraw, Repay, Adjust, Cost, Sent, Amend}
 use Rattle.aid_filings.proofs.SameFiling.{tells_filing}
 use Rattle.office_history.specs.Answer.{IsLegal}
 use Rattle.office_history.specs.Positions.{book_at}
@@ -123,6 +123,9 @@ given_filed year (Pay s) some = cc
 given_filed year (Withdraw s) some = cc
 given_filed year (Repay s) some = cc
 given_filed year (Adjust s) some = cc
+given_filed year (Cost s) some = cc
+given_filed year (Sent s) some = cc
+given_filed year (Amend s) some = cc
 
 pub book_found : (past : List Filing) (year : ℕ) → the_book past year ≡ filed_at (filing_in past (book_at past year))
 book_found past year = earliest_at (λ f. book_in year f.what) past ∙ go (book_at past year) refl

@@ -13,7 +13,7 @@ use Rattle.aid_filings.specs.declared.filing.Filing.{Filing}
 use Rattle.aid_filings.specs.declared.filing.What.{What}
 use Rattle.aid_filings.specs.declared.filing.WithdrawFacts.{WithdrawFacts}
 use Rattle.law_terms.specs.Used.{use_of}
-use Rattle.aid_filings.specs.declared.filing.What.TheVariants.{Book as BookFiled, School, Calendar, Prior, Apply, Enroll, Originate, Pay, Withdraw, Repay, Adjust}
+use Rattle.aid_filings.specs.declared.filing.What.TheVariants.{Book as BookFiled, School, Calendar, Prior, Apply, Enroll, Originate, Pay, Withdraw, Repay, Adjust, Cost, Sent, Amend}
 use Rattle.law_sai.specs.Fits.{is_size, size_for}
 use Rattle.law_sai.specs.Formulas.{formula}
 use Rattle.law_rules.specs.declared.facts.Facts.{Facts}
@@ -23,7 +23,7 @@ use Rattle.law_rules.specs.Rules.{breaks_in_order, breaks_inside, first_break_in
 use Rattle.law_rules.specs.Lines.{amount_lines, past_cost, past_fseog, past_lifetime, past_payment, past_year, pell_lines, rule_52, rule_63, rule_93}
 use Rattle.office_history.specs.Award.{unfit_under}
 use Rattle.office_history.specs.FactsOf.{facts_of}
-use Rattle.office_history.specs.Positions.{told_over}
+use Rattle.office_history.specs.Positions.{school_at, told_over}
 use Rattle.office_history.specs.Past.{FiledTerm, the_book}
 use Rattle.office_history.specs.Rules.{rules_of}
 use Rattle.office_history.specs.Answer.{breaks}
@@ -124,6 +124,9 @@ others_of past key (Enroll e) = refl
 others_of past key (Originate o) = refl
 others_of past key (Repay a) = refl
 others_of past key (Adjust a) = refl
+others_of past key (Cost o) = refl
+others_of past key (Sent o) = refl
+others_of past key (Amend o) = others_only (nat_lt 0 key.school) (lacks 12 (school_at past key.school) key.school 0 ∷ []) refl
 others_of past key (Calendar c) =
     let f = facts_of past key (Calendar c) in
     let t = term_of c in

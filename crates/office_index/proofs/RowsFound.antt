@@ -6,7 +6,7 @@ use Rattle.sorted_rows.specs.Places.{value_at}
 use Rattle.aid_types.specs.declared.number.Key.{Key}
 use Rattle.aid_filings.specs.declared.filing.Filing.{Filing}
 use Rattle.aid_filings.specs.declared.filing.What.{What}
-use Rattle.aid_filings.specs.declared.filing.What.TheVariants.{Book as BookFiled, School, Calendar, Prior, Apply, Enroll, Originate, Pay, Withdraw, Repay, Adjust}
+use Rattle.aid_filings.specs.declared.filing.What.TheVariants.{Book as BookFiled, School, Calendar, Prior, Apply, Enroll, Originate, Pay, Withdraw, Repay, Adjust, Cost, Sent, Amend}
 use Rattle.office_history.specs.Names.{place_cmp, school_year_cmp, year_cmp}
 use Rattle.office_history.specs.Own.{IsOwnAccount, own_place}
 use Rattle.office_history.specs.Accounts.{IsAccount}
@@ -66,6 +66,9 @@ own_is_changed key (Prior s) p e = absurd (none-some p e)
 own_is_changed key (Apply s) p e = absurd (none-some p e)
 own_is_changed key (Enroll s) p e = absurd (none-some p e)
 own_is_changed key (Originate s) p e = absurd (none-some p e)
+own_is_changed key (Cost s) p e = absurd (none-some p e)
+own_is_changed key (Sent s) p e = ap named_in e
+own_is_changed key (Amend s) p e = absurd (none-some p e)
 
 pub own_before : (past : List Filing) (f : Filing) (row : PlaceRow) → IsPlaceBefore past f row → (p : Place) → own_place f.key f.what ≡ Some p →
     row ≡ place_row past p.school p.student p.year p.term
@@ -78,4 +81,4 @@ own_account past f row before = go (own_place f.key f.what) (own_before past f r
     go None is = tt
     go (Some p) is =
         subst (λ (r : PlaceRow). IsAccount past p.school p.student p.year p.term r.account) (sym (is p refl))
-        (record { paid = refl; taken = refl; owed = refl; repaid = refl; after = refl; after_all = refl; post = refl })
+        (record { paid = refl; taken = refl; owed = refl; repaid = refl; returned = refl; sent = refl; after = refl; after_all = refl; post = refl })

@@ -4,7 +4,7 @@ ghost use Rattle.std.specs.Option.{option_copied};
 ghost use Rattle.office_updates.specs.Placed.{place_or};
 ghost use Rattle.office_index.specs.Index.{position_or, school_or, school_year_or, student_or, year_or};
 
-use aid_types::ByProgram;
+use aid_types::{ByProgram, Day};
 use law_pell::Ceiling;
 use office_history::{Account, PlaceRow, SchoolRow, SchoolYearRow, StudentRow, YearRow};
 
@@ -75,6 +75,7 @@ pub(crate) fn place_told(row: Option<&PlaceRow>) -> PlaceRow
             credits: 0,
             withdrawn_at: 0,
             could: ByProgram::EMPTY,
+            determined: Day(-25_567),
             account: Account::EMPTY,
         },
     }

@@ -160,7 +160,7 @@ impl StateMachine for OfficeMachine {
         self.office.admit_with(filing, outcome);
     }
 
-    fn put(filing: &Filing, room: &mut PayloadBuffer) {
+    fn encode(filing: &Filing, room: &mut PayloadBuffer) {
         format_bytes::put(filing, room);
     }
 
@@ -171,7 +171,7 @@ impl StateMachine for OfficeMachine {
         }
     }
 
-    fn take(alloc: Global, bytes: &[u8]) -> Result<Filing, DecodeError> {
+    fn decode(alloc: Global, bytes: &[u8]) -> Result<Filing, DecodeError> {
         match format_bytes::take(alloc, bytes) {
             Ok(filing) => Ok(filing),
             Err(TakeError::NotFiling(_)) => Err(DecodeError::NotEntry),

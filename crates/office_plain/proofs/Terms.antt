@@ -5,7 +5,7 @@ use Rattle.std.specs.List.{cons_option, filter}
 use Rattle.aid_filings.specs.declared.filing.CalendarFacts.{CalendarFacts}
 use Rattle.aid_filings.specs.declared.filing.Filing.{Filing}
 use Rattle.aid_filings.specs.declared.filing.What.{What}
-use Rattle.aid_filings.specs.declared.filing.What.TheVariants.{Book as BookFiled, School, Calendar, Prior, Apply, Enroll, Originate, Pay, Withdraw, Repay, Adjust}
+use Rattle.aid_filings.specs.declared.filing.What.TheVariants.{Book as BookFiled, School, Calendar, Prior, Apply, Enroll, Originate, Pay, Withdraw, Repay, Adjust, Cost, Sent, Amend}
 use Rattle.office_history.specs.Past.{FiledTerm, on_file, terms_on_file}
 use Rattle.office_history.specs.Positions.{earlier_term, is_paid_beside, least_code, least_term, lesser_code, payment_at, told_over}
 use Rattle.office_history.specs.Net.{pell_term}
@@ -24,6 +24,9 @@ filed school here (Pay b) = refl
 filed school here (Withdraw b) = refl
 filed school here (Repay b) = refl
 filed school here (Adjust b) = refl
+filed school here (Cost b) = refl
+filed school here (Sent b) = refl
+filed school here (Amend b) = refl
 
 one_more : (past : List Filing) (f : Filing) (o : Option CalendarFacts) → calendar_in f.what ≡ o →
     terms_on_file (f ∷ past) ≡ cons_option (option_map (on_file_at f.key.school (length past + 1)) o) (terms_on_file past)

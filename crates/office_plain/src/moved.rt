@@ -15,7 +15,7 @@ use crate::search::withdrawal_in;
 use aid_filings::{Filing, What, WithdrawFacts};
 use aid_types::{ByProgram, Key, Program, School, Student, Year};
 use law_r2t4::Lines;
-use office_answers::{adjusted, paid, repaid, returned, sheet};
+use office_answers::{adjusted, paid, repaid, returned, sent, sheet};
 use office_history::{Account, HistoryView, Place};
 
 /// The cells that a net is of: a student's program in a year at all schools, a student's Pell in the main terms of a
@@ -84,6 +84,7 @@ impl PlainHistory<'_> {
             What::Repay(amount) => repaid(amount),
             What::Adjust(amount) => adjusted(amount),
             What::Withdraw(facts) => returned(&self.sheet(&filing.key, facts, so_far)),
+            What::Sent(facts) => sent(facts),
             _ => Account::EMPTY,
         }
     }
@@ -125,6 +126,7 @@ impl PlainHistory<'_> {
                 let lines = self.sheet(&filing.key, facts, &self.account_of(own));
                 (ByProgram::EMPTY, lines.returned)
             }
+            What::Sent(_) => (ByProgram::EMPTY, ByProgram::EMPTY),
             _ => (ByProgram::EMPTY, ByProgram::EMPTY),
         }
     }
@@ -145,6 +147,7 @@ impl PlainHistory<'_> {
                 let (_, taken) = self.paid_and_taken(filing, own);
                 (0, cells.cents_of(&taken))
             }
+            What::Sent(_) => (0, 0),
             _ => (0, 0),
         }
     }

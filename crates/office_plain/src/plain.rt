@@ -6,7 +6,7 @@ use crate::applications::{ceiling_under, scheduled_under};
 use crate::moved::Cells;
 use aid_books::Book;
 use aid_filings::{CalendarFacts, Filing, Outcome};
-use aid_types::{ByProgram, Key, Refusal, School, Student, Term, Year};
+use aid_types::{ByProgram, Day, Key, Refusal, School, Student, Term, Year};
 use office_answers::rule_on;
 use office_history::{
     CalendarRow, HistoryView, Place, PlaceRow, SchoolRow, SchoolYearRow, StudentRow, TermRow,
@@ -144,10 +144,14 @@ impl HistoryView for PlainHistory<'_> {
             term: number,
         };
         let (withdrawn_at, withdrawal) = self.withdrawal_of(&place);
+        let (could, determined) = withdrawal.map_or((ByProgram::EMPTY, Day(-25_567)), |facts| {
+            (facts.could, facts.determined)
+        });
         PlaceRow {
             credits: self.credits(&place),
             withdrawn_at,
-            could: withdrawal.map_or(ByProgram::EMPTY, |facts| facts.could),
+            could,
+            determined,
             account: self.account_of(&place),
         }
     }
@@ -172,9 +176,11 @@ impl HistoryView for PlainHistory<'_> {
         year: Year,
         _steps: &mut Steps<L>,
     ) -> SchoolYearRow {
-        let (cost_at, cost) = self.cost_of(school, student, year);
-        let net = self.net_of(&Cells::AtSchool(school, student, year));
-        SchoolYearRow { cost_at, cost, net }
+        SchoolYearRow {
+            cost_at: self.origination_at(school, student, year),
+            cost: self.cost(school, student, year),
+            net: self.net_of(&Cells::AtSchool(school, student, year)),
+        }
     }
 
     fn student<L: Ledger>(&self, student: Student, _steps: &mut Steps<L>) -> StudentRow {

@@ -75,19 +75,38 @@ impl PlainHistory<'_> {
         (position, units.unwrap_or(0))
     }
 
-    /// The position of the student's cost of attendance at the school in the year, and the cost in dollars, 0 where none is
-    /// on file (HEA 472).
-    pub(crate) fn cost_of(&self, school: School, student: Student, year: Year) -> (u32, u32)
-        ensures position { result.0 ≡ cost_at self.now school student year }
-        ensures cost { result.1 ≡ cost self.now school student year }
+    /// The position of the student's origination at the school in the year.
+    pub(crate) fn origination_at(&self, school: School, student: Student, year: Year) -> u32
+        ensures { result ≡ cost_at self.now school student year }
     {
-        let (position, cost) = self.first(|filing| match &filing.what {
+        let (position, _) = self.first(|filing| match &filing.what {
             What::Originate(facts)
                 if filing.key.school == school && facts.student == student && facts.year == year =>
                 { Some(facts.cost) }
             _ => None,
         });
-        (position, cost.unwrap_or(0))
+        position
+    }
+
+    /// The student's cost of attendance in dollars at the school in the year, 0 where none is on file (HEA 472). The one filed
+    /// last is in force.
+    pub(crate) fn cost(&self, school: School, student: Student, year: Year) -> u32
+        ensures { result ≡ cost self.now school student year }
+    {
+        let filings = self.filings;
+        let mut last = 0;
+        for filing in filings {
+            match &filing.what {
+                What::Originate(facts) | What::Cost(facts)
+                    if filing.key.school == school
+                        && facts.student == student
+                        && facts.year == year => {
+                    last = facts.cost;
+                }
+                _ => {}
+            }
+        }
+        last
     }
 
     /// The position of the student's first Pell payment.

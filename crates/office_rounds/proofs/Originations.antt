@@ -8,11 +8,11 @@ use Rattle.aid_types.specs.declared.number.Key.{Key}
 use Rattle.aid_filings.specs.declared.filing.Filing.{Filing}
 use Rattle.aid_filings.specs.declared.filing.OriginateFacts.{OriginateFacts}
 use Rattle.aid_filings.specs.declared.filing.What.{What}
-use Rattle.aid_filings.specs.declared.filing.What.TheVariants.{Book as BookFiled, School, Calendar, Prior, Apply, Enroll, Originate, Pay, Withdraw, Repay, Adjust}
+use Rattle.aid_filings.specs.declared.filing.What.TheVariants.{Book as BookFiled, School, Calendar, Prior, Apply, Enroll, Originate, Pay, Withdraw, Repay, Adjust, Cost, Sent, Amend}
 use Rattle.office_history.specs.Answer.{breaks, IsLegal}
 use Rattle.office_history.specs.Positions.{cost_at, full_of, school_at}
 use Rattle.office_history.specs.Rules.{rules_of}
-use Rattle.office_history.specs.Past.{at_school, cost_in, first_of_two, given, if_here, school_in, the_school}
+use Rattle.office_history.specs.Past.{at_school, first_of_two, given, if_here, originated_in, school_in, the_school}
 use Rattle.office_history.proofs.Among.{among_reverse}
 use Rattle.aid_types.proofs.Holds.{all_hold, lacks_holds}
 use Rattle.office_history.proofs.FactsInRange.{school_in_range}
@@ -20,9 +20,9 @@ use Rattle.office_history.proofs.FirstFilings.{first_found, skipped}
 use Rattle.office_rounds.specs.Candidates.{originated}
 use Rattle.office_rounds.specs.declared.request.RoundRequest.{RoundRequest}
 
--- the filing brings a cost of the student at the school in the year
+-- the filing originates the student at the school in the year
 abbrev pub brings_cost : ℕ → ℕ → ℕ → Filing → Bool
-brings_cost school student year f = is_some (at_school school (cost_in student year) f)
+brings_cost school student year f = is_some (at_school school (originated_in student year) f)
 
 pub some_same : (m n : ℕ) → ◌≡◌ {A = Option ℕ} (Some m) (Some n) → m ≡ n
 some_same m n e = cc (e)
@@ -45,6 +45,9 @@ told r student key (Pay b) h = absurd (cc)
 told r student key (Withdraw b) h = absurd (cc)
 told r student key (Repay b) h = absurd (cc)
 told r student key (Adjust b) h = absurd (cc)
+told r student key (Cost b) h = absurd (cc)
+told r student key (Sent b) h = absurd (cc)
+told r student key (Amend b) h = absurd (cc)
 
 -- and a filing that brings a cost of a student there is such an origination
 tells : (r : RoundRequest) (student : ℕ) (key : Key) (what : What) → brings_cost r.school student r.year (record { key = key; what = what }) ≡ true → originated r key what ≡ Some student
@@ -67,6 +70,9 @@ tells r student key (Pay b) h = absurd (cc)
 tells r student key (Withdraw b) h = absurd (cc)
 tells r student key (Repay b) h = absurd (cc)
 tells r student key (Adjust b) h = absurd (cc)
+tells r student key (Cost b) h = absurd (cc)
+tells r student key (Sent b) h = absurd (cc)
+tells r student key (Amend b) h = absurd (cc)
 
 above : (n : ℕ) → n ≢ 0 → 0 < n
 above zero h = absurd (h refl)
@@ -138,6 +144,9 @@ school_known (f ∷ past) legal school student year some =
     go key (Withdraw b) rule some ih = ih some
     go key (Repay b) rule some ih = ih some
     go key (Adjust b) rule some ih = ih some
+    go key (Cost b) rule some ih = ih some
+    go key (Sent b) rule some ih = ih some
+    go key (Amend b) rule some ih = ih some
 
 -- so its full-time credits are in their range
 pub full_fits : (past : List Filing) → IsLegal past → (school student year : ℕ) → 0 < cost_at past school student year → (full : ℕ) → full ≡ full_of (the_school past school) → IsBetween 1 40 full

@@ -3,12 +3,13 @@ use Rattle.std.proofs.Common.{◌≡◌, ℕ, List, [], ◌∷◌, ◌++◌, cod
 use Rattle.aid_types.specs.Cents.{cents_text}
 use Rattle.aid_types.specs.Words.{program_text}
 use Rattle.format_filings.specs.Replies.{outcome_text}
+use Rattle.law_terms.specs.Days.{day_text}
 use Rattle.office_export.specs.Lines.{line_of}
 use Rattle.format_filings.specs.WrittenRows.{behind_commas, joined}
 use Rattle.office_reports.specs.Columns.{left, right}
 use Rattle.office_sheets.specs.LedgerLines.{columns_of, moved_text}
 use Rattle.office_sheets.specs.declared.ledger_rows.Told.{Told}
-use Rattle.office_sheets.specs.declared.ledger_rows.Told.TheVariants.{Prior, Application, Enrollment, Cost, Withdrawal, Money}
+use Rattle.office_sheets.specs.declared.ledger_rows.Told.TheVariants.{Prior, Application, Enrollment, Cost, ChangedCost, Withdrawal, Money, Sending}
 
 -- words appended one by one, each with a byte behind it, and then a text
 abbrev pub IsAhead : ℕ → List ℕ → List (List ℕ) → List ℕ → List ℕ → Type 0
@@ -36,9 +37,11 @@ word_first word (Prior units) = first_of word (decimal units) (codes "units" ∷
 word_first word (Application outcome) = first_of word (outcome_text outcome) []
 word_first word (Enrollment credits) = first_of word (decimal credits) (codes "credits" ∷ [])
 word_first word (Cost dollars) = first_of word (decimal dollars) (codes "dollars" ∷ [])
+word_first word (ChangedCost dollars) = first_of word (decimal dollars) (codes "dollars" ∷ [])
 word_first word (Withdrawal outcome) = first_of word (outcome_text outcome) []
 word_first word (Money m net used) =
     first_of word (left 5 (program_text m.program)) (right 12 (moved_text m.movement m.cents) ∷ right 12 (cents_text net) ∷ right 7 (decimal used) ∷ [])
+word_first word (Sending s) = first_of word (left 5 (program_text s.program)) (cents_text s.cents ∷ day_text s.day ∷ decimal s.reference ∷ [])
 
 -- eight words before the columns of what is told
 pub eight_first : (old a b c d e f g h : List ℕ) (told : Told) (new : List ℕ) → IsAhead 32 old (a ∷ b ∷ c ∷ d ∷ e ∷ f ∷ g ∷ h ∷ []) (line_of (columns_of told)) new

@@ -9,7 +9,7 @@ use Rattle.aid_types.specs.declared.number.Program.TheVariants.{Unsub, Sub, Plus
 use Rattle.aid_filings.specs.Students.{student_of}
 use Rattle.aid_filings.specs.declared.filing.Filing.{Filing}
 use Rattle.aid_filings.specs.declared.filing.What.{What}
-use Rattle.aid_filings.specs.declared.filing.What.TheVariants.{Book, School, Calendar, Prior as PriorFiled, Apply, Enroll, Originate, Pay, Withdraw, Repay, Adjust}
+use Rattle.aid_filings.specs.declared.filing.What.TheVariants.{Book, School, Calendar, Prior as PriorFiled, Apply, Enroll, Originate, Pay, Withdraw, Repay, Adjust, Cost, Sent, Amend}
 use Rattle.aid_filings.specs.declared.reply.Outcome.{Outcome}
 use Rattle.aid_stamps.specs.declared.stamp.Stamp.{Stamp}
 use Rattle.office_history.specs.Answer.{outcome_of}
@@ -45,6 +45,9 @@ told_at now stamp f outcome returned (Originate o) = All-cons (IsAt (length now)
 told_at now stamp f outcome returned (Pay a) = All-cons (IsAt (length now)) _ [] refl (All-nil (IsAt (length now)))
 told_at now stamp f outcome returned (Repay a) = All-cons (IsAt (length now)) _ [] refl (All-nil (IsAt (length now)))
 told_at now stamp f outcome returned (Adjust a) = All-cons (IsAt (length now)) _ [] refl (All-nil (IsAt (length now)))
+told_at now stamp f outcome returned (Cost o) = All-cons (IsAt (length now)) _ [] refl (All-nil (IsAt (length now)))
+told_at now stamp f outcome returned (Sent o) = All-cons (IsAt (length now)) _ [] refl (All-nil (IsAt (length now)))
+told_at now stamp f outcome returned (Amend o) = All-nil (IsAt (length now))
 told_at now stamp f outcome returned (Withdraw w) = All-cons (IsAt (length now)) _ _ refl (returns_at now stamp f (withdrawn_place f.key w) returned)
 told_at now stamp f outcome returned (Book b) = All-nil (IsAt (length now))
 told_at now stamp f outcome returned (School s) = All-nil (IsAt (length now))
@@ -63,6 +66,9 @@ told_of now stamp f outcome returned student (Originate o) about = head_tells _ 
 told_of now stamp f outcome returned student (Pay a) about = head_tells _ [] (length now) refl
 told_of now stamp f outcome returned student (Repay a) about = head_tells _ [] (length now) refl
 told_of now stamp f outcome returned student (Adjust a) about = head_tells _ [] (length now) refl
+told_of now stamp f outcome returned student (Cost o) about = head_tells _ [] (length now) refl
+told_of now stamp f outcome returned student (Sent o) about = head_tells _ [] (length now) refl
+told_of now stamp f outcome returned student (Amend o) about = absurd cc
 told_of now stamp f outcome returned student (Withdraw w) about = head_tells _ (return_rows now stamp f (withdrawn_place f.key w) returned) (length now) refl
 told_of now stamp f outcome returned student (Book b) about = absurd cc
 told_of now stamp f outcome returned student (School s) about = absurd cc

@@ -12,7 +12,7 @@ use Rattle.aid_types.specs.declared.number.Program.TheVariants.{Unsub, Sub, Plus
 use Rattle.aid_filings.specs.declared.filing.Amount.{Amount}
 use Rattle.aid_filings.specs.declared.filing.Filing.{Filing}
 use Rattle.aid_filings.specs.declared.filing.What.{What}
-use Rattle.aid_filings.specs.declared.filing.What.TheVariants.{Book, School, Calendar, Prior, Apply, Enroll, Originate, Pay, Withdraw, Repay, Adjust}
+use Rattle.aid_filings.specs.declared.filing.What.TheVariants.{Book, School, Calendar, Prior, Apply, Enroll, Originate, Pay, Withdraw, Repay, Adjust, Cost, Sent, Amend}
 use Rattle.aid_filings.specs.declared.filing.WithdrawFacts.{WithdrawFacts}
 use Rattle.aid_stamps.specs.declared.stamp.Stamp.{Stamp}
 use Rattle.office_history.specs.Net.{cell_of, moved, net, net_at, paid, taken, takings_in}
@@ -192,6 +192,9 @@ step_own past stamp f program o (Prior b) own = absurd cc
 step_own past stamp f program o (Apply b) own = absurd cc
 step_own past stamp f program o (Enroll b) own = absurd cc
 step_own past stamp f program o (Originate b) own = absurd cc
+step_own past stamp f program o (Cost b) own = absurd cc
+step_own past stamp f program o (Amend b) own = absurd cc
+step_own past stamp f program o (Sent b) own = refl
 
 -- with the rows of any filing
 module _ (school year term : ℕ) (program : Program) where

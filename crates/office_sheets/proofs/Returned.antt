@@ -4,7 +4,7 @@ use Rattle.aid_types.specs.Programs.{minus, six}
 use Rattle.aid_types.specs.declared.number.Key.{Key}
 use Rattle.aid_filings.specs.declared.filing.Filing.{Filing}
 use Rattle.aid_filings.specs.declared.filing.What.{What}
-use Rattle.aid_filings.specs.declared.filing.What.TheVariants.{Book, School, Calendar, Prior, Apply, Enroll, Originate, Pay, Withdraw, Repay, Adjust}
+use Rattle.aid_filings.specs.declared.filing.What.TheVariants.{Book, School, Calendar, Prior, Apply, Enroll, Originate, Pay, Withdraw, Repay, Adjust, Cost, Sent, Amend}
 use Rattle.aid_filings.specs.declared.filing.WithdrawFacts.{WithdrawFacts}
 use Rattle.law_r2t4.specs.Worksheet.{worksheet_of}
 use Rattle.office_history.specs.Net.{is_cell, moves_at, onto, sheet, taken, withdrawn_cell}
@@ -46,3 +46,6 @@ added_by past key (Originate o) = refl
 added_by past key (Pay a) = refl
 added_by past key (Repay a) = refl
 added_by past key (Adjust a) = refl
+added_by past key (Cost o) = refl
+added_by past key (Sent o) = refl
+added_by past key (Amend o) = refl

@@ -6,7 +6,7 @@ use Rattle.aid_types.specs.Programs.{minus, plus, rank, six}
 use Rattle.aid_types.specs.declared.number.Program.{Program}
 use Rattle.aid_filings.specs.declared.filing.Filing.{Filing}
 use Rattle.aid_filings.specs.declared.filing.What.{What}
-use Rattle.aid_filings.specs.declared.filing.What.TheVariants.{Book, School, Calendar, Prior, Apply, Enroll, Originate, Pay, Withdraw, Repay, Adjust}
+use Rattle.aid_filings.specs.declared.filing.What.TheVariants.{Book, School, Calendar, Prior, Apply, Enroll, Originate, Pay, Withdraw, Repay, Adjust, Cost, Sent, Amend}
 use Rattle.aid_stamps.specs.declared.stamp.Stamp.{Stamp}
 use Rattle.office_history.specs.Answer.{IsLegal}
 use Rattle.office_history.specs.Net.{Cell, Move, is_cell, moved, net, net_at, onto, paid, payments_in, taken, takings_in}
@@ -99,6 +99,9 @@ module _ (past : List Filing) (f : Filing) (p : Place) (own : own_place f.key f.
   told now stamp (Pay a) own = refl
   told now stamp (Repay a) own = refl
   told now stamp (Adjust a) own = refl
+  told now stamp (Cost o) own = refl
+  told now stamp (Sent o) own = refl
+  told now stamp (Amend o) own = refl
 
   pub told_by : (now : List Filing) (stamp : Stamp)
       → payments_told now stamp f (rest (place_sums (f ∷ past) p) (place_sums past p)).taken f.what ≡ payments_told now stamp f (returned_by past f.key f.what) f.what

@@ -11,7 +11,7 @@ use Rattle.office_sheets.specs.declared.ledger_rows.LedgerRow.{LedgerRow}
 use Rattle.office_sheets.specs.declared.ledger_rows.Movement.{Movement}
 use Rattle.office_sheets.specs.declared.ledger_rows.Movement.TheVariants.{Payment, Return, Repayment, Adjustment}
 use Rattle.office_sheets.specs.declared.ledger_rows.Told.{Told}
-use Rattle.office_sheets.specs.declared.ledger_rows.Told.TheVariants.{Prior, Application, Enrollment, Cost, Withdrawal, Money}
+use Rattle.office_sheets.specs.declared.ledger_rows.Told.TheVariants.{Prior, Application, Enrollment, Cost, ChangedCost, Withdrawal, Sending, Money}
 
 -- the word of how money moved, and that of what a line tells
 abbrev pub movement_text : Movement → List ℕ
@@ -25,7 +25,9 @@ word_text (Prior units) = codes "prior"
 word_text (Application outcome) = codes "apply"
 word_text (Enrollment credits) = codes "enrol"
 word_text (Cost dollars) = codes "originate"
+word_text (ChangedCost dollars) = codes "cost"
 word_text (Withdrawal outcome) = codes "withdraw"
+word_text (Sending s) = codes "sent"
 word_text (Money m net used) = movement_text m.movement
 
 -- what is taken back has a minus before it
@@ -39,7 +41,9 @@ columns_of (Prior units) = decimal units ∷ codes "units" ∷ []
 columns_of (Application outcome) = outcome_text outcome ∷ []
 columns_of (Enrollment credits) = decimal credits ∷ codes "credits" ∷ []
 columns_of (Cost dollars) = decimal dollars ∷ codes "dollars" ∷ []
+columns_of (ChangedCost dollars) = decimal dollars ∷ codes "dollars" ∷ []
 columns_of (Withdrawal outcome) = outcome_text outcome ∷ []
+columns_of (Sending s) = left 5 (program_text s.program) ∷ cents_text s.cents ∷ day_text s.day ∷ decimal s.reference ∷ []
 columns_of (Money m net used) =
     left 5 (program_text m.program) ∷ right 12 (moved_text m.movement m.cents) ∷ right 12 (cents_text net) ∷ right 7 (decimal used) ∷ []
 

@@ -7,8 +7,9 @@ use Rattle.aid_types.specs.declared.number.Program.{Program}
 use Rattle.aid_filings.specs.Students.{student_of}
 use Rattle.aid_filings.specs.declared.filing.Amount.{Amount}
 use Rattle.aid_filings.specs.declared.filing.Filing.{Filing}
+use Rattle.aid_filings.specs.declared.filing.SentFacts.{SentFacts}
 use Rattle.aid_filings.specs.declared.filing.What.{What}
-use Rattle.aid_filings.specs.declared.filing.What.TheVariants.{Apply, Enroll, Originate, Pay, Prior as PriorFiled, Withdraw, Repay, Adjust}
+use Rattle.aid_filings.specs.declared.filing.What.TheVariants.{Apply, Enroll, Originate, Pay, Prior as PriorFiled, Withdraw, Repay, Adjust, Cost as CostFiled, Sent}
 use Rattle.aid_filings.specs.declared.filing.WithdrawFacts.{WithdrawFacts}
 use Rattle.aid_filings.specs.declared.reply.Outcome.{Outcome}
 use Rattle.aid_stamps.specs.declared.stamp.Stamp.{Stamp}
@@ -21,8 +22,9 @@ use Rattle.office_sheets.specs.declared.ledger_rows.LedgerRow.{LedgerRow}
 use Rattle.office_sheets.specs.declared.ledger_rows.Moved.{Moved}
 use Rattle.office_sheets.specs.declared.ledger_rows.Movement.{Movement}
 use Rattle.office_sheets.specs.declared.ledger_rows.Movement.TheVariants.{Payment, Return, Repayment, Adjustment}
+use Rattle.office_sheets.specs.declared.ledger_rows.SentBack.{SentBack}
 use Rattle.office_sheets.specs.declared.ledger_rows.Told.{Told}
-use Rattle.office_sheets.specs.declared.ledger_rows.Told.TheVariants.{Prior, Application, Enrollment, Cost, Withdrawal, Money}
+use Rattle.office_sheets.specs.declared.ledger_rows.Told.TheVariants.{Prior, Application, Enrollment, Cost, ChangedCost, Withdrawal, Sending, Money}
 
 -- f is the newest filing of the history now, and has the stamp
 abbrev pub row_on : List Filing → Stamp → Filing → Option ℕ → Option ℕ → Told → LedgerRow
@@ -49,6 +51,10 @@ return_row now stamp f p program cents = if nat_lt 0 cents then moved_row now st
 abbrev pub return_rows : List Filing → Stamp → Filing → Place → List ℕ → List LedgerRow
 return_rows now stamp f p returned = flat_map (λ program. return_row now stamp f p program (slice_index returned (rank program))) all_programs
 
+-- what a filing says that was sent back
+abbrev pub sent_back : SentFacts → SentBack
+sent_back s = record { program = s.program; cents = s.cents; day = s.day; reference = s.reference }
+
 -- the rows of a filing that was admitted with an outcome, and of which so much is returned by program
 abbrev pub rows_told : List Filing → Stamp → Filing → Outcome → List ℕ → What → List LedgerRow
 rows_told now stamp f outcome returned (PriorFiled p) = row_on now stamp f None None (Prior p.units) ∷ []
@@ -58,6 +64,8 @@ rows_told now stamp f outcome returned (Originate o) = row_on now stamp f (Some 
 rows_told now stamp f outcome returned (Pay a) = amount_row now stamp f Payment a ∷ []
 rows_told now stamp f outcome returned (Repay a) = amount_row now stamp f Repayment a ∷ []
 rows_told now stamp f outcome returned (Adjust a) = amount_row now stamp f Adjustment a ∷ []
+rows_told now stamp f outcome returned (CostFiled o) = row_on now stamp f (Some o.year) None (ChangedCost o.cost) ∷ []
+rows_told now stamp f outcome returned (Sent s) = row_on now stamp f (Some s.year) (Some s.term) (Sending (sent_back s)) ∷ []
 rows_told now stamp f outcome returned (Withdraw w) =
     row_on now stamp f (Some w.year) (Some w.term) (Withdrawal outcome) ∷ return_rows now stamp f (withdrawn_place f.key w) returned
 rows_told now stamp f outcome returned _ = []

@@ -60,7 +60,7 @@ abbrev pub is_of_term : ℕ → ℕ → ℕ → Option Place → Bool
 is_of_term school year term None = false
 is_of_term school year term (Some p) = p.school == school && (p.year == year && p.term == term)
 
--- the filing moves money in the term: a payment, a repayment, an adjustment or a withdrawal of a student there
+-- the filing is of a student's term there: a payment, a repayment, an adjustment, a withdrawal, or what was sent back
 abbrev pub is_in_term : ℕ → ℕ → ℕ → Key → What → Bool
 is_in_term school year term key what = is_of_term school year term (own_place key what)
 

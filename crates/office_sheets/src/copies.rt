@@ -31,6 +31,9 @@ fn copy_what(alloc: Global, what: &What) -> Result<What, AllocError>
         What::Withdraw(facts) => Ok(What::Withdraw(*facts)),
         What::Repay(amount) => Ok(What::Repay(*amount)),
         What::Adjust(amount) => Ok(What::Adjust(*amount)),
+        What::Cost(facts) => Ok(What::Cost(*facts)),
+        What::Sent(facts) => Ok(What::Sent(*facts)),
+        What::Amend(facts) => Ok(What::Amend(*facts)),
     }
 }
 

@@ -8,7 +8,7 @@ use office_reports::ReportLine;
 use std::alloc::{AllocError, Global};
 
 /// The lines of rows below their heading, or that there is none. An `Err` is want of memory.
-pub(crate) fn headed_text<L: ReportLine>(
+pub fn headed_text<L: ReportLine>(
     alloc: Global,
     heading: &[u8],
     rows: &[L],

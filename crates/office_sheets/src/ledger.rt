@@ -4,16 +4,16 @@ ghost use Rattle.aid_types.specs.Programs.{rank};
 ghost use Rattle.aid_filings.specs.Students.{student_of};
 ghost use Rattle.office_history.specs.Answer.{IsLegal};
 ghost use Rattle.office_history.specs.Net.{used as used_of};
-ghost use Rattle.office_sheets.specs.Ledgers.{amount_row, is_student, ledger_rows as ledger_rows_of, moved_row, return_row, return_rows, row_on, rows_about, rows_told, student_sheet, withdrawn_place};
+ghost use Rattle.office_sheets.specs.Ledgers.{amount_row, is_student, ledger_rows as ledger_rows_of, moved_row, return_row, return_rows, row_on, rows_about, rows_told, sent_back, student_sheet, withdrawn_place};
 ghost use Rattle.office_sheets.specs.LedgerLines.{text_of};
 ghost use Rattle.office_sheets.specs.Takings.{taken_by};
-ghost use Rattle.office_sheets.specs.declared.ledger_rows.Told.TheVariants.{Enrollment, Withdrawal};
+ghost use Rattle.office_sheets.specs.declared.ledger_rows.Told.TheVariants.{Enrollment, Sending, Withdrawal};
 
 use crate::front::grow;
-use crate::ledger_rows::{LedgerRow, Moved, Movement, Told};
+use crate::ledger_rows::{LedgerRow, Moved, Movement, SentBack, Told};
 use crate::pieces::none_text;
 use crate::term_sums::Sums;
-use aid_filings::{Amount, EnrollFacts, Filing, Outcome, What, WithdrawFacts};
+use aid_filings::{Amount, EnrollFacts, Filing, Outcome, SentFacts, What, WithdrawFacts};
 use aid_stamps::Stamp;
 use aid_types::{ByProgram, Key, Program, Student, Year};
 use office_history::Place;
@@ -149,7 +149,7 @@ fn put_rows(
         ++ rows_told now.now.history stamp.now filing.now outcome returned.now filing.now.what) }
 {
     match &filing.what {
-        What::Book(_) | What::School(_) | What::Calendar(_) => Ok(()),
+        What::Book(_) | What::School(_) | What::Calendar(_) | What::Amend(_) => Ok(()),
         What::Prior(prior) => {
             let told = Told::Prior(prior.units);
             put_told(now, filing, stamp, None, None, told, rows)
@@ -166,6 +166,11 @@ fn put_rows(
         What::Pay(amount) => put_amount(now, filing, stamp, amount, Movement::Payment, rows),
         What::Repay(amount) => put_amount(now, filing, stamp, amount, Movement::Repayment, rows),
         What::Adjust(amount) => put_amount(now, filing, stamp, amount, Movement::Adjustment, rows),
+        What::Cost(changed) => {
+            let told = Told::ChangedCost(changed.cost);
+            put_told(now, filing, stamp, Some(changed.year), None, told, rows)
+        }
+        What::Sent(sending) => put_sending(now, filing, stamp, sending, rows),
         What::Withdraw(withdrawal) => {
             put_withdrawal(now, filing, stamp, withdrawal, outcome, returned, rows)
         }
@@ -185,6 +190,22 @@ fn put_enrollment(
 {
     let (year, term) = (Some(enrollment.year), Some(enrollment.term));
     let told = Told::Enrollment(enrollment.credits);
+    put_told(now, filing, stamp, year, term, told, rows)
+}
+
+// Appends the row of a return that was sent back.
+fn put_sending(
+    now: &Office,
+    filing: &Filing,
+    stamp: &Stamp,
+    sending: &SentFacts,
+    rows: &mut Vec<LedgerRow>,
+) -> Result<(), AllocError>
+    ensures { let s = sending.now in OnOk result (rows.new.items ≡ rows.old.items
+        ++ row_on now.now.history stamp.now filing.now (Some s.year) (Some s.term) (Sending (sent_back s)) ∷ []) }
+{
+    let (year, term) = (Some(sending.year), Some(sending.term));
+    let told = Told::Sending(SentBack::filed(sending));
     put_told(now, filing, stamp, year, term, told, rows)
 }
 

@@ -4,10 +4,11 @@ ghost use Rattle.office_export.specs.Lines.{line_of};
 ghost use Rattle.office_reports.specs.Columns.{left, right};
 ghost use Rattle.office_sheets.specs.Lists.{clerk_text};
 ghost use Rattle.office_sheets.specs.LedgerLines.{columns_of, ledger_line, moved_text, number_text};
-ghost use Rattle.office_sheets.specs.declared.ledger_rows.Told.TheVariants.{Money};
+ghost use Rattle.office_sheets.specs.declared.ledger_rows.Told.TheVariants.{Money, Sending};
 
-use crate::ledger_rows::{LedgerRow, Moved, Movement, Told, word};
-use crate::pieces::{clerk_or_hyphen, put_day_column, put_outcome};
+use crate::ledger_rows::{LedgerRow, Moved, Movement, SentBack, Told, word};
+use crate::pieces;
+use crate::pieces::{clerk_or_hyphen, put_day_column, put_dollars, put_outcome};
 use aid_stamps::ClerkName;
 use aid_types::{Year, program_name};
 use arrayvec::ArrayString;
@@ -80,7 +81,9 @@ fn put_told(told: &Told, out: &mut Vec<u8>) -> Result<(), AllocError>
         Told::Application(outcome) => put_outcome(outcome, out),
         Told::Enrollment(credits) => put_counted(u64::from(*credits), b"credits\n", out),
         Told::Cost(dollars) => put_counted(u64::from(*dollars), b"dollars\n", out),
+        Told::ChangedCost(dollars) => put_counted(u64::from(*dollars), b"dollars\n", out),
         Told::Withdrawal(outcome) => put_outcome(outcome, out),
+        Told::Sending(sent) => put_sending(sent, out),
         Told::Money { moved, net, used } => put_money(moved, *net, *used, out),
     }
 }
@@ -92,6 +95,16 @@ fn put_counted(number: u64, counted: &[u8], out: &mut Vec<u8>) -> Result<(), All
     let mut digits = Buffer::new();
     put_text(digits.format(number).as_bytes(), out)?;
     out.extend_from_slice(counted)
+}
+
+// Appends what was sent back of a program, the day and the reference, and a line feed.
+fn put_sending(sent: &SentBack, out: &mut Vec<u8>) -> Result<(), AllocError>
+    ensures { OnOk result (out.new.items ≡ out.old.items ++ line_of (columns_of (Sending sent.now))) }
+{
+    put_left(5, program_name(sent.program).as_bytes(), b' ', out)?;
+    put_dollars(sent.cents, b' ', out)?;
+    put_day_column(sent.day, b' ', out)?;
+    pieces::put_number(sent.reference, b'\n', out)
 }
 
 // Appends money that moved with the net and the units behind it, and a line feed.

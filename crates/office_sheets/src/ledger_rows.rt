@@ -1,11 +1,12 @@
 //! What the lines of a student's ledger tell.
 ghost use Rattle.std.specs.Prelude.{◌≡◌};
 ghost use Rattle.office_sheets.specs.LedgerLines.{movement_text, word_text};
+ghost use Rattle.office_sheets.specs.Ledgers.{sent_back};
 ghost use Rattle.office_sheets.specs.declared.ledger_rows.Movement.TheVariants.{Return};
 
-use aid_filings::{Amount, Outcome};
+use aid_filings::{Amount, Outcome, SentFacts};
 use aid_stamps::Stamp;
-use aid_types::{Key, Program, Year};
+use aid_types::{Day, Key, Program, Year};
 
 /// How money moved in a student's term.
 #[derive(Clone, Copy)]
@@ -52,16 +53,41 @@ impl Moved {
     }
 }
 
+/// What a school sent back of a program, in cents, on a day and under a reference of its own.
+#[derive(Clone, Copy)]
+pub struct SentBack {
+    pub program: Program,
+    pub cents: u64,
+    pub day: Day,
+    pub reference: u64,
+}
+
+impl SentBack {
+    /// What a filing says of it.
+    pub(crate) fn filed(sending: &SentFacts) -> SentBack
+        ensures { result ≡ sent_back sending.now }
+    {
+        SentBack {
+            program: sending.program,
+            cents: sending.cents,
+            day: sending.day,
+            reference: sending.reference,
+        }
+    }
+}
+
 /// What a line tells: units used before this office, the outcome of an application or of a withdrawal, credits, a cost of
-/// attendance in dollars, or money that moved. Behind money stand the net of its program in the term, in cents, and the
-/// student's lifetime units, both with it.
+/// attendance in dollars, the first or a changed one, a return that was sent back, or money that moved. Behind money stand the
+/// net of its program in the term, in cents, and the student's lifetime units, both with it.
 #[derive(Clone, Copy)]
 pub enum Told {
     Prior(u32),
     Application(Outcome),
     Enrollment(u8),
     Cost(u32),
+    ChangedCost(u32),
     Withdrawal(Outcome),
+    Sending(SentBack),
     Money { moved: Moved, net: u64, used: u32 },
 }
 
@@ -86,7 +112,9 @@ pub(crate) fn word(told: &Told) -> &'static str
         Told::Application(_) => "apply",
         Told::Enrollment(_) => "enrol",
         Told::Cost(_) => "originate",
+        Told::ChangedCost(_) => "cost",
         Told::Withdrawal(_) => "withdraw",
+        Told::Sending(_) => "sent",
         Told::Money { moved, .. } => movement_word(moved.movement),
     }
 }

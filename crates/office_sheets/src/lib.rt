@@ -17,9 +17,10 @@ mod term_quotes;
 mod term_sums;
 
 pub use front::front_of;
+pub use headed::headed_text;
 pub use laws::{rows_of_student, totals_of_payments};
 pub use ledger::student;
 pub use lists::list;
-pub use pieces::none_text;
+pub use pieces::{none_text, put_bytes, put_day_column, put_dollars, put_number};
 pub use term_payments::payments;
 pub use term_quotes::quotes;

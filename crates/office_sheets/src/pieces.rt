@@ -22,7 +22,7 @@ pub fn none_text(alloc: Global) -> Result<Vec<u8>, AllocError>
 }
 
 /// Appends a text and a byte behind it.
-pub(crate) fn put_bytes(text: &[u8], end: u8, out: &mut Vec<u8>) -> Result<(), AllocError>
+pub fn put_bytes(text: &[u8], end: u8, out: &mut Vec<u8>) -> Result<(), AllocError>
     ensures { OnOk result (out.new.items ≡ out.old.items ++ text.now ++ end ∷ []) }
 {
     out.extend_from_slice(text)?;
@@ -31,7 +31,7 @@ pub(crate) fn put_bytes(text: &[u8], end: u8, out: &mut Vec<u8>) -> Result<(), A
 }
 
 /// Appends a number and a byte behind it.
-pub(crate) fn put_number(number: u64, end: u8, out: &mut Vec<u8>) -> Result<(), AllocError>
+pub fn put_number(number: u64, end: u8, out: &mut Vec<u8>) -> Result<(), AllocError>
     ensures { OnOk result (out.new.items ≡ out.old.items ++ decimal number ++ end ∷ []) }
 {
     let mut digits = Buffer::new();
@@ -39,7 +39,7 @@ pub(crate) fn put_number(number: u64, end: u8, out: &mut Vec<u8>) -> Result<(), 
 }
 
 /// Appends cents as dollars, and a byte behind them.
-pub(crate) fn put_dollars(cents: u64, end: u8, out: &mut Vec<u8>) -> Result<(), AllocError>
+pub fn put_dollars(cents: u64, end: u8, out: &mut Vec<u8>) -> Result<(), AllocError>
     ensures { OnOk result (out.new.items ≡ out.old.items ++ cents_text cents ++ end ∷ []) }
 {
     put_cents(cents, out)?;
@@ -48,7 +48,7 @@ pub(crate) fn put_dollars(cents: u64, end: u8, out: &mut Vec<u8>) -> Result<(), 
 }
 
 /// Appends a day and a byte behind it.
-pub(crate) fn put_day_column(day: Day, end: u8, out: &mut Vec<u8>) -> Result<(), AllocError>
+pub fn put_day_column(day: Day, end: u8, out: &mut Vec<u8>) -> Result<(), AllocError>
     ensures { OnOk result (out.new.items ≡ out.old.items ++ day_text day ++ end ∷ []) }
 {
     put_day(day, out)?;

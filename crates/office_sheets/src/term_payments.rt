@@ -118,7 +118,7 @@ fn pass(
     }
 }
 
-// The same of a filing that moves money in a student's term, which is of the term of the sums.
+// The same of a filing of a student's term, which is of the term of the sums.
 fn pass_movement(
     alloc: Global,
     filing: &Filing,
@@ -145,7 +145,7 @@ fn pass_movement(
     put_movements(past, filing, stamp, place, &more.taken, sums, rows)
 }
 
-// Appends the rows of the newest filing of an office, which moves money in a student's term, with what is returned by program.
+// Appends the rows of the newest filing of an office, which is of a student's term, with what is returned by program.
 fn put_movements(
     now: &Office,
     filing: &Filing,

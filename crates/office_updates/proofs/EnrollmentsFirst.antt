@@ -1,5 +1,5 @@
 -- The first enrollments of a student: each term at a school that the student enrolled in has one.
-use Rattle.std.proofs.Common.{◌≡◌, ℕ, ◌≤◌, refl, sym, ap, subst, ◌∙◌, arith, cond, Bool, true, false, ◌&&◌, ◌||◌, not, Option, Some, None, ◌⊎◌, inl, inr, List, [], ◌∷◌, eq-eqb, eqb-true}
+use Rattle.std.proofs.Common.{◌≡◌, ℕ, refl, sym, ap, subst, ◌∙◌, arith, cond, Bool, true, false, ◌&&◌, ◌||◌, not, Option, Some, None, ◌⊎◌, inl, inr, List, [], ◌∷◌, eq-eqb, eqb-true}
 use Rattle.std.specs.Prelude.{◌==◌, is_some, nat_lt}
 use Rattle.std.specs.List.{Contains, list_any}
 use Rattle.std.proofs.lemmas.Bool.{and_parts}
@@ -7,7 +7,7 @@ use Rattle.aid_types.specs.declared.number.Key.{Key}
 use Rattle.aid_filings.specs.declared.filing.EnrollFacts.{EnrollFacts}
 use Rattle.aid_filings.specs.declared.filing.Filing.{Filing}
 use Rattle.aid_filings.specs.declared.filing.What.{What}
-use Rattle.aid_filings.specs.declared.filing.What.TheVariants.{Book, School, Calendar, Prior, Apply, Enroll, Originate, Pay, Withdraw, Repay, Adjust}
+use Rattle.aid_filings.specs.declared.filing.What.TheVariants.{Book, School, Calendar, Prior, Apply, Enroll, Originate, Pay, Withdraw, Repay, Adjust, Cost, Sent, Amend}
 use Rattle.office_history.specs.Answer.{IsLegal, breaks}
 use Rattle.office_history.specs.Rules.{rules_of}
 use Rattle.office_history.specs.Past.{amount_or, at_school, credits, credits_in, given, if_here, later, latest}
@@ -96,6 +96,9 @@ module _ (student school year term : ℕ) where
       go key (Withdraw b) h ih = kept past _ (ih h)
       go key (Repay b) h ih = kept past _ (ih h)
       go key (Adjust b) h ih = kept past _ (ih h)
+      go key (Cost b) h ih = kept past _ (ih h)
+      go key (Sent b) h ih = kept past _ (ih h)
+      go key (Amend b) h ih = kept past _ (ih h)
 
   -- where an enrollment stands in the term, so does a first one
   pub first_enrolled : (past : List Filing) (key : Key) (e : EnrollFacts) → Contains past (enrolling key e) →
@@ -149,6 +152,9 @@ module _ (school student year term : ℕ) where
       go key (Withdraw b) h = refl
       go key (Repay b) h = refl
       go key (Adjust b) h = refl
+      go key (Cost b) h = refl
+      go key (Sent b) h = refl
+      go key (Amend b) h = refl
 
 -- a first enrollment is one
 pub enrolls : (student : ℕ) (past : List Filing) (school : ℕ) (w : What) → is_first_in student past school w ≡ true →
@@ -164,3 +170,6 @@ enrolls student past school (Pay b) h = absurd cc
 enrolls student past school (Withdraw b) h = absurd cc
 enrolls student past school (Repay b) h = absurd cc
 enrolls student past school (Adjust b) h = absurd cc
+enrolls student past school (Cost b) h = absurd cc
+enrolls student past school (Sent b) h = absurd cc
+enrolls student past school (Amend b) h = absurd cc

@@ -10,7 +10,7 @@ use Rattle.aid_filings.specs.Calendars.{term_of}
 use Rattle.aid_filings.specs.declared.filing.Filing.{Filing}
 use Rattle.aid_filings.specs.declared.filing.SchoolFacts.{SchoolFacts}
 use Rattle.aid_filings.specs.declared.filing.What.{What}
-use Rattle.aid_filings.specs.declared.filing.What.TheVariants.{Book, School, Calendar, Prior, Apply, Enroll, Originate, Pay, Withdraw, Repay, Adjust}
+use Rattle.aid_filings.specs.declared.filing.What.TheVariants.{Book, School, Calendar, Prior, Apply, Enroll, Originate, Pay, Withdraw, Repay, Adjust, Cost, Sent, Amend}
 use Rattle.aid_types.specs.declared.term.Term.{Term}
 use Rattle.law_terms.specs.Terms.{intensity_of, payment_of}
 use Rattle.office_history.specs.Answer.{IsLegal}
@@ -116,6 +116,9 @@ term_filed school year number f o h some = go f.what h
     go (Withdraw b) h = absurd (none o h some)
     go (Repay b) h = absurd (none o h some)
     go (Adjust b) h = absurd (none o h some)
+    go (Cost b) h = absurd (none o h some)
+    go (Sent b) h = absurd (none o h some)
+    go (Amend b) h = absurd (none o h some)
 
 pub school_filed : (code : ℕ) (w : What) (o : Option SchoolFacts) → school_in code w ≡ o → is_some o ≡ true → school_told w ≡ o
 school_filed code w o h some = go w h
@@ -141,6 +144,9 @@ school_filed code w o h some = go w h
     go (Withdraw b) h = absurd (none o h some)
     go (Repay b) h = absurd (none o h some)
     go (Adjust b) h = absurd (none o h some)
+    go (Cost b) h = absurd (none o h some)
+    go (Sent b) h = absurd (none o h some)
+    go (Amend b) h = absurd (none o h some)
 
 module _ (h : List Filing) (rows : List (StudentPlace × PlaceRow)) (f : Filing) (l : EnrollmentLink) (e : IsEnrollment (reverse h) rows f l) where
   -- the position that the link tells of the term is inside, and the filing there tells the term
@@ -209,6 +215,9 @@ no_school (Pay b) h = refl
 no_school (Withdraw b) h = refl
 no_school (Repay b) h = refl
 no_school (Adjust b) h = refl
+no_school (Cost b) h = refl
+no_school (Sent b) h = refl
+no_school (Amend b) h = refl
 
 -- an enrollment of a student is judged by its term
 module _ (past : List Filing) (rows : List (StudentPlace × PlaceRow)) (f : Filing) (l : EnrollmentLink) (e : IsEnrollment past rows f l) (student : ℕ) (own : is_enrolled student f ≡ true) where

@@ -10,7 +10,7 @@ use Rattle.aid_filings.specs.Calendars.{term_of}
 use Rattle.aid_filings.specs.declared.filing.CalendarFacts.{CalendarFacts}
 use Rattle.aid_filings.specs.declared.filing.Filing.{Filing}
 use Rattle.aid_filings.specs.declared.filing.What.{What}
-use Rattle.aid_filings.specs.declared.filing.What.TheVariants.{Book, School, Calendar, Prior, Apply, Enroll, Originate, Pay, Withdraw, Repay, Adjust}
+use Rattle.aid_filings.specs.declared.filing.What.TheVariants.{Book, School, Calendar, Prior, Apply, Enroll, Originate, Pay, Withdraw, Repay, Adjust, Cost, Sent, Amend}
 use Rattle.aid_types.specs.declared.number.Key.{Key}
 use Rattle.aid_types.specs.declared.term.Term.{Term}
 use Rattle.law_terms.specs.Terms.{shares_day}
@@ -107,6 +107,9 @@ own_term (f ∷ past) legal t there = go f.key f.what legal.2 there (own_term pa
     go key (Withdraw b) sound there ih = ih there
     go key (Repay b) sound there ih = ih there
     go key (Adjust b) sound there ih = ih there
+    go key (Cost b) sound there ih = ih there
+    go key (Sent b) sound there ih = ih there
+    go key (Amend b) sound there ih = ih there
 
 -- tests that all pass
 both : (a b : Bool) → a ≡ true → b ≡ true → (a && b) ≡ true
@@ -183,6 +186,9 @@ module _ (past : List Filing) (legal : IsLegal past) (student : ℕ) where
         go key (Withdraw b) h = absurd cc
         go key (Repay b) h = absurd cc
         go key (Adjust b) h = absurd cc
+        go key (Cost b) h = absurd cc
+        go key (Sent b) h = absurd cc
+        go key (Amend b) h = absurd cc
 
     coded : AreCoded (is_beside past school student this) firsts
     coded f there passes =
@@ -333,6 +339,9 @@ module _ (past : List Filing) (legal : IsLegal past) (student : ℕ) where
         go key (Withdraw b) h = absurd cc
         go key (Repay b) h = absurd cc
         go key (Adjust b) h = absurd cc
+        go key (Cost b) h = absurd cc
+        go key (Sent b) h = absurd cc
+        go key (Amend b) h = absurd cc
 
     -- no term over the award comes before the first that the enrollments tell
     below : (o : Option Over) → first_over (over_of past award student year) firsts None ≡ o → (t : FiledTerm) → is_over past award student year t ≡ true → IsNotBefore (told_of t) o

@@ -7,7 +7,7 @@ use Rattle.std.proofs.lemmas.Bool.{and_parts}
 use Rattle.aid_types.specs.declared.number.Key.{Key}
 use Rattle.aid_filings.specs.declared.filing.Filing.{Filing}
 use Rattle.aid_filings.specs.declared.filing.What.{What}
-use Rattle.aid_filings.specs.declared.filing.What.TheVariants.{Book, School, Calendar, Prior, Apply, Enroll, Originate, Pay, Withdraw, Repay, Adjust}
+use Rattle.aid_filings.specs.declared.filing.What.TheVariants.{Book, School, Calendar, Prior, Apply, Enroll, Originate, Pay, Withdraw, Repay, Adjust, Cost, Sent, Amend}
 use Rattle.office_history.proofs.Oldest.{reverse-middle}
 use Rattle.office_history.specs.FirstEnrollments.{is_first, is_first_in, is_first_of, passing}
 use Rattle.office_updates.specs.Links.{before_in, befores_of, is_term_of, last_at, newest_place, newest_term}
@@ -89,6 +89,9 @@ terms_tell school older f h = go f.key f.what h
     go key (Withdraw b) h = absurd (other (key.school == school) h)
     go key (Repay b) h = absurd (other (key.school == school) h)
     go key (Adjust b) h = absurd (other (key.school == school) h)
+    go key (Cost b) h = absurd (other (key.school == school) h)
+    go key (Sent b) h = absurd (other (key.school == school) h)
+    go key (Amend b) h = absurd (other (key.school == school) h)
 
 pub enrollments_tell : (student : ℕ) → Tells (is_first_of student)
 enrollments_tell student older f h = go f.key f.what h
@@ -111,6 +114,9 @@ enrollments_tell student older f h = go f.key f.what h
     go key (Withdraw b) h = absurd cc
     go key (Repay b) h = absurd cc
     go key (Adjust b) h = absurd cc
+    go key (Cost b) h = absurd cc
+    go key (Sent b) h = absurd cc
+    go key (Amend b) h = absurd cc
 
 -- where the one before the filing at an index stands
 pub befores_length : (past : List Filing) → length (befores_of past) ≡ length past

@@ -8,7 +8,7 @@ use Rattle.aid_types.specs.declared.term.Term.{Term}
 use Rattle.aid_filings.specs.declared.filing.CalendarFacts.{CalendarFacts}
 use Rattle.aid_filings.specs.declared.filing.Filing.{Filing}
 use Rattle.aid_filings.specs.declared.filing.What.{What}
-use Rattle.aid_filings.specs.declared.filing.What.TheVariants.{Book, School, Calendar, Prior, Apply, Enroll, Originate, Pay, Withdraw, Repay, Adjust}
+use Rattle.aid_filings.specs.declared.filing.What.TheVariants.{Book, School, Calendar, Prior, Apply, Enroll, Originate, Pay, Withdraw, Repay, Adjust, Cost, Sent, Amend}
 use Rattle.office_history.specs.Answer.{IsLegal, breaks}
 use Rattle.office_history.specs.Rules.{rules_of}
 use Rattle.office_history.specs.Positions.{term_at}
@@ -50,6 +50,9 @@ none_older past school year number key (Pay b) of sound tells = absurd cc
 none_older past school year number key (Withdraw b) of sound tells = absurd cc
 none_older past school year number key (Repay b) of sound tells = absurd cc
 none_older past school year number key (Adjust b) of sound tells = absurd cc
+none_older past school year number key (Cost b) of sound tells = absurd cc
+none_older past school year number key (Sent b) of sound tells = absurd cc
+none_older past school year number key (Amend b) of sound tells = absurd cc
 
 module _ (h : List Filing) (befores : List ℕ) (school year number n steps begun : ℕ) (legal : IsLegal (reverse h))
     (linked : befores ≡ befores_of (reverse h))

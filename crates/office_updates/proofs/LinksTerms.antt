@@ -9,7 +9,7 @@ use Rattle.aid_types.specs.declared.term.Term.{Term}
 use Rattle.aid_filings.specs.declared.filing.CalendarFacts.{CalendarFacts}
 use Rattle.aid_filings.specs.declared.filing.Filing.{Filing}
 use Rattle.aid_filings.specs.declared.filing.What.{What}
-use Rattle.aid_filings.specs.declared.filing.What.TheVariants.{Book, School, Calendar, Prior, Apply, Enroll, Originate, Pay, Withdraw, Repay, Adjust}
+use Rattle.aid_filings.specs.declared.filing.What.TheVariants.{Book, School, Calendar, Prior, Apply, Enroll, Originate, Pay, Withdraw, Repay, Adjust, Cost, Sent, Amend}
 use Rattle.law_terms.specs.Terms.{shares_day}
 use Rattle.office_history.specs.Positions.{term_at}
 use Rattle.office_history.specs.Past.{FiledTerm, at_school, earlier, earliest, first_at, first_of_two, given, if_here, later, on_file, term_in, terms_on_file, the_term}
@@ -157,6 +157,9 @@ terms_counted past school = counted (λ t. t.school == school) (is_term_of schoo
     go key here (Withdraw b) = other (key.school == school)
     go key here (Repay b) = other (key.school == school)
     go key here (Adjust b) = other (key.school == school)
+    go key here (Cost b) = other (key.school == school)
+    go key here (Sent b) = other (key.school == school)
+    go key here (Amend b) = other (key.school == school)
 
 pub mains_counted : (past : List Filing) (school year : ℕ) →
     length (filter (λ t. t.school == school && (t.year == year && not t.term.extra)) (terms_on_file past)) ≡ count_by (λ f. is_main_term school year f.key.school f.what) past
@@ -176,6 +179,9 @@ mains_counted past school year =
     go key here (Withdraw b) = refl
     go key here (Repay b) = refl
     go key here (Adjust b) = refl
+    go key here (Cost b) = refl
+    go key here (Sent b) = refl
+    go key here (Amend b) = refl
 
 -- a filing that is no term of the school tells none, and of one that is a term the school is known
 module _ (school : ℕ) where
@@ -199,6 +205,9 @@ module _ (school : ℕ) where
       go key (Withdraw b) h = refl
       go key (Repay b) h = refl
       go key (Adjust b) h = refl
+      go key (Cost b) h = refl
+      go key (Sent b) h = refl
+      go key (Amend b) h = refl
 
   -- so a test on a calendar of the school fails
   no_other : (test : CalendarFacts → Bool) (r : ℕ → What → Bool) → ((filer : ℕ) (c : CalendarFacts) → r filer (Calendar c) ≡ (filer == school && test c)) →
@@ -221,6 +230,9 @@ module _ (school : ℕ) where
       go key (Withdraw b) h = of_other key.school (Withdraw b) refl
       go key (Repay b) h = of_other key.school (Repay b) refl
       go key (Adjust b) h = of_other key.school (Adjust b) refl
+      go key (Cost b) h = of_other key.school (Cost b) refl
+      go key (Sent b) h = of_other key.school (Sent b) refl
+      go key (Amend b) h = of_other key.school (Amend b) refl
 
   pub filed_here : (f : Filing) → is_term_of school f ≡ true → (f.key.school == school) ≡ true
   filed_here f h = go (f.key.school == school) (is_calendar f.what) h
@@ -252,6 +264,9 @@ module _ (school : ℕ) where
       none filer (Withdraw b) h = refl
       none filer (Repay b) h = refl
       none filer (Adjust b) h = refl
+      none filer (Cost b) h = refl
+      none filer (Sent b) h = refl
+      none filer (Amend b) h = refl
 
   no_main : (year : ℕ) (f : Filing) → is_term_of school f ≡ false → is_main_term school year f.key.school f.what ≡ false
   no_main year = no_other (λ c. c.year == year && not c.extra) (is_main_term school year) (λ filer c. refl) none
@@ -268,6 +283,9 @@ module _ (school : ℕ) where
       none filer (Withdraw b) h = refl
       none filer (Repay b) h = refl
       none filer (Adjust b) h = refl
+      none filer (Cost b) h = refl
+      none filer (Sent b) h = refl
+      none filer (Amend b) h = refl
 
   -- a term of the school is judged by its calendar
   overlap_here : (term : Term) (f : Filing) → is_term_of school f ≡ true → is_overlapping school term f.key.school f.what ≡ overlaps term f.what
@@ -285,6 +303,9 @@ module _ (school : ℕ) where
       go (Withdraw b) e = refl
       go (Repay b) e = refl
       go (Adjust b) e = refl
+      go (Cost b) e = refl
+      go (Sent b) e = refl
+      go (Amend b) e = refl
 
   main_here : (year : ℕ) (f : Filing) → is_term_of school f ≡ true → is_main_term school year f.key.school f.what ≡ is_main year f.what
   main_here year f h = go f.what (filed_here f h)
@@ -301,6 +322,9 @@ module _ (school : ℕ) where
       go (Withdraw b) e = refl
       go (Repay b) e = refl
       go (Adjust b) e = refl
+      go (Cost b) e = refl
+      go (Sent b) e = refl
+      go (Amend b) e = refl
 
 -- the term of the school at a position on its chain
 pub term_at_hand : (h : List Filing) (befores : List ℕ) (school : ℕ) (older : List Filing) (n : ℕ) → befores ≡ befores_of (reverse h) →

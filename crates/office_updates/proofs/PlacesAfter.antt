@@ -6,11 +6,12 @@ use Rattle.aid_filings.specs.declared.filing.Amount.{Amount}
 use Rattle.aid_filings.specs.declared.filing.EnrollFacts.{EnrollFacts}
 use Rattle.aid_filings.specs.declared.filing.Filing.{Filing}
 use Rattle.aid_filings.specs.declared.filing.What.{What}
-use Rattle.aid_filings.specs.declared.filing.What.TheVariants.{Book as BookFiled, School, Calendar, Prior, Apply, Enroll, Originate, Pay, Withdraw, Repay, Adjust}
+use Rattle.aid_filings.specs.declared.filing.What.TheVariants.{Book as BookFiled, School, Calendar, Prior, Apply, Enroll, Originate, Pay, Withdraw, Repay, Adjust, Cost, Sent, Amend}
+use Rattle.aid_filings.specs.declared.filing.SentFacts.{SentFacts}
 use Rattle.aid_filings.specs.declared.filing.WithdrawFacts.{WithdrawFacts}
 use Rattle.office_history.specs.Answer.{IsLegal, breaks}
 use Rattle.office_history.specs.Net.{cell_at, in_term, moved}
-use Rattle.office_history.specs.Positions.{could_of, withdrawn_at}
+use Rattle.office_history.specs.Positions.{could_of, determined_of, withdrawn_at}
 use Rattle.office_history.specs.Past.{amount_or, at_school, credits_in, earlier, first_of_two, given, if_here, later, latest, the_withdrawal, withdrawal_in}
 use Rattle.office_history.proofs.Asked.{none_told}
 use Rattle.office_history.proofs.Nets.{withdrawn_first}
@@ -51,14 +52,14 @@ named at = record { school = at.school; student = at.student; year = at.year; te
 -- the account of a place as a row
 row-account : (past : List Filing) (school student year term : ℕ) → IsAccount past school student year term (account_row past school student year term)
 row-account past school student year term =
-    record { paid = refl; taken = refl; owed = refl; repaid = refl; after = refl; after_all = refl; post = refl }
+    record { paid = refl; taken = refl; owed = refl; repaid = refl; returned = refl; sent = refl; after = refl; after_all = refl; post = refl }
 
 account-row : (past : List Filing) (school student year term : ℕ) (a : Account) → IsAccount past school student year term a → account_row past school student year term ≡ a
-account-row past school student year term a h = parts _ _ _ _ _ _ _ a h.paid h.taken h.owed h.repaid h.after h.after_all h.post
+account-row past school student year term a h = parts _ _ _ _ _ _ _ _ _ a h.paid h.taken h.owed h.repaid h.returned h.sent h.after h.after_all h.post
   where
-    parts : (p t o r f : List ℕ) (m n : ℕ) (a : Account) → a.paid ≡ p → a.taken ≡ t → a.owed ≡ o → a.repaid ≡ r → a.after ≡ f → a.after_all ≡ m → a.post ≡ n →
-        ◌≡◌ {A = Account} (record { paid = p; taken = t; owed = o; repaid = r; after = f; after_all = m; post = n }) a
-    parts p t o r f m n a e0 e1 e2 e3 e4 e5 e6 = rw (sym e0, sym e1, sym e2, sym e3, sym e4, sym e5, sym e6) refl
+    parts : (p t o r b s f : List ℕ) (m n : ℕ) (a : Account) → a.paid ≡ p → a.taken ≡ t → a.owed ≡ o → a.repaid ≡ r → a.returned ≡ b → a.sent ≡ s → a.after ≡ f → a.after_all ≡ m → a.post ≡ n →
+        ◌≡◌ {A = Account} (record { paid = p; taken = t; owed = o; repaid = r; returned = b; sent = s; after = f; after_all = m; post = n }) a
+    parts p t o r b s f m n a e0 e1 e2 e3 e4 e5 e6 e7 e8 = rw (sym e0, sym e1, sym e2, sym e3, sym e4, sym e5, sym e6, sym e7, sym e8) refl
 
 pub account-moved : (past : List Filing) (f : Filing) (school student year term : ℕ) (e : Account) → IsEntry past f.key f.what school student year term e →
     account_row (f ∷ past) school student year term ≡ joined (account_row past school student year term) e
@@ -130,25 +131,38 @@ adjust-place : (past : List Filing) (key : Key) (a : Amount) (e : Account) → I
 adjust-place past key a e k =
     money-place past (record { key = key; what = Adjust a }) (place_of key a) e (λ school student year term. refl) (moves past key (Adjust a)) k
 
--- a withdrawal, the first from its term, tells its position and what could have been disbursed too
+-- the term of a return that was sent back
+abbrev pub place_sent : Key → SentFacts → StudentPlace
+place_sent key s = record { student = s.student; school = key.school; year = s.year; term = s.term }
+
+sent-filed : (past : List Filing) (key : Key) (s : SentFacts) (e : Account) → IsOwnEntry past key (Sent s) e →
+    IsPlaceWritten past (record { key = key; what = Sent s }) (place_sent key s) (with_moved (place_row past key.school s.student s.year s.term) e)
+sent-filed past key s e k =
+    money-place past (record { key = key; what = Sent s }) (place_sent key s) e (λ school student year term. refl) (moves past key (Sent s)) k
+
+-- a withdrawal, the first from its term, tells its position, what could have been disbursed and the day of its determination too
 abbrev told_withdrawal : List Filing → StudentPlace → Option WithdrawFacts → Account → PlaceRow
 told_withdrawal past at o a = record (place_row past at.school at.student at.year at.term) {
   withdrawn_at = first_of_two (is_some o) (withdrawn_at past at.school at.student at.year at.term) (length past + 1);
   could = could_of (earlier o (the_withdrawal past at.school at.student at.year at.term));
+  determined = determined_of (earlier o (the_withdrawal past at.school at.student at.year at.term));
   account = a;
 }
 
-abbrev pub with_withdrawal : PlaceRow → ℕ → List ℕ → PlaceRow
-with_withdrawal row position could = record row { withdrawn_at = position; could = could }
+abbrev pub with_withdrawal : PlaceRow → ℕ → WithdrawFacts → PlaceRow
+with_withdrawal row position w = record row { withdrawn_at = position; could = w.could; determined = w.determined }
+
+abbrev with_told : PlaceRow → ℕ → Option WithdrawFacts → PlaceRow
+with_told row position o = record row { withdrawn_at = position; could = could_of o; determined = determined_of o }
 
 first_withdrawal : (row : PlaceRow) (w : WithdrawFacts) (position n : ℕ) (o : Option WithdrawFacts) → n ≡ 0 → o ≡ None →
-    with_withdrawal row (first_of_two true n position) (could_of (earlier (Some w) o)) ≡ with_withdrawal row position w.could
+    with_told row (first_of_two true n position) (earlier (Some w) o) ≡ with_withdrawal row position w
 first_withdrawal row w position n o e0 e1 = rw (e0, e1) refl
 
 withdraw-filed : (past : List Filing) (key : Key) (w : WithdrawFacts) (e : Account) → breaks past (record { key = key; what = Withdraw w }) ≡ None →
     IsOwnEntry past key (Withdraw w) e →
     IsPlaceWritten past (record { key = key; what = Withdraw w }) (place_left key w)
-    (with_withdrawal (with_moved (place_row past key.school w.student w.year w.term) e) (length past + 1) w.could)
+    (with_withdrawal (with_moved (place_row past key.school w.student w.year w.term) e) (length past + 1) w)
 withdraw-filed past key w e rule k =
     let f : Filing = record { key = key; what = Withdraw w } in
     let own : StudentPlace = place_left key w in
@@ -194,12 +208,19 @@ amount-place past f a e is k = by is
     by (inr (inr adjusts)) = of (Adjust a) (sym adjusts) (adjust-place past f.key a e)
 
 pub withdraw-place : (past : List Filing) (f : Filing) (w : WithdrawFacts) (e : Account) → f.what ≡ Withdraw w → breaks past f ≡ None → IsOwnEntry past f.key f.what e →
-    IsPlaceWritten past f (place_left f.key w) (with_withdrawal (with_moved (place_row past f.key.school w.student w.year w.term) e) (length past + 1) w.could)
+    IsPlaceWritten past f (place_left f.key w) (with_withdrawal (with_moved (place_row past f.key.school w.student w.year w.term) e) (length past + 1) w)
 withdraw-place past f w e is =
     subst (λ (what : What). breaks past (record { key = f.key; what = what }) ≡ None → IsOwnEntry past f.key what e →
     IsPlaceWritten past (record { key = f.key; what = what }) (place_left f.key w)
-    (with_withdrawal (with_moved (place_row past f.key.school w.student w.year w.term) e) (length past + 1) w.could)) (sym is)
+    (with_withdrawal (with_moved (place_row past f.key.school w.student w.year w.term) e) (length past + 1) w)) (sym is)
     (withdraw-filed past f.key w e)
+
+pub sent-place : (past : List Filing) (f : Filing) (s : SentFacts) (e : Account) → f.what ≡ Sent s → IsOwnEntry past f.key f.what e →
+    IsPlaceWritten past f (place_sent f.key s) (with_moved (place_row past f.key.school s.student s.year s.term) e)
+sent-place past f s e is =
+    subst (λ (what : What). IsOwnEntry past f.key what e →
+    IsPlaceWritten past (record { key = f.key; what = what }) (place_sent f.key s) (with_moved (place_row past f.key.school s.student s.year s.term) e)) (sym is)
+    (sent-filed past f.key s e)
 
 -- an enrollment's row has the name of its place
 pub enrolled : (f : Filing) (filed : EnrollFacts) (r : StudentPlace × PlaceRow) → f.what ≡ Enroll filed → r.0 ≡ place_name f.key.school filed →
@@ -218,7 +239,7 @@ placed past f own row r w e0 e1 =
     pair own row e0 e1 = rw (sym e0, sym e1) refl
 
 no-sums : HasSums nothing
-no-sums = record { paid = none; taken = none; owed = none; repaid = none; after = none; after_all = omega arith; post = omega arith }
+no-sums = record { paid = none; taken = none; owed = none; repaid = none; returned = none; sent = none; after = none; after_all = omega arith; post = omega arith }
   where
     none : (p : ℕ) → slice_index (0 ∷ 0 ∷ 0 ∷ 0 ∷ 0 ∷ 0 ∷ []) p ≤ 10 ^ 18
     none = six-sums (λ p. 0) 0 (λ p. omega arith) (omega arith)
@@ -236,6 +257,9 @@ own-sums past key (Prior b) e legal k = rw k no-sums
 own-sums past key (Apply b) e legal k = rw k no-sums
 own-sums past key (Enroll b) e legal k = rw k no-sums
 own-sums past key (Originate b) e legal k = rw k no-sums
+own-sums past key (Cost b) e legal k = rw k no-sums
+own-sums past key (Sent s) e legal k = entry-sums past (record { key = key; what = Sent s }) key.school s.student s.year s.term e legal k
+own-sums past key (Amend b) e legal k = rw k no-sums
 
 -- and so are those of the account of a term
 pub row-sums : (past : List Filing) (school student year term : ℕ) → IsLegal past → HasSums (account_row past school student year term)

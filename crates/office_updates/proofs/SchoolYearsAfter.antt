@@ -8,15 +8,14 @@ use Rattle.aid_filings.specs.declared.filing.Amount.{Amount}
 use Rattle.aid_filings.specs.declared.filing.Filing.{Filing}
 use Rattle.aid_filings.specs.declared.filing.OriginateFacts.{OriginateFacts}
 use Rattle.aid_filings.specs.declared.filing.What.{What}
-use Rattle.aid_filings.specs.declared.filing.What.TheVariants.{Originate, Pay, Withdraw, Repay, Adjust}
+use Rattle.aid_filings.specs.declared.filing.What.TheVariants.{Originate, Pay, Withdraw, Repay, Adjust, Cost}
 use Rattle.aid_filings.specs.declared.filing.WithdrawFacts.{WithdrawFacts}
 use Rattle.office_history.specs.Answer.{IsLegal, breaks}
 use Rattle.office_history.specs.Net.{cell_at, cell_of, Cell, at_school_in_year, is_cell, moved, net, net_at, paid, payments_in, taken, takings_in}
 use Rattle.office_history.specs.Positions.{cost_at}
 use Rattle.office_history.specs.Rules.{rules_of}
-use Rattle.office_history.specs.Past.{amount_or, at_school, cost_in, earlier, earliest, first_of_two}
+use Rattle.office_history.specs.Past.{amount_or, at_school, cost_in, first_of_two, later, latest}
 use Rattle.office_history.proofs.AnyNets.{any_net_stands}
-use Rattle.office_history.proofs.Asked.{none_told}
 use Rattle.office_history.proofs.Cells.{onto_is}
 use Rattle.aid_types.proofs.Holds.{all_hold, stands_holds}
 use Rattle.office_history.proofs.Nets.{nets_stand}
@@ -52,26 +51,37 @@ year_costed key o = record { student = o.student; school = key.school; year = o.
 abbrev told_cost : List Filing → StudentSchoolYear → Option ℕ → SchoolYearRow
 told_cost past at c = record (school_year_row past at.school at.student at.year) {
   cost_at = first_of_two (is_some c) (cost_at past at.school at.student at.year) (length past + 1);
-  cost = amount_or (earlier c (earliest (at_school at.school (cost_in at.student at.year)) past));
+  cost = amount_or (later c (latest (at_school at.school (cost_in at.student at.year)) past));
 }
 
 abbrev pub with_cost : SchoolYearRow → ℕ → ℕ → SchoolYearRow
 with_cost row position dollars = record row { cost_at = position; cost = dollars }
 
-first_cost : (row : SchoolYearRow) (dollars position n : ℕ) (c : Option ℕ) → n ≡ 0 → c ≡ None →
-    with_cost row (first_of_two true n position) (amount_or (earlier (Some dollars) c)) ≡ with_cost row position dollars
-first_cost row dollars position n c e0 e1 = rw (e0, e1) refl
+first_cost : (row : SchoolYearRow) (dollars position n : ℕ) → n ≡ 0 → with_cost row (first_of_two true n position) dollars ≡ with_cost row position dollars
+first_cost row dollars position n e = rw e refl
 
 originate-filed : (past : List Filing) (key : Key) (o : OriginateFacts) → breaks past (record { key = key; what = Originate o }) ≡ None →
     IsSchoolYearWritten past (record { key = key; what = Originate o }) (year_costed key o)
     (with_cost (school_year_row past key.school o.student o.year) (length past + 1) o.cost)
 originate-filed past key o rule =
-    let first = cost_first past key o rule in
-    let none = none_told (at_school key.school (cost_in o.student o.year)) past first in
     record {
       here = ap (told_cost past (year_costed key o)) (told_some (key.school == key.school) _ o.cost (own_school_year key.school o.student o.year))
-          ∙ first_cost (school_year_row past key.school o.student o.year) o.cost (length past + 1) _ _ first none;
+          ∙ first_cost (school_year_row past key.school o.student o.year) o.cost (length past + 1) _ (cost_first past key o rule);
       elsewhere = λ asked away. ap (told_cost past asked) (told_none (key.school == asked.school) _ o.cost away);
+    }
+
+-- a changed cost tells the cost alone
+abbrev told_changed : List Filing → StudentSchoolYear → Option ℕ → SchoolYearRow
+told_changed past at c = record (school_year_row past at.school at.student at.year) {
+  cost = amount_or (later c (latest (at_school at.school (cost_in at.student at.year)) past));
+}
+
+cost-filed : (past : List Filing) (key : Key) (o : OriginateFacts) →
+    IsSchoolYearWritten past (record { key = key; what = Cost o }) (year_costed key o) (record (school_year_row past key.school o.student o.year) { cost = o.cost })
+cost-filed past key o =
+    record {
+      here = ap (told_changed past (year_costed key o)) (told_some (key.school == key.school) _ o.cost (own_school_year key.school o.student o.year));
+      elsewhere = λ asked away. ap (told_changed past asked) (told_none (key.school == asked.school) _ o.cost away);
     }
 
 -- a row with what moved
@@ -169,6 +179,13 @@ originate-school_year past f o is =
     subst (λ (what : What). breaks past (record { key = f.key; what = what }) ≡ None →
     IsSchoolYearWritten past (record { key = f.key; what = what }) (year_costed f.key o) (with_cost (school_year_row past f.key.school o.student o.year) (length past + 1) o.cost)) (sym is)
     (originate-filed past f.key o)
+
+pub cost-school_year : (past : List Filing) (f : Filing) (o : OriginateFacts) → f.what ≡ Cost o →
+    IsSchoolYearWritten past f (year_costed f.key o) (record (school_year_row past f.key.school o.student o.year) { cost = o.cost })
+cost-school_year past f o is =
+    subst (λ (what : What). IsSchoolYearWritten past (record { key = f.key; what = what }) (year_costed f.key o)
+    (record (school_year_row past f.key.school o.student o.year) { cost = o.cost })) (sym is)
+    (cost-filed past f.key o)
 
 pub amount-school_year : (past : List Filing) (f : Filing) (a : Amount) (e : Account) → IsLegal past → IsAmount f.what a → IsOwnEntry past f.key f.what e →
     IsSchoolYearWritten past f (year_of f.key a) (with_net (school_year_row past f.key.school a.student a.year) e)

@@ -9,7 +9,7 @@ use Rattle.aid_filings.specs.declared.filing.Amount.{Amount}
 use Rattle.aid_filings.specs.declared.filing.Filing.{Filing}
 use Rattle.aid_filings.specs.declared.filing.PriorFacts.{PriorFacts}
 use Rattle.aid_filings.specs.declared.filing.What.{What}
-use Rattle.aid_filings.specs.declared.filing.What.TheVariants.{Book as BookFiled, School, Calendar, Prior, Apply, Enroll, Originate, Pay, Withdraw, Repay, Adjust}
+use Rattle.aid_filings.specs.declared.filing.What.TheVariants.{Book as BookFiled, School, Calendar, Prior, Apply, Enroll, Originate, Pay, Withdraw, Repay, Adjust, Cost, Sent, Amend}
 use Rattle.office_history.specs.Answer.{IsLegal, breaks}
 use Rattle.office_history.specs.Rules.{rules_of}
 use Rattle.office_history.specs.Positions.{pell_at, prior_at}
@@ -171,6 +171,9 @@ brings_of past key (Calendar b) student year at changes = absurd at
 brings_of past key (Prior b) student year at changes = absurd at
 brings_of past key (Enroll b) student year at changes = absurd at
 brings_of past key (Originate b) student year at changes = absurd at
+brings_of past key (Cost b) student year at changes = absurd at
+brings_of past key (Sent b) student year at changes = absurd at
+brings_of past key (Amend b) student year at changes = absurd at
 
 pub filing_brings : (past : List Filing) (f : Filing) (what : What) (student year : ℕ) → f.what ≡ what → IsOf student year what → ChangesYear past f student year →
     Brings past f student year (is_pell_payment what)
@@ -243,6 +246,9 @@ unchanged past key (Pay b) s none same = cc
 unchanged past key (Withdraw b) s none same = cc
 unchanged past key (Repay b) s none same = cc
 unchanged past key (Adjust b) s none same = cc
+unchanged past key (Cost b) s none same = refl
+unchanged past key (Sent b) s none same = refl
+unchanged past key (Amend b) s none same = refl
 
 none_of_students : (what : What) → ((p : PriorFacts) → what ≡ Prior p → ⊥) → changes_none what ≡ true → changes_no_student what ≡ true
 none_of_students (Prior p) prior e = absurd (prior p refl)
@@ -256,6 +262,9 @@ none_of_students (Pay b) prior e = e
 none_of_students (Withdraw b) prior e = e
 none_of_students (Repay b) prior e = e
 none_of_students (Adjust b) prior e = e
+none_of_students (Cost b) prior e = refl
+none_of_students (Sent b) prior e = refl
+none_of_students (Amend b) prior e = refl
 
 pub student_unchanged : (past : List Filing) (f : Filing) → changes_none f.what ≡ true → ((p : PriorFacts) → f.what ≡ Prior p → ⊥) → IsLegal past → (s : ℕ) →
     student_row (f ∷ past) s ≡ student_row past s

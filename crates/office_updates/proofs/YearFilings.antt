@@ -11,7 +11,7 @@ use Rattle.aid_filings.specs.declared.filing.CalendarFacts.{CalendarFacts}
 use Rattle.aid_filings.specs.declared.filing.Filing.{Filing}
 use Rattle.aid_filings.specs.declared.filing.WithdrawFacts.{WithdrawFacts}
 use Rattle.aid_filings.specs.declared.filing.What.{What}
-use Rattle.aid_filings.specs.declared.filing.What.TheVariants.{Book as BookFiled, School, Calendar, Prior, Apply, Enroll, Originate, Pay, Withdraw, Repay, Adjust}
+use Rattle.aid_filings.specs.declared.filing.What.TheVariants.{Book as BookFiled, School, Calendar, Prior, Apply, Enroll, Originate, Pay, Withdraw, Repay, Adjust, Cost, Sent, Amend}
 use Rattle.aid_types.specs.RuleLines.{lacks, only, told}
 use Rattle.law_rules.specs.Rules.{rule_91}
 use Rattle.law_rules.specs.Lines.{rule_93}
@@ -193,6 +193,9 @@ no_application (f ∷ past) student year legal none = go f.key f.what legal.2 no
     go key (Withdraw b) rule none ih = ih none
     go key (Repay b) rule none ih = ih none
     go key (Adjust b) rule none ih = ih none
+    go key (Cost b) rule none ih = ih none
+    go key (Sent b) rule none ih = ih none
+    go key (Amend b) rule none ih = ih none
 
 award_stays : (new old : Option Book) (o : Option Application) → (old ≡ None → o ≡ None) → award_under (earlier new old) o ≡ award_under old o
 award_stays None old o lacks = refl
@@ -284,6 +287,9 @@ none_of_these (Calendar b) apply pay withdraw repay adjust = refl
 none_of_these (Prior b) apply pay withdraw repay adjust = refl
 none_of_these (Enroll b) apply pay withdraw repay adjust = refl
 none_of_these (Originate b) apply pay withdraw repay adjust = refl
+none_of_these (Cost b) apply pay withdraw repay adjust = refl
+none_of_these (Sent b) apply pay withdraw repay adjust = refl
+none_of_these (Amend b) apply pay withdraw repay adjust = refl
 
 unchanged : (past : List Filing) (key : Key) (what : What) → changes_none what ≡ true → IsLegal past → (s y : ℕ) →
     year_row (record { key = key; what = what } ∷ past) s y ≡ year_row past s y
@@ -301,6 +307,9 @@ unchanged past key (Pay a) none legal s y = cc
 unchanged past key (Withdraw w) none legal s y = cc
 unchanged past key (Repay a) none legal s y = cc
 unchanged past key (Adjust a) none legal s y = cc
+unchanged past key (Cost b) none legal s y = refl
+unchanged past key (Sent b) none legal s y = refl
+unchanged past key (Amend b) none legal s y = refl
 
 pub year_unchanged : (past : List Filing) (f : Filing) → changes_none f.what ≡ true → IsLegal past → (s y : ℕ) → year_row (f ∷ past) s y ≡ year_row past s y
 year_unchanged past f none legal s y = unchanged past f.key f.what none legal s y

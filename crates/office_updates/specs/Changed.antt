@@ -2,7 +2,7 @@
 use Rattle.std.specs.Prelude.{◌≡◌, ℕ, List, Option, Some, None}
 use Rattle.aid_filings.specs.declared.filing.Filing.{Filing}
 use Rattle.aid_filings.specs.declared.filing.What.{What}
-use Rattle.aid_filings.specs.declared.filing.What.TheVariants.{Adjust, Apply, Enroll, Originate, Pay, Prior, Repay, Withdraw}
+use Rattle.aid_filings.specs.declared.filing.What.TheVariants.{Adjust, Apply, Cost, Enroll, Originate, Pay, Prior, Repay, Sent, Withdraw}
 use Rattle.office_history.specs.Names.{place_name}
 use Rattle.office_history.specs.Rows.{place_row, school_year_row, student_row, year_row}
 use Rattle.office_history.specs.declared.names.StudentPlace.{StudentPlace}
@@ -13,13 +13,14 @@ use Rattle.office_history.specs.declared.rows.SchoolYearRow.{SchoolYearRow}
 use Rattle.office_history.specs.declared.rows.StudentRow.{StudentRow}
 use Rattle.office_history.specs.declared.rows.YearRow.{YearRow}
 
--- a student's term at a school: that of an enrollment, or that in which money moves
+-- a student's term at a school: that of an enrollment, or that in which money moves or was sent back
 abbrev pub place_changed : ℕ → What → Option StudentPlace
 place_changed school (Enroll e) = Some (place_name school e)
 place_changed school (Pay a) = Some (record { student = a.student; school = school; year = a.year; term = a.term })
 place_changed school (Withdraw w) = Some (record { student = w.student; school = school; year = w.year; term = w.term })
 place_changed school (Repay a) = Some (record { student = a.student; school = school; year = a.year; term = a.term })
 place_changed school (Adjust a) = Some (record { student = a.student; school = school; year = a.year; term = a.term })
+place_changed school (Sent s) = Some (record { student = s.student; school = school; year = s.year; term = s.term })
 place_changed school _ = None
 
 -- a student's year: that of an application, or that in which money moves
@@ -38,6 +39,7 @@ school_year_changed school (Pay a) = Some (record { student = a.student; school 
 school_year_changed school (Withdraw w) = Some (record { student = w.student; school = school; year = w.year })
 school_year_changed school (Repay a) = Some (record { student = a.student; school = school; year = a.year })
 school_year_changed school (Adjust a) = Some (record { student = a.student; school = school; year = a.year })
+school_year_changed school (Cost o) = Some (record { student = o.student; school = school; year = o.year })
 school_year_changed school _ = None
 
 -- a student: of a prior use, of an application, of an enrollment, or to whom money moves

@@ -11,7 +11,7 @@ use Rattle.office_history.specs.declared.names.StudentPlace.{StudentPlace}
 
 -- what the row of a place tells, and what is told where there is none
 abbrev pub place_or : Option PlaceRow → PlaceRow
-place_or None = record { credits = 0; withdrawn_at = 0; could = six (λ p. 0); account = nothing }
+place_or None = record { credits = 0; withdrawn_at = 0; could = six (λ p. 0); determined = 0; account = nothing }
 place_or (Some row) = row
 
 -- the rows tell of each place what is on file

@@ -50,6 +50,14 @@ pub fn place_after<P: HistoryView>(
             before,
             moved,
         )),
+        What::Sent(sent) => Some(with_moved(
+            school,
+            sent.student,
+            sent.year,
+            sent.term,
+            before,
+            moved,
+        )),
         _ => None,
     }
 }
@@ -73,7 +81,7 @@ fn with_credits(
     )
 }
 
-// The place at which a filing moved money.
+// The place at which a filing moved money, or at which it was sent back.
 fn with_moved(
     school: School,
     student: Student,
@@ -105,11 +113,12 @@ fn with_withdrawal(
     requires before { HasSums before.now.account }
     requires moved { HasSums moved.now }
     ensures name { result.0 ≡ record { student = withdrawal.now.student; school = school; year = withdrawal.now.year; term = withdrawal.now.term } }
-    ensures row { result.1 ≡ record before.now { withdrawn_at = position; could = withdrawal.now.could; account = joined_of before.now.account moved.now } }
+    ensures row { result.1 ≡ record before.now { withdrawn_at = position; could = withdrawal.now.could; determined = withdrawal.now.determined; account = joined_of before.now.account moved.now } }
 {
     let row = PlaceRow {
         withdrawn_at: position,
         could: withdrawal.could,
+        determined: withdrawal.determined,
         account: before.account.joined(moved),
         ..*before
     };

@@ -35,6 +35,7 @@ pub fn school_year_after<P: HistoryView>(
             origination,
             before,
         )),
+        What::Cost(changed) => Some(with_changed_cost(school, changed, before)),
         What::Pay(amount) | What::Repay(amount) | What::Adjust(amount) => Some(with_moved(
             school,
             amount.student,
@@ -72,6 +73,22 @@ fn with_cost(
         school_year_name(school, origination.student, origination.year),
         row,
     )
+}
+
+// The year at the school with a changed cost of attendance.
+fn with_changed_cost(
+    school: School,
+    changed: &OriginateFacts,
+    before: &SchoolYearRow,
+) -> (StudentSchoolYear, SchoolYearRow)
+    ensures name { result.0 ≡ record { student = changed.now.student; school = school; year = changed.now.year } }
+    ensures row { result.1 ≡ record before.now { cost = changed.now.cost } }
+{
+    let row = SchoolYearRow {
+        cost: changed.cost,
+        ..*before
+    };
+    (school_year_name(school, changed.student, changed.year), row)
 }
 
 // The year at the school in which a filing moved money.

@@ -17,6 +17,7 @@ pub fn place_changed(filing: &Filing) -> Option<StudentPlace>
             Some(place_name(school, a.student, a.year, a.term))
         }
         What::Withdraw(w) => Some(place_name(school, w.student, w.year, w.term)),
+        What::Sent(s) => Some(place_name(school, s.student, s.year, s.term)),
         _ => None,
     }
 }
@@ -39,7 +40,7 @@ pub fn school_year_changed(filing: &Filing) -> Option<StudentSchoolYear>
 {
     let school = filing.key.school;
     match &filing.what {
-        What::Originate(o) => Some(school_year_name(school, o.student, o.year)),
+        What::Originate(o) | What::Cost(o) => { Some(school_year_name(school, o.student, o.year)) }
         What::Pay(a) | What::Repay(a) | What::Adjust(a) => {
             Some(school_year_name(school, a.student, a.year))
         }

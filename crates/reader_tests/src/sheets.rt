@@ -86,6 +86,35 @@ fn a_term_of_every_kind(rt: HostRuntime) -> Result<(), Fail> {
     )
 }
 
+// A return of which a part was sent back, and a changed cost.
+#[test]
+fn a_return_that_was_sent_back(rt: HostRuntime) -> Result<(), Fail> {
+    let alloc = rt.alloc();
+    let year = office(&rt, alloc, &[(YEAR_ROWS, YEAR_LINES), (SENT, ALL_NOTED)])?;
+    let image = year.image();
+    assert_sheet(&rt, alloc, image, "student 5001", 0, SENT_LEDGER)?;
+    assert_sheet(
+        &rt,
+        alloc,
+        image,
+        "upto 19 withdrawal 120 5001 2025 2",
+        0,
+        SENT_RETURN,
+    )?;
+    assert_sheet(
+        &rt,
+        alloc,
+        image,
+        "upto 18 withdrawal 120 5001 2025 2",
+        0,
+        RETURN,
+    )?;
+    assert_sheet(&rt, alloc, image, "upto 19 due 2026-03-22 120", 0, DUE)?;
+    assert_sheet(&rt, alloc, image, "upto 19 due 2026-03-23 120", 0, LATE)?;
+    assert_sheet(&rt, alloc, image, "due 2026-03-23 120", 0, "none\n")?;
+    assert_sheet(&rt, alloc, image, "returns 120 2025", 0, RETURNS)
+}
+
 #[test]
 fn other_formulas(rt: HostRuntime) -> Result<(), Fail> {
     let alloc = rt.alloc();
@@ -110,6 +139,10 @@ fn names_that_are_on_no_file(rt: HostRuntime) -> Result<(), Fail> {
         "withdrawal 120 5001 2025 1",
         "upto 16 withdrawal 120 5001 2025 2",
         "upto 7 need 5001 2025",
+        "due 2026-03-23 110",
+        "upto 16 due 2026-03-23 120",
+        "returns 110 2025",
+        "returns 120 2026",
         "upto 19 list",
         "upto 4294967295 list",
     ] {
@@ -137,6 +170,12 @@ fn words_and_files_that_are_none(rt: HostRuntime) -> Result<(), Fail> {
         "withdrawal 120 2025 2",
         "withdrawal 120 5001 2025 2 2",
         "withdrawal 5001 1000000000000 2025 2",
+        "due 120",
+        "due 120 2026-03-23",
+        "due 2026-02-30 120",
+        "due 2026-03-23 0",
+        "returns 120",
+        "returns 2025 120",
         "found",
     ] {
         assert_sheet(&rt, alloc, EMPTY, line, 2, "fault usage\n")?;
@@ -200,6 +239,79 @@ U grants the student returns                                                    
 \x20 still owed                         0.00       0.00       0.00       0.00       0.00       0.00       0.00\n\
 \x20 paid since                         0.00       0.00       0.00       0.00       0.00       0.00       0.00\n\
 \x20 net now                            0.00       0.00       0.00     646.26       0.00       0.00     646.26\n";
+
+// What was sent back of a return, and a changed cost.
+const SENT: &str = "\
+sent,120,11,5001,2025,2,pell,40.00,2026-03-20,4711\n\
+sent,120,12,5001,2025,2,pell,25.30,2026-03-25,4712\n\
+cost,110,8,5001,2025,26000\n";
+
+const ALL_NOTED: &str = "\
+1 18 accepted 19 noted\n\
+2 19 accepted 20 noted\n\
+3 20 accepted 21 noted\n";
+
+const SENT_LEDGER: &str = "\
+\x20      8 1970-01-01 -           110            3 2025 - apply     index A 5104 calculated 2290\n\
+\x20      9 1970-01-01 -           110            4 2025 1 enrol     12 credits\n\
+\x20     10 1970-01-01 -           110            5 2025 - originate 24000 dollars\n\
+\x20     11 1970-01-01 -           110            6 2025 1 pay       pell       1145.00      1145.00   50000\n\
+\x20     12 1970-01-01 -           110            7 2025 1 pay       unsub      1000.00      1000.00   50000\n\
+\x20     13 1970-01-01 -           120            3 2025 1 enrol     12 credits\n\
+\x20     14 1970-01-01 -           120            4 2025 - originate 21000 dollars\n\
+\x20     15 1970-01-01 -           120            6 2025 2 enrol     12 credits\n\
+\x20     16 1970-01-01 -           120            7 2025 2 pay       pell        763.00       763.00   83319\n\
+\x20     17 1970-01-01 -           120            8 2025 2 withdraw  returned 34.7 65.30 51.44 0.00\n\
+\x20     17 1970-01-01 -           120            8 2025 2 return    pell        -65.30       697.70   80467\n\
+\x20     18 1970-01-01 -           120            9 2025 2 repay     pell        -51.44       646.26   78221\n\
+\x20     19 1970-01-01 -           120           11 2025 2 sent      pell  40.00 2026-03-20 4711\n\
+\x20     20 1970-01-01 -           120           12 2025 2 sent      pell  25.30 2026-03-25 4712\n\
+\x20     21 1970-01-01 -           110            8 2025 - cost      26000 dollars\n\
+rows 15\n";
+
+// What of the return was open on the days around the one on which it was due, and what came of it.
+const DUE: &str = "\
+due,late,student,year,term,program,returned,sent,open,position,number\n\
+2026-03-22,0,5001,2025,2,pell,65.30,40.00,25.30,17,8\n";
+
+const LATE: &str = "\
+due,late,student,year,term,program,returned,sent,open,position,number\n\
+2026-03-22,1,5001,2025,2,pell,65.30,40.00,25.30,17,8\n";
+
+const RETURNS: &str = "\
+student,term,program,determined,due,returned,sent,last_sent,sent_late,open,owed,repaid,position,number\n\
+5001,2,pell,2026-02-05,2026-03-22,65.30,65.30,2026-03-25,25.30,0.00,51.44,51.44,17,8\n";
+
+const SENT_RETURN: &str = "\
+Return of funds: student 5001, school 120, award year 2025, term 2\n\
+withdrawal at 17, number 8: last day 2026-01-30, determined 2026-02-05, return due 2026-03-22\n\
+\x20                                   unsub        sub       plus       pell      fseog      teach        all\n\
+E disbursed, net                     0.00       0.00       0.00     763.00       0.00       0.00     763.00\n\
+\x20 could have been disbursed          0.00       0.00       0.00       0.00       0.00       0.00       0.00\n\
+G both                               0.00       0.00       0.00     763.00       0.00       0.00     763.00\n\
+\x20 days of the term                                                                                       75\n\
+\x20 days completed                                                                                         26\n\
+H percent earned                                                                                       34.7\n\
+I earned                                                                                             264.76\n\
+J post-withdrawal amount                                                                               0.00\n\
+K unearned                                                                                           498.24\n\
+L institutional charges                                                                              100.00\n\
+M percent unearned                                                                                     65.3\n\
+N unearned part of the charges                                                                        65.30\n\
+O the school returns                 0.00       0.00       0.00      65.30       0.00       0.00      65.30\n\
+Q laid on the student                0.00       0.00       0.00     432.94       0.00       0.00     432.94\n\
+R loans the student repays                                                                             0.00\n\
+S grants to return, at first                                                                         432.94\n\
+T half of both, of all grants                                                                        381.50\n\
+U grants the student returns                                                                          51.44\n\
+\x20 half of both, of grants            0.00       0.00       0.00     381.50       0.00       0.00     381.50\n\
+\x20 owed, program by program           0.00       0.00       0.00      51.44       0.00       0.00      51.44\n\
+\x20 repaid since                       0.00       0.00       0.00      51.44       0.00       0.00      51.44\n\
+\x20 still owed                         0.00       0.00       0.00       0.00       0.00       0.00       0.00\n\
+\x20 paid since                         0.00       0.00       0.00       0.00       0.00       0.00       0.00\n\
+\x20 net now                            0.00       0.00       0.00     646.26       0.00       0.00     646.26\n\
+\x20 sent back since                    0.00       0.00       0.00      40.00       0.00       0.00      40.00\n\
+\x20 still to send back                 0.00       0.00       0.00      25.30       0.00       0.00      25.30\n";
 
 const OWED_RETURN: &str = "\
 Return of funds: student 5001, school 120, award year 2025, term 2\n\

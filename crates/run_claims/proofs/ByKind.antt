@@ -6,16 +6,18 @@ use Rattle.aid_types.specs.declared.number.Key.{Key}
 use Rattle.aid_types.specs.declared.application.Application.{Application}
 use Rattle.aid_books.specs.declared.book.Book.{Book}
 use Rattle.aid_filings.specs.Calendars.{term_of}
+use Rattle.aid_filings.specs.declared.filing.AmendFacts.{AmendFacts}
 use Rattle.aid_filings.specs.declared.filing.Amount.{Amount}
 use Rattle.aid_filings.specs.declared.filing.CalendarFacts.{CalendarFacts}
 use Rattle.aid_filings.specs.declared.filing.EnrollFacts.{EnrollFacts}
 use Rattle.aid_filings.specs.declared.filing.OriginateFacts.{OriginateFacts}
 use Rattle.aid_filings.specs.declared.filing.PriorFacts.{PriorFacts}
 use Rattle.aid_filings.specs.declared.filing.SchoolFacts.{SchoolFacts}
+use Rattle.aid_filings.specs.declared.filing.SentFacts.{SentFacts}
 use Rattle.aid_filings.specs.declared.filing.WithdrawFacts.{WithdrawFacts}
 use Rattle.aid_filings.specs.declared.filing.Filing.{Filing}
 use Rattle.aid_filings.specs.declared.filing.What.{What}
-use Rattle.aid_filings.specs.declared.filing.What.TheVariants.{Book as BookFiled, School, Calendar, Prior, Apply, Enroll, Originate, Pay, Withdraw, Repay, Adjust}
+use Rattle.aid_filings.specs.declared.filing.What.TheVariants.{Book as BookFiled, School, Calendar, Prior, Apply, Enroll, Originate, Pay, Withdraw, Repay, Adjust, Cost, Sent, Amend}
 use Rattle.aid_types.specs.declared.award.Refusal.{Refusal}
 use Rattle.law_terms.specs.Terms.{intensity_of}
 use Rattle.law_terms.specs.Used.{use_of}
@@ -24,7 +26,7 @@ use Rattle.aid_types.specs.RuleLines.{told, too_early, lacks, over, only, stands
 use Rattle.law_rules.specs.Rules.{limit_of, rule_53, rule_62, rule_91, rule_21, rule_23, rule_24}
 use Rattle.office_history.specs.Award.{award_under, ceiling, ceiling_under, scheduled, unfit_under}
 use Rattle.office_history.specs.Net.{at_school_in_year, in_year, net, pell_main, pell_term, pell_year, used_else, cell_at, in_term, is_cell, paid_after, post}
-use Rattle.office_history.specs.Past.{application, at_school, book_in, cost, cost_in, credits, pell_payment_in, prior_in, school_in, term_in, terms_on_file, the_book, the_school, the_term, the_withdrawal, withdrawal_in}
+use Rattle.office_history.specs.Past.{application, at_school, book_in, cost, credits, originated_in, pell_payment_in, prior_in, school_in, term_in, terms_on_file, the_book, the_school, the_term, the_withdrawal, withdrawal_in}
 use Rattle.office_history.specs.Positions.{award_filed, book_at, full_of, if_fit, is_paid_beside, payment_at, term_over, could_of, cost_at, main_term_count, overlap_at, school_at, term_at, terms_of, transaction_of, withdrawn_at}
 use Rattle.office_history.specs.Rules.{rules_of}
 use Rattle.run_claims.proofs.SpelledLines.{past_cost, past_fseog, rule_58, rule_63, rule_93, pell_limits, rule_52}
@@ -66,7 +68,19 @@ prior_is past key p =
 originate_is : (past : List Filing) (key : Key) (o : OriginateFacts) → Same past key (Originate o)
 originate_is past key o =
     with_room past (and_four (known_school past key.school) (applied (application past o.student o.year))
-    (unanswered (at_school key.school (cost_in o.student o.year)) past) (and_last refl))
+    (unanswered (at_school key.school (originated_in o.student o.year)) past) (and_last refl))
+
+cost_is : (past : List Filing) (key : Key) (o : OriginateFacts) → Same past key (Cost o)
+cost_is past key o =
+    with_room past (and_four (known_school past key.school) (answered (at_school key.school (originated_in o.student o.year)) past) refl (and_last (within _ _)))
+
+sent_is : (past : List Filing) (key : Key) (s : SentFacts) → Same past key (Sent s)
+sent_is past key s =
+    with_room past (and_five (known_school past key.school) (answered (at_school key.school (withdrawal_in s.student s.year s.term)) past) refl
+    (within _ _) (and_last (within _ _)))
+
+amend_is : (past : List Filing) (key : Key) (a : AmendFacts) → Same past key (Amend a)
+amend_is past key a = with_room past (limit_or key.school (and_last (known_school past key.school)) ∙ sym (keep_only (nat_lt 0 key.school) (lacks 12 (school_at past key.school) key.school 0 ∷ [])))
 
 repay_is : (past : List Filing) (key : Key) (a : Amount) → Same past key (Repay a)
 repay_is past key a = with_room past (and_three (known_school past key.school) refl (and_last (within _ _)))
@@ -176,7 +190,7 @@ module _ (past : List Filing) (school student year term : ℕ) where
   aided_kept : (rule : ℕ) → may_be_aided past school student year term ≡ all_keep (aided_lines rule)
   aided_kept rule =
       and_five (known_school past school) (known_term past school year term) (applied (application past student year))
-      (answered (at_school school (cost_in student year)) past) (and_last refl)
+      (answered (at_school school (originated_in student year)) past) (and_last refl)
 
   -- where these lines are kept the term is on file
   aided_term : (rule : ℕ) → all_keep (aided_lines rule) ≡ true → is_some (the_term past school year term) ≡ true
@@ -307,3 +321,6 @@ kind_is past key (Pay a) coded = pay_is past key a coded
 kind_is past key (Withdraw w) coded = withdraw_is past key w
 kind_is past key (Repay a) coded = repay_is past key a
 kind_is past key (Adjust a) coded = adjust_is past key a
+kind_is past key (Cost o) coded = cost_is past key o
+kind_is past key (Sent s) coded = sent_is past key s
+kind_is past key (Amend a) coded = amend_is past key a

@@ -11,7 +11,7 @@ use Rattle.aid_filings.specs.declared.filing.Amount.{Amount}
 use Rattle.aid_filings.specs.declared.filing.CalendarFacts.{CalendarFacts}
 use Rattle.aid_filings.specs.declared.filing.Filing.{Filing}
 use Rattle.aid_filings.specs.declared.filing.What.{What}
-use Rattle.aid_filings.specs.declared.filing.What.TheVariants.{Book, School, Calendar, Prior, Apply, Enroll, Originate, Pay, Withdraw, Repay, Adjust}
+use Rattle.aid_filings.specs.declared.filing.What.TheVariants.{Book, School, Calendar, Prior, Apply, Enroll, Originate, Pay, Withdraw, Repay, Adjust, Cost, Sent, Amend}
 use Rattle.aid_filings.specs.declared.filing.WithdrawFacts.{WithdrawFacts}
 use Rattle.format_kinds.specs.Kinds.{amount_slots, calendar_slots, first_and_last, withdraw_slots, table_row_of}
 use Rattle.format_table.specs.Layout.{AreNumbers, rows, rows_again}
@@ -99,6 +99,10 @@ what_held (Pay x) earlier fit = amount_in_range x earlier fit
 what_held (Withdraw x) earlier fit = withdraw_held x earlier fit
 what_held (Repay x) earlier fit = amount_in_range x earlier fit
 what_held (Adjust x) earlier fit = amount_in_range x earlier fit
+what_held (Cost x) earlier fit = ((natural 1 999999999999 x.student fit.0, (natural 2000 2099 x.year fit.1.0, (tt, tt))), tt)
+what_held (Sent x) earlier fit =
+    ((natural 1 999999999999 x.student fit.0, (natural 2000 2099 x.year fit.1.0, (tt, (tt, (tt, (day_is x.day fit.1.1.1.1.1.0, (tt, tt))))))), tt)
+what_held (Amend x) earlier fit = ((natural 0 999999 x.of.school fit.0, (tt, (tt, (tt, (tt, tt))))), tt)
 
 amount_fits : (x : Amount) → AreInRange (written (Pay x)).2 → FitAnywhere amount_slots (amount_numbers x)
 amount_fits x are earlier = (
@@ -150,6 +154,35 @@ what_fits (Pay x) held earlier = amount_fits x held.0 earlier
 what_fits (Withdraw x) held earlier = withdraw_fits x held.0 held.1 earlier
 what_fits (Repay x) held earlier = amount_fits x held.0 earlier
 what_fits (Adjust x) held earlier = amount_fits x held.0 earlier
+what_fits (Cost x) held earlier =
+    (fits_natural 1 999999999999 x.student held.0.0, (fits_natural 2000 2099 x.year held.0.1.0, (is_natural_within 0 999999 x.cost (omega arith) x.in_range, tt)))
+what_fits (Sent x) held earlier =
+    let r = held.0 in (
+      fits_natural 1 999999999999 x.student r.0,
+      (
+        fits_natural 2000 2099 x.year r.1.0,
+        (
+          fits_natural 1 8 x.term x.in_range.0,
+          (
+            program_fits x.program,
+            (
+              is_natural_within 0 99999999 x.cents (omega arith) x.in_range.1,
+              (day_fits x.day r.1.1.1.1.1.0, (is_natural_within 0 999999999999 x.reference (omega arith) x.in_range.2, tt)),
+            ),
+          ),
+        ),
+      ),
+    )
+what_fits (Amend x) held earlier = (
+  fits_natural 0 999999 x.of.school held.0.0,
+  (
+    fits_natural 1 999999999999 x.of.number x.of.in_range,
+    (
+      fits_natural 1 3 x.change x.in_range.0,
+      (fits_natural 1 7 x.reason x.in_range.1, (is_natural_within 0 999999999999 x.reference (omega arith) x.in_range.2, tt)),
+    ),
+  ),
+)
 
 -- ---- the filing
 pub can_be_filed : (f : Filing) → IsFiling f → CanBeFiled f

@@ -4,7 +4,7 @@ use Rattle.std.specs.Prelude.{flat_map, map}
 use Rattle.aid_filings.specs.declared.filing.CalendarFacts.{CalendarFacts}
 use Rattle.aid_filings.specs.declared.filing.Filing.{Filing}
 use Rattle.aid_filings.specs.declared.filing.What.{What}
-use Rattle.aid_filings.specs.declared.filing.What.TheVariants.{Book, School, Calendar, Prior, Apply, Enroll, Originate, Pay, Withdraw, Repay, Adjust}
+use Rattle.aid_filings.specs.declared.filing.What.TheVariants.{Book, School, Calendar, Prior, Apply, Enroll, Originate, Pay, Withdraw, Repay, Adjust, Cost, Sent, Amend}
 use Rattle.aid_filings.specs.declared.filing.WithdrawFacts.{WithdrawFacts}
 use Rattle.format_table.specs.Spelling.{numbers_bytes}
 use Rattle.format_bytes.specs.Spelling.{spelling}
@@ -55,6 +55,9 @@ facts_kept (Pay x) h = refl
 facts_kept (Withdraw x) h = withdraw_kept x h
 facts_kept (Repay x) h = refl
 facts_kept (Adjust x) h = refl
+facts_kept (Cost x) h = refl
+facts_kept (Sent x) h = refl
+facts_kept (Amend x) h = refl
 
 code_written : (what : What) → (written what).0 ≡ code_of (kind_of what)
 unfolding table_row_of
@@ -69,6 +72,9 @@ code_written (Pay x) = refl
 code_written (Withdraw x) = refl
 code_written (Repay x) = refl
 code_written (Adjust x) = refl
+code_written (Cost x) = refl
+code_written (Sent x) = refl
+code_written (Amend x) = refl
 
 pub kept_is_spelling : (f : Filing) → CanBeFiled f → kept_bytes f ≡ spelling f
 kept_is_spelling f can =

@@ -10,7 +10,7 @@ use Rattle.std.proofs.lemmas.Slice.Eq.{bytes_eq-Decides}
 use Rattle.aid_types.specs.declared.text.Malformed.{Malformed}
 use Rattle.aid_filings.specs.declared.filing.Filing.{Filing}
 use Rattle.aid_filings.specs.declared.filing.What.{What}
-use Rattle.aid_filings.specs.declared.filing.What.TheVariants.{Book, School, Calendar, Prior, Apply, Enroll, Originate, Pay, Withdraw, Repay, Adjust}
+use Rattle.aid_filings.specs.declared.filing.What.TheVariants.{Book, School, Calendar, Prior, Apply, Enroll, Originate, Pay, Withdraw, Repay, Adjust, Cost, Sent, Amend}
 use Rattle.csv.specs.Records.{field_at}
 use Rattle.format_filings.proofs.RowsLemmas.{of_kind, read-are, right_count, with_kind}
 use Rattle.format_rows.specs.Fields.{are_as_many, count_within, fields_counted, go_on, number_in}
@@ -293,6 +293,9 @@ values (Pay x) has = refl
 values (Withdraw x) has = ap (λ (zs : List ℤ). pos x.student ∷ pos x.year ∷ pos x.term ∷ day_number x.last ∷ day_number x.determined ∷ pos x.charges ∷ zs) (money_numbers x.could)
 values (Repay x) has = refl
 values (Adjust x) has = refl
+values (Cost x) has = refl
+values (Sent x) has = refl
+values (Amend x) has = refl
 
 -- each number stands in its field
 breaks_taken : (breaks : List (ℕ × ℕ)) → take_all (rows_again (length breaks) first_and_last) (flat_map (λ days. day days.0 ∷ day days.1 ∷ []) breaks) ≡ true
@@ -321,6 +324,9 @@ taken (Pay x) lists has = refl
 taken (Withdraw x) lists has = could_taken x.could lists
 taken (Repay x) lists has = refl
 taken (Adjust x) lists has = refl
+taken (Cost x) lists has = refl
+taken (Sent x) lists has = refl
+taken (Amend x) lists has = refl
 
 name_is : (what : What) → (written what).1 ≡ name_of (kind_of what)
 unfolding table_row_of
@@ -335,6 +341,9 @@ name_is (Pay x) = refl
 name_is (Withdraw x) = refl
 name_is (Repay x) = refl
 name_is (Adjust x) = refl
+name_is (Cost x) = refl
+name_is (Sent x) = refl
+name_is (Amend x) = refl
 
 -- a filing has a row unless it is a book
 has_row : (what : What) → has_rows (kind_of what) ≡ true → 1 < (written what).0
@@ -349,6 +358,9 @@ has_row (Pay x) h = omega arith
 has_row (Withdraw x) h = omega arith
 has_row (Repay x) h = omega arith
 has_row (Adjust x) h = omega arith
+has_row (Cost x) h = omega arith
+has_row (Sent x) h = omega arith
+has_row (Amend x) h = omega arith
 
 is_row : (what : What) → 1 < (written what).0 → has_rows (kind_of what) ≡ true
 is_row (Book x) h = absurd (omega arith)
@@ -362,6 +374,9 @@ is_row (Pay x) h = refl
 is_row (Withdraw x) h = refl
 is_row (Repay x) h = refl
 is_row (Adjust x) h = refl
+is_row (Cost x) h = refl
+is_row (Sent x) h = refl
+is_row (Amend x) h = refl
 
 all_values : (f : Filing) → 1 < (written f.what).0 → map value (plain_numbers f) ≡ numbers_of f
 all_values f has = ap (λ (zs : List ℤ). pos f.key.school ∷ pos f.key.number ∷ zs) (values f.what has)
@@ -439,6 +454,9 @@ its_name kinds_are.Pay = refl
 its_name kinds_are.Withdraw = refl
 its_name kinds_are.Repay = refl
 its_name kinds_are.Adjust = refl
+its_name kinds_are.Cost = refl
+its_name kinds_are.Sent = refl
+its_name kinds_are.Amend = refl
 
 -- ---- the laws
 row_filed : (number : ℕ) (row : Texts) (f : Filing) → CanBeFiled f → row_meaning number row ≡ Ok (kind_of f.what, numbers_of f) → Files row f

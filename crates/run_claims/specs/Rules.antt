@@ -11,7 +11,7 @@ use Rattle.aid_books.specs.declared.book.Book.{Book}
 use Rattle.aid_filings.specs.Calendars.{term_of}
 use Rattle.aid_filings.specs.declared.filing.Filing.{Filing}
 use Rattle.aid_filings.specs.declared.filing.What.{What}
-use Rattle.aid_filings.specs.declared.filing.What.TheVariants.{Book as BookFiled, School, Calendar, Prior, Apply, Enroll, Originate, Pay, Withdraw, Repay, Adjust}
+use Rattle.aid_filings.specs.declared.filing.What.TheVariants.{Book as BookFiled, School, Calendar, Prior, Apply, Enroll, Originate, Pay, Withdraw, Repay, Adjust, Cost, Sent, Amend}
 use Rattle.aid_filings.specs.declared.filing.WithdrawFacts.{WithdrawFacts}
 use Rattle.law_terms.specs.Terms.{intensity_of, shares_day}
 use Rattle.law_rules.specs.Rules.{limit_of}
@@ -19,9 +19,9 @@ use Rattle.law_terms.specs.Used.{use_of}
 use Rattle.law_sai.specs.Fits.{is_size, size_for}
 use Rattle.law_sai.specs.Formulas.{formula}
 use Rattle.office_history.specs.Award.{award_under, scheduled}
-use Rattle.office_history.specs.Net.{at_school_in_year, cell_at, cell_of, in_term, in_year, is_cell, net, net_at, owed, paid_after, pell_main, pell_term, pell_year, post, repaid, used_else}
-use Rattle.office_history.specs.Past.{application, at_school, cost, cost_in, credits, earliest, is_higher, pell_payment_in, prior_in, terms_on_file, the_book, the_school, the_term, the_withdrawal}
-use Rattle.office_history.specs.Positions.{full_of, is_over, is_paid_beside, payment_at, payment_for, terms_of}
+use Rattle.office_history.specs.Net.{at_school_in_year, cell_at, cell_of, in_term, in_year, is_cell, net, net_at, owed, paid_after, pell_main, pell_term, pell_year, post, repaid, returned, sent, sent_cell, used_else}
+use Rattle.office_history.specs.Past.{application, at_school, cost, credits, earliest, is_higher, originated_in, pell_payment_in, prior_in, terms_on_file, the_book, the_school, the_term, the_withdrawal}
+use Rattle.office_history.specs.Positions.{determined_of, full_of, is_over, is_paid_beside, payment_at, payment_for, terms_of}
 use Rattle.aid_types.specs.Limits.{fseog_limit, is_fseog, is_pell, most_filings, most_units}
 
 -- 21: breaks in order: each comes after a day, its last day not before its first
@@ -66,11 +66,11 @@ module _ (past : List Filing) (school student year term : ℕ) where
       nat_le (paid_after past (is_cell (cell_at school student year term program)) + cents) (slice_index w.could program)
       && nat_le (paid_after past (in_term school student year term) + cents) (post past (in_term school student year term))
 
-  -- 12, 30, 31, 50, 51, 60: the school, the term, an application, a cost of attendance and credits are on file
+  -- 12, 30, 31, 50, 51, 60: the school, the term, an application, an origination and credits are on file
   abbrev pub may_be_aided : Bool
   may_be_aided =
       is_some (the_school past school) && is_some (the_term past school year term) && is_some (application past student year)
-      && is_some (earliest (at_school school (cost_in student year)) past) && not (credits past school student year term == 0)
+      && is_some (earliest (at_school school (originated_in student year)) past) && not (credits past school student year term == 0)
 
 -- 93: what was paid is within the limits of another award (own)
 abbrev pub keeps_award : List Filing → ℕ → ℕ → ℕ → Bool
@@ -98,7 +98,7 @@ may_file past key (Enroll e) =
     && nat_le (pell_term past key.school e.student e.year e.term) (payment_for past (scheduled past e.student e.year) key.school e.credits)
 may_file past key (Originate o) =
     is_some (the_school past key.school) && is_some (application past o.student o.year)
-    && is_none (earliest (at_school key.school (cost_in o.student o.year)) past) && not (o.cost == 0)
+    && is_none (earliest (at_school key.school (originated_in o.student o.year)) past) && not (o.cost == 0)
 may_file past key (Pay a) =
     let pell = is_pell (rank a.program) in
     may_be_aided past key.school a.student a.year a.term && not (a.cents == 0)
@@ -115,6 +115,14 @@ may_file past key (Repay a) =
 may_file past key (Adjust a) =
     is_some (the_school past key.school) && is_some (the_term past key.school a.year a.term) && not (a.cents == 0)
     && is_none (the_withdrawal past key.school a.student a.year a.term) && nat_le a.cents (net_at past (cell_of key a))
+may_file past key (Cost o) =
+    is_some (the_school past key.school) && is_some (earliest (at_school key.school (originated_in o.student o.year)) past)
+    && not (o.cost == 0) && nat_le (net past (at_school_in_year key.school o.student o.year)) (100 * o.cost)
+may_file past key (Sent s) =
+    is_some (the_school past key.school) && is_some (the_withdrawal past key.school s.student s.year s.term) && not (s.cents == 0)
+    && nat_le (determined_of (the_withdrawal past key.school s.student s.year s.term)) s.day
+    && nat_le (sent past (is_cell (sent_cell key s)) + s.cents) (returned past (is_cell (sent_cell key s)))
+may_file past key (Amend a) = key.school == 0 || is_some (the_school past key.school)
 
 -- 90: the office isn't full, and what is filed may be
 abbrev pub may_follow : List Filing → Filing → Bool

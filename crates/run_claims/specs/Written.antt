@@ -16,7 +16,7 @@ use Rattle.aid_books.specs.declared.book.Book.{Book}
 use Rattle.aid_filings.specs.declared.filing.Amount.{Amount}
 use Rattle.aid_filings.specs.declared.filing.Filing.{Filing}
 use Rattle.aid_filings.specs.declared.filing.What.{What}
-use Rattle.aid_filings.specs.declared.filing.What.TheVariants.{Book as BookFiled, School, Calendar, Prior, Apply, Enroll, Originate, Pay, Withdraw, Repay, Adjust}
+use Rattle.aid_filings.specs.declared.filing.What.TheVariants.{Book as BookFiled, School, Calendar, Prior, Apply, Enroll, Originate, Pay, Withdraw, Repay, Adjust, Cost, Sent, Amend}
 use Rattle.format_kinds.specs.Book.{age_row, bracket_row, ceiling_numbers, form_number, size_numbers}
 use Rattle.law_terms.specs.DayText.{date_text}
 use Rattle.format_kinds.specs.Kinds.{words_of_programs}
@@ -120,6 +120,11 @@ written (Withdraw x) =
     (9, codes "withdraw", student x.student ∷ year x.year ∷ whole 1 (pos x.term) ∷ day x.last ∷ day x.determined ∷ map money (x.charges ∷ x.could))
 written (Repay x) = (10, codes "repay", amount_numbers x)
 written (Adjust x) = (11, codes "adjust", amount_numbers x)
+written (Cost x) = (12, codes "cost", student x.student ∷ year x.year ∷ whole 4 (pos x.cost) ∷ [])
+written (Sent x) =
+    (13, codes "sent", student x.student ∷ year x.year ∷ whole 1 (pos x.term) ∷ word x.program ∷ money x.cents ∷ day x.day ∷ whole 8 (pos x.reference) ∷ [])
+written (Amend x) =
+    (14, codes "amend", ranged 4 0 999999 x.of.school ∷ whole 8 (pos x.of.number) ∷ whole 1 (pos x.change) ∷ whole 1 (pos x.reason) ∷ whole 8 (pos x.reference) ∷ [])
 
 -- all numbers of a filing, those of its key first
 abbrev pub numbers_of : Filing → List Number

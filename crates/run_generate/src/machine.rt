@@ -168,20 +168,20 @@ impl<R: StateMachine<Entry = Filing, Operation = Operation, Response = Response>
         self.office.admit(filing, ruling);
     }
 
-    fn put(filing: &Filing, room: &mut PayloadBuffer) {
-        R::put(filing, room);
+    fn encode(filing: &Filing, room: &mut PayloadBuffer) {
+        R::encode(filing, room);
     }
 
     fn encode_expected(operation: &YearOperation, room: &mut PayloadBuffer) {
         match operation {
-            YearOperation::File(filing) => R::put(filing, room),
+            YearOperation::File(filing) => R::encode(filing, room),
             // What it pays is known once it is judged.
             YearOperation::PayQuote(_) => room.clear(),
         }
     }
 
-    fn take(alloc: Global, bytes: &[u8]) -> Result<Filing, DecodeError> {
-        R::take(alloc, bytes)
+    fn decode(alloc: Global, bytes: &[u8]) -> Result<Filing, DecodeError> {
+        R::decode(alloc, bytes)
     }
 }
 

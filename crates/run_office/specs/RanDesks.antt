@@ -34,7 +34,7 @@ View = DeskView (StampedEntry Filing) (StampedRows DeskRows)
 abbrev pub left_of : StampedRows DeskRows → List (Result (Option (Kind × List ℤ)) RowError × Stamp)
 left_of r = stamped_rows r.stamp (map asked r.rows.rows)
 
--- how rows of ten kinds are read, each under a stamp
+-- how rows of all kinds but books are read, each under a stamp
 abbrev pub forms_under : Stamp → StampedRowFormat DeskRowFormat
 forms_under stamp = record { forms = record {}; stamp = stamp }
 

@@ -26,6 +26,9 @@ fn copy_what(what: &What) -> Option<What>
         What::Withdraw(facts) => Some(What::Withdraw(*facts)),
         What::Repay(amount) => Some(What::Repay(*amount)),
         What::Adjust(amount) => Some(What::Adjust(*amount)),
+        What::Cost(facts) => Some(What::Cost(*facts)),
+        What::Sent(facts) => Some(What::Sent(*facts)),
+        What::Amend(facts) => Some(What::Amend(*facts)),
     }
 }
 

@@ -47,6 +47,8 @@ usage: aid_office sheet JOURNAL list
        aid_office sheet JOURNAL quotes SCHOOL YEAR TERM
        aid_office sheet JOURNAL payments SCHOOL YEAR TERM
        aid_office sheet JOURNAL withdrawal SCHOOL STUDENT YEAR TERM
+       aid_office sheet JOURNAL due DAY SCHOOL
+       aid_office sheet JOURNAL returns SCHOOL YEAR
        aid_office sheet JOURNAL report .. (the reports of aid_office)
        aid_office sheet JOURNAL upto POSITION .. (any of these, of the first so many filings)";
 

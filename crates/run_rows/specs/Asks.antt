@@ -33,7 +33,7 @@ abbrev pub asked : {E : Type 0} → Result (Kind × List ℤ) E → Result (Opti
 asked (Ok meaning) = Ok (Some meaning)
 asked (Err e) = Err e
 
--- ---- rows of ten kinds
+-- ---- rows of all kinds but books
 abbrev pub desk_texts : Texts Operation Response RowError
 desk_texts = record {
   Meaning = Result (Option (Kind × List ℤ)) RowError;

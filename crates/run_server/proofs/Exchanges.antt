@@ -73,6 +73,11 @@ line NotImplemented = codes "501 Not Implemented"
 line Unavailable = codes "503 Service Unavailable"
 line NoStorage = codes "507 Insufficient Storage"
 
+-- the statuses of these answers
+abbrev pub statuses_of : List Answer → List (List ℕ)
+statuses_of [] = []
+statuses_of (answer ∷ answers) = line answer.status ∷ statuses_of answers
+
 -- a code in digits, before its phrase
 line_by : (code : ℕ) (phrase : List ℕ) → code < 10 ^ 64 → codes "HTTP/1.1 " ++ (decimal code ++ phrase) ≡ codes "HTTP/1.1 " ++ (natural_text code ++ phrase)
 line_by code phrase few = ap (λ (l : List ℕ). codes "HTTP/1.1 " ++ (l ++ phrase)) (decimal-natural_text code few)
@@ -395,48 +400,53 @@ module _ (stamp : Stamp) (closed : List (StampedEntry Filing)) (legal : IsLegal 
   abbrev AreAnswered : List Request → List Answer → Type 0
   AreAnswered requests answers = AreAnswersTo (semantics_under stamp filing_semantics) (own_under stamp filing_asked) office_web by closed mine requests answers
 
-  -- the text is an exchange of the bytes
-  abbrev IsExchanged : List ℕ → List ℕ → Type 0
-  IsExchanged bytes text = Exchanged stamp closed bytes text
+  -- the text is an exchange of the bytes, with replies of these statuses
+  abbrev IsExchanged : List ℕ → List ℕ → List (List ℕ) → Type 0
+  IsExchanged bytes text statuses = Exchanged stamp closed bytes text statuses
 
-  nothing : (bytes : List ℕ) → IsExchanged bytes []
+  nothing : (bytes : List ℕ) → IsExchanged bytes [] []
   nothing bytes = rejected bytes (line BadRequest) [] [] _ is_bad refl
 
   replied : (bytes : List ℕ) (s : Sized) (answer : Answer) → (is : IsCome bytes s) → IsAnswerTo (semantics_under stamp filing_semantics) (own_under stamp filing_asked) office_web by closed mine (refusal_of s.request.head.call) (asked_in s.request) answer
       → Replied stamp closed is.head s.request.body (line answer.status) answer.text
   replied bytes s answer is of = of_answer s.request is.head is.begins.reads.0.target_text is.call (asked_in s.request) answer refl of
 
-  first_exchanged : (bytes : List ℕ) (s : Sized) (answer : Answer) (text : List ℕ) → Tells bytes (whole s) → IsAnswerTo (semantics_under stamp filing_semantics) (own_under stamp filing_asked) office_web by closed mine (refusal_of s.request.head.call) (asked_in s.request) answer
-      → IsExchanged (drop s.size bytes) text → IsExchanged bytes (response_to s.request answer ++ text)
-  first_exchanged bytes s answer text tells of rest =
+  first_exchanged : (bytes : List ℕ) (s : Sized) (answer : Answer) (text : List ℕ) (statuses : List (List ℕ)) → Tells bytes (whole s) → IsAnswerTo (semantics_under stamp filing_semantics) (own_under stamp filing_asked) office_web by closed mine (refusal_of s.request.head.call) (asked_in s.request) answer
+      → IsExchanged (drop s.size bytes) text statuses → IsExchanged bytes (response_to s.request answer ++ text) (line answer.status ∷ statuses)
+  first_exchanged bytes s answer text statuses tells of rest =
       let is = come_whole bytes s tells in
-      subst (λ (l : List ℕ). IsExchanged bytes (l ++ text)) (sym (response_is answer.status s.request.head.closes answer.text))
-      (answered bytes is.head s.request.body (drop s.size bytes) (line answer.status) answer.text text s.request.head.closes is.begins (replied bytes s answer is of) rest)
+      subst (λ (l : List ℕ). IsExchanged bytes (l ++ text) (line answer.status ∷ statuses)) (sym (response_is answer.status s.request.head.closes answer.text))
+      (answered bytes is.head s.request.body (drop s.size bytes) (line answer.status) answer.text text s.request.head.closes statuses is.begins (replied bytes s answer is of) rest)
 
-  rejection : (bytes out : List ℕ) (status : Status) → Tells bytes (bad status) → IsPrefix out (rejection_of status) → IsExchanged bytes out
+  rejection : (bytes out : List ℕ) (status : Status) → Tells bytes (bad status) → IsPrefix out (rejection_of status) → IsExchanged bytes out []
   rejection bytes out status tells (rest, is) =
       rejected bytes (line status) (failure_of status).text out rest (known bytes (bad status) tells) (sym is ∙ response_is status true (failure_of status).text)
 
   -- all requests of the bytes were answered
   of_begins : (n : ℕ) (bytes : List ℕ) (first : List Request) (m : ℕ) (rest : List ℕ) → Begins n bytes first m rest → (last : List Request) (tail : List ℕ)
-      → ((answers : List Answer) → AreAnswered last answers → IsExchanged rest (responses last answers ++ tail)) → (answers : List Answer) → AreAnswered (first ++ last) answers → IsExchanged bytes (responses (first ++ last) answers ++ tail)
+      → ((answers : List Answer) → AreAnswered last answers → IsExchanged rest (responses last answers ++ tail) (statuses_of answers))
+      → (answers : List Answer) → AreAnswered (first ++ last) answers → IsExchanged bytes (responses (first ++ last) answers ++ tail) (statuses_of answers)
   of_begins n bytes [] m rest (none _ _) last tail behind answers all = behind answers all
   of_begins (suc n) bytes _ m rest (goes _ _ s rs _ _ tells still begins) last tail behind [] all = absurd all
   of_begins (suc n) bytes _ m rest (goes _ _ s rs _ _ tells still begins) last tail behind (answer ∷ answers) all =
-      subst (IsExchanged bytes) (sym (append_assoc (response_to s.request answer) (responses (rs ++ last) answers) tail))
-      (first_exchanged bytes s answer (responses (rs ++ last) answers ++ tail) tells all.0 (of_begins n (drop s.size bytes) rs m rest begins last tail behind answers all.1))
+      subst (λ (l : List ℕ). IsExchanged bytes l (statuses_of (answer ∷ answers))) (sym (append_assoc (response_to s.request answer) (responses (rs ++ last) answers) tail))
+      (first_exchanged bytes s answer (responses (rs ++ last) answers ++ tail) (statuses_of answers) tells all.0 (of_begins n (drop s.size bytes) rs m rest begins last tail behind answers all.1))
 
-  of_finish : (n : ℕ) (bytes : List ℕ) (last : List Request) (ending : Ending) → Finishes n bytes last ending → (answers : List Answer) → AreAnswered last answers → IsExchanged bytes (responses last answers ++ ending.text)
-  of_finish zero bytes _ _ (full _) answers all = nothing bytes
-  of_finish (suc n) bytes _ _ (over _ _ tells) answers all = nothing bytes
-  of_finish (suc n) bytes _ _ (turned_away _ _ status tells) answers all = rejection bytes (rejection_of status) status tells ([], sym (append-nil (rejection_of status)))
+  of_finish : (n : ℕ) (bytes : List ℕ) (last : List Request) (ending : Ending) → Finishes n bytes last ending → (answers : List Answer) → AreAnswered last answers → IsExchanged bytes (responses last answers ++ ending.text) (statuses_of answers)
+  of_finish zero bytes _ _ (full _) [] all = nothing bytes
+  of_finish zero bytes _ _ (full _) (answer ∷ answers) all = absurd all
+  of_finish (suc n) bytes _ _ (over _ _ tells) [] all = nothing bytes
+  of_finish (suc n) bytes _ _ (over _ _ tells) (answer ∷ answers) all = absurd all
+  of_finish (suc n) bytes _ _ (turned_away _ _ status tells) (answer ∷ answers) all = absurd all
+  of_finish (suc n) bytes _ _ (turned_away _ _ status tells) [] all = rejection bytes (rejection_of status) status tells ([], sym (append-nil (rejection_of status)))
   of_finish (suc n) bytes _ _ (closing _ _ s tells closes) [] all = absurd all
-  of_finish (suc n) bytes _ _ (closing _ _ s tells closes) (answer ∷ answers) all =
-      subst (IsExchanged bytes) (sym (append_assoc (response_to s.request answer) [] [])) (first_exchanged bytes s answer [] tells all.0 (nothing (drop s.size bytes)))
+  of_finish (suc n) bytes _ _ (closing _ _ s tells closes) (answer ∷ b ∷ answers) all = absurd all.1
+  of_finish (suc n) bytes _ _ (closing _ _ s tells closes) (answer ∷ []) all =
+      subst (λ (l : List ℕ). IsExchanged bytes l (line answer.status ∷ [])) (sym (append_assoc (response_to s.request answer) [] [])) (first_exchanged bytes s answer [] [] tells all.0 (nothing (drop s.size bytes)))
 
   -- some of them were, and the session stopped
-  of_stop : (bytes out : List ℕ) (last : List Request) (reply : List Answer) (n : ℕ) → StopsAt bytes out last reply n → AreAnswered last reply → IsExchanged bytes out
-  of_stop bytes out _ _ n (silent _ empty) all = subst (IsExchanged bytes) (sym empty) (nothing bytes)
+  of_stop : (bytes out : List ℕ) (last : List Request) (reply : List Answer) (n : ℕ) → StopsAt bytes out last reply n → AreAnswered last reply → IsExchanged bytes out (statuses_of reply)
+  of_stop bytes out _ _ n (silent _ empty) all = subst (λ (l : List ℕ). IsExchanged bytes l []) (sym empty) (nothing bytes)
   of_stop bytes out _ _ (suc n) (answering _ s answer tells (rest, is)) all =
       let is_come = come_whole bytes s tells in
       stopped bytes is_come.head s.request.body (drop s.size bytes) (line answer.status) answer.text out rest s.request.head.closes is_come.begins (replied bytes s answer is_come all.0)
@@ -444,13 +454,13 @@ module _ (stamp : Stamp) (closed : List (StampedEntry Filing)) (legal : IsLegal 
   of_stop bytes out _ _ (suc n) (rejecting _ status tells front) all = rejection bytes out status tells front
 
   of_part : (n : ℕ) (bytes : List ℕ) (first : List Request) (m : ℕ) (rest : List ℕ) → Begins n bytes first m rest → (last : List Request) (replies reply : List Answer) (out : List ℕ) → length replies ≡ length first
-      → AreAnswered (first ++ last) (replies ++ reply) → (AreAnswered last reply → IsExchanged rest out) → IsExchanged bytes (responses first replies ++ out)
+      → AreAnswered (first ++ last) (replies ++ reply) → (AreAnswered last reply → IsExchanged rest out (statuses_of reply)) → IsExchanged bytes (responses first replies ++ out) (statuses_of (replies ++ reply))
   of_part n bytes [] m rest (none _ _) last [] reply out same all behind = behind all
   of_part n bytes [] m rest (none _ _) last (answer ∷ replies) reply out same all behind = absurd (omega (arith, same))
   of_part (suc n) bytes _ m rest (goes _ _ s rs _ _ tells still begins) last [] reply out same all behind = absurd (omega (arith, same))
   of_part (suc n) bytes _ m rest (goes _ _ s rs _ _ tells still begins) last (answer ∷ replies) reply out same all behind =
-      subst (IsExchanged bytes) (sym (append_assoc (response_to s.request answer) (responses rs replies) out))
-      (first_exchanged bytes s answer (responses rs replies ++ out) tells all.0 (of_part n (drop s.size bytes) rs m rest begins last replies reply out (omega (arith, same)) all.1 behind))
+      subst (λ (l : List ℕ). IsExchanged bytes l (line answer.status ∷ statuses_of (replies ++ reply))) (sym (append_assoc (response_to s.request answer) (responses rs replies) out))
+      (first_exchanged bytes s answer (responses rs replies ++ out) (statuses_of (replies ++ reply)) tells all.0 (of_part n (drop s.size bytes) rs m rest begins last replies reply out (omega (arith, same)) all.1 behind))
 
   as_many : (requests : List Request) (answers : List Answer) → AreAnswered requests answers → length answers ≡ length requests
   as_many [] [] all = refl
@@ -463,7 +473,7 @@ module _ (stamp : Stamp) (closed : List (StampedEntry Filing)) (legal : IsLegal 
   stop_size bytes out _ _ (suc n) (answering _ s answer tells front) = refl
   stop_size bytes out _ _ (suc n) (rejecting _ status tells front) = refl
 
-  part_exchanged : (bytes text : List ℕ) (done : List Request) (answers : List Answer) → IsPart bytes text done answers → AreAnswered done answers → IsExchanged bytes text
+  part_exchanged : (bytes text : List ℕ) (done : List Request) (answers : List Answer) → IsPart bytes text done answers → AreAnswered done answers → IsExchanged bytes text (statuses_of answers)
   part_exchanged bytes text done answers p all =
       let sizes : length p.replies ≡ length p.first = omega (
         arith,
@@ -474,17 +484,18 @@ module _ (stamp : Stamp) (closed : List (StampedEntry Filing)) (legal : IsLegal 
         length-append p.replies p.reply,
         stop_size p.rest p.out p.last p.reply p.left p.stops,
       ) in
-      subst (IsExchanged bytes) (sym p.text_is)
+      subst (λ (l : List ℕ). IsExchanged bytes l (statuses_of answers)) (sym p.text_is)
+      (subst (λ (l : List Answer). IsExchanged bytes (responses p.first p.replies ++ p.out) (statuses_of l)) (sym p.answers_is)
       (of_part 10000 bytes p.first p.left p.rest p.begins p.last p.replies p.reply p.out sizes
-      (subst (λ (l : List Request). AreAnswered l (p.replies ++ p.reply)) p.done_is (subst (AreAnswered done) p.answers_is all)) (λ last. of_stop p.rest p.out p.last p.reply p.left p.stops last))
+      (subst (λ (l : List Request). AreAnswered l (p.replies ++ p.reply)) p.done_is (subst (AreAnswered done) p.answers_is all)) (λ last. of_stop p.rest p.out p.last p.reply p.left p.stops last)))
 
-  whole_exchanged : (bytes text : List ℕ) (done : List Request) (answers : List Answer) (way : End) → IsWhole bytes text done answers way → AreAnswered done answers → IsExchanged bytes text
+  whole_exchanged : (bytes text : List ℕ) (done : List Request) (answers : List Answer) (way : End) → IsWhole bytes text done answers way → AreAnswered done answers → IsExchanged bytes text (statuses_of answers)
   whole_exchanged bytes text done answers way w all =
       let b = w.brings in
-      subst (IsExchanged bytes) (sym (w.text_is ∙ ap (λ (l : List Request). responses l answers ++ w.ending.text) b.all))
+      subst (λ (l : List ℕ). IsExchanged bytes l (statuses_of answers)) (sym (w.text_is ∙ ap (λ (l : List Request). responses l answers ++ w.ending.text) b.all))
       (of_begins 10000 bytes b.done b.left b.rest b.begins b.last w.ending.text (λ more all. of_finish b.left b.rest b.last w.ending b.finishes more all) answers (subst (λ (l : List Request). AreAnswered l answers) b.all all))
 
-  text_exchanged : (bytes text : List ℕ) (done : List Request) (answers : List Answer) (end : End) → IsTextOf bytes text done answers end → AreAnswered done answers → IsExchanged bytes text
+  text_exchanged : (bytes text : List ℕ) (done : List Request) (answers : List Answer) (end : End) → IsTextOf bytes text done answers end → AreAnswered done answers → IsExchanged bytes text (statuses_of answers)
   text_exchanged bytes text done answers ConnectionFault t all = part_exchanged bytes text done answers t all
   text_exchanged bytes text done answers NoMemory t all = part_exchanged bytes text done answers t all
   text_exchanged bytes text done answers Closed t all = whole_exchanged bytes text done answers Closed t all
@@ -492,5 +503,5 @@ module _ (stamp : Stamp) (closed : List (StampedEntry Filing)) (legal : IsLegal 
   text_exchanged bytes text done answers Rejected t all = whole_exchanged bytes text done answers Rejected t all
   text_exchanged bytes text done answers Limit t all = whole_exchanged bytes text done answers Limit t all
 
-  pub session_exchanged : (s : Session (StampedEntry Filing)) → IsToldOf (semantics_under stamp filing_semantics) (own_under stamp filing_asked) office_web closed mine by s → IsExchanged s.bytes s.text
+  pub session_exchanged : (s : Session (StampedEntry Filing)) → (told : IsToldOf (semantics_under stamp filing_semantics) (own_under stamp filing_asked) office_web closed mine by s) → IsExchanged s.bytes s.text (statuses_of told.answers)
   session_exchanged s told = text_exchanged s.bytes s.text told.done told.answers s.end told.text told.each

@@ -1,8 +1,9 @@
 -- What a run of the server comes to, in few words.
-use Rattle.std.proofs.Common.{◌≡◌, ◌⊎◌, inl, inr, ⊎_elim, ℕ, suc, ◌+◌, ◌<◌, ◌≤◌, IsTrue, List, [], ◌∷◌, ◌++◌, Option, Some, None, length, map, get_or, refl, sym, ap, ◌∙◌, subst, arith, append-nil, length-append}
+use Rattle.std.proofs.Common.{◌≡◌, ◌⊎◌, inl, inr, ⊎_elim, ℕ, zero, suc, ◌+◌, ◌<◌, ◌≤◌, IsTrue, List, [], ◌∷◌, ◌++◌, Option, Some, None, length, map, get_or, refl, sym, ap, ap₂, ◌∙◌, subst, arith, append-nil, length-append, zero-lt-suc}
 use Rattle.std.proofs.lemmas.List.{length-map}
 use Rattle.std.specs.Prelude.{Contains, option_map}
-use Rattle.std.specs.List.{All, flat_map}
+use Rattle.std.specs.List.{All, flat_map, sum_by}
+use Rattle.std.proofs.lemmas.List.Sums.{sum_by-cons}
 use Rattle.std.proofs.lemmas.List.Elements.{All-nil, All-cons, All-head, All-tail, All-weaker, All-contains_itself, Contains-append_cases}
 use Rattle.aid_filings.specs.declared.filing.Filing.{Filing}
 use Rattle.aid_filings.specs.declared.reply.Operation.{Operation}
@@ -13,7 +14,7 @@ use Rattle.io_traits.specs.declared.disk.Disk.{Ghosts}
 use Rattle.io_traits.specs.declared.sink.Sink.{Ghosts as SinkGhosts}
 use Rattle.log_desks.proofs.Going.{entries_filed}
 use Rattle.log_desks.proofs.Turning.{entries_append}
-use Rattle.log_desks.specs.Desks.{left_in}
+use Rattle.log_desks.specs.Desks.{left_in, turns_in, wants_in}
 use Rattle.log_desks.specs.Shares.{RecoversBetween, stand_of}
 use Rattle.log_lock.proofs.Lists.{older_trans}
 use Rattle.log_lock.specs.Passes.{IsOlder, numbered}
@@ -37,40 +38,82 @@ use Rattle.office_log.specs.Submits.{filing_asked, filing_semantics}
 use Rattle.run_claims.proofs.Office.{from_kept, to_kept}
 use Rattle.run_claims.specs.Office.{Recovers}
 use Rattle.web_session.specs.Ports.{AcceptorState, Closed}
-use Rattle.web_workers.proofs.AllStates.{each_brought, each_told}
+use Rattle.web_workers.proofs.AllStates.{each_brought, each_told, sum_below-is}
 use Rattle.web_workers.proofs.Stamped.{own_added_under}
-use Rattle.web_workers.specs.AllTold.{AllHonest, EachIsTold}
-use Rattle.web_workers.specs.Closed.{AreToldOf, IsBroughtBy}
+use Rattle.web_workers.specs.AllTold.{AllHonest, EachIsTold, below_suc, sum_below}
+use Rattle.web_workers.specs.Closed.{AreToldOf, IsBroughtBy, times_asked, times_no_storage}
 use Rattle.web_workers.specs.Sessions.{Session, closed_as}
 use Rattle.web_workers.specs.Workers.{HasServed, WorkerView, ports_of, worker_of}
-use Rattle.run_server.proofs.Exchanges.{session_exchanged}
+use Rattle.run_server.proofs.Exchanges.{session_exchanged, statuses_of}
+use Rattle.run_server.proofs.Replies.{asks_are, no_memory, otherwise, wants_are}
 use Rattle.run_server.proofs.WebCauses.{after_at, before_at, shown_at, shown_size, size_map}
 use Rattle.run_server.specs.Exchanged.{Exchanged}
 use Rattle.run_server.specs.OfficeApi.{office_web}
-use Rattle.run_server.specs.RanPorts.{RanPorts, ServedPort}
+use Rattle.run_server.specs.RanPorts.{Connection, RanPorts, ServedPort, all_times, times}
 use Rattle.run_server.specs.RanWeb.{HasServedAll, RanWeb, served, starved, unasked, unopened}
 use Rattle.run_server.specs.WebLaws.{unavailable}
 
 -- ---- connections
--- a connection as its port has it: the bytes that it brought, and what was written on it
-abbrev connection : Session (StampedEntry Filing) → List ℕ × Closed
-connection s = (s.bytes, closed_as s)
+module _ (stamp : Stamp) (closed : List (StampedEntry Filing)) (mine : List (ℕ × Filed (StampedEntry Filing))) (port : ℕ) where
+  abbrev AreTold : ℕ → List (Session (StampedEntry Filing)) → Type 0
+  AreTold number sessions = AreToldOf (semantics_under stamp filing_semantics) (own_under stamp filing_asked) office_web port closed mine number sessions
 
-bytes_of : (sessions : List (Session (StampedEntry Filing))) → map (λ (s : Session (StampedEntry Filing)). s.bytes) sessions ≡ map (λ (c : List ℕ × Closed). c.0) (map connection sessions)
-bytes_of [] = refl
-bytes_of (s ∷ sessions) = ap (λ (l : List (List ℕ)). s.bytes ∷ l) (bytes_of sessions)
+  -- the connections as their port has them
+  abbrev connections_of : (number : ℕ) (sessions : List (Session (StampedEntry Filing))) → AreTold number sessions → List Connection
+  connections_of number [] are = []
+  connections_of number (s ∷ sessions) are = (s.bytes, closed_as s, statuses_of are.0.answers) ∷ connections_of (number + 1) sessions are.1
 
-texts_of : (sessions : List (Session (StampedEntry Filing))) → map closed_as sessions ≡ map (λ (c : List ℕ × Closed). c.1) (map connection sessions)
-texts_of [] = refl
-texts_of (s ∷ sessions) = ap (λ (l : List Closed). closed_as s ∷ l) (texts_of sessions)
+  bytes_of : (number : ℕ) (sessions : List (Session (StampedEntry Filing))) (are : AreTold number sessions) → map (λ (s : Session (StampedEntry Filing)). s.bytes) sessions ≡ map (λ (c : Connection). c.0) (connections_of number sessions are)
+  bytes_of number [] are = refl
+  bytes_of number (s ∷ sessions) are = ap (λ (l : List (List ℕ)). s.bytes ∷ l) (bytes_of (number + 1) sessions are.1)
 
-module _ (stamp : Stamp) (closed : List (StampedEntry Filing)) (legal : IsLegal (entries closed)) (mine : List (ℕ × Filed (StampedEntry Filing))) where
-  all_exchanged : (port number : ℕ) (sessions : List (Session (StampedEntry Filing))) → AreToldOf (semantics_under stamp filing_semantics) (own_under stamp filing_asked) office_web port closed mine number sessions
-      → All (λ (c : List ℕ × Closed). Exchanged stamp closed c.0 c.1.text) (map connection sessions)
-  all_exchanged port number [] are = All-nil (λ (c : List ℕ × Closed). Exchanged stamp closed c.0 c.1.text)
-  all_exchanged port number (s ∷ sessions) are =
-      All-cons (λ (c : List ℕ × Closed). Exchanged stamp closed c.0 c.1.text) (connection s) (map connection sessions)
-      (session_exchanged stamp closed legal mine (record { desk = port; row = number }) s are.0) (all_exchanged port (number + 1) sessions are.1)
+  texts_of : (number : ℕ) (sessions : List (Session (StampedEntry Filing))) (are : AreTold number sessions) → map closed_as sessions ≡ map (λ (c : Connection). c.1) (connections_of number sessions are)
+  texts_of number [] are = refl
+  texts_of number (s ∷ sessions) are = ap (λ (l : List Closed). closed_as s ∷ l) (texts_of (number + 1) sessions are.1)
+
+  abbrev IsExchanged : Connection → Type 0
+  IsExchanged c = Exchanged stamp closed c.0 c.1.text c.2
+
+  all_exchanged : IsLegal (entries closed) → (number : ℕ) (sessions : List (Session (StampedEntry Filing))) (are : AreTold number sessions) → All IsExchanged (connections_of number sessions are)
+  all_exchanged legal number [] are = All-nil IsExchanged
+  all_exchanged legal number (s ∷ sessions) are =
+      All-cons IsExchanged (s.bytes, closed_as s, statuses_of are.0.answers) (connections_of (number + 1) sessions are.1)
+      (session_exchanged stamp closed legal mine (record { desk = port; row = number }) s are.0) (all_exchanged legal (number + 1) sessions are.1)
+
+  -- how many of the replies are 507, and how many are not
+  all_wants : (number : ℕ) (sessions : List (Session (StampedEntry Filing))) (are : AreTold number sessions)
+      → all_times no_memory (connections_of number sessions are) ≡ times_no_storage (semantics_under stamp filing_semantics) (own_under stamp filing_asked) office_web port closed mine number sessions are
+  all_wants number [] are = refl
+  all_wants number (s ∷ sessions) are =
+      sum_by-cons (λ (c : Connection). times no_memory c.2) (s.bytes, closed_as s, statuses_of are.0.answers) (connections_of (number + 1) sessions are.1)
+      ∙ ap₂ (λ m n. m + n) (wants_are are.0.answers) (all_wants (number + 1) sessions are.1)
+
+  all_asks : (number : ℕ) (sessions : List (Session (StampedEntry Filing))) (are : AreTold number sessions)
+      → times_asked (semantics_under stamp filing_semantics) (own_under stamp filing_asked) office_web port closed mine number sessions are
+      ≤ all_times otherwise (connections_of number sessions are) + times_no_storage (semantics_under stamp filing_semantics) (own_under stamp filing_asked) office_web port closed mine number sessions are
+  all_asks number [] are = omega arith
+  all_asks number (s ∷ sessions) are =
+      let one = asks_are stamp (record { desk = port; row = number }) closed mine are.0.done are.0.answers are.0.each in
+      let more = all_asks (number + 1) sessions are.1 in
+      let both = sum_by-cons (λ (c : Connection). times otherwise c.2) (s.bytes, closed_as s, statuses_of are.0.answers) (connections_of (number + 1) sessions are.1) in
+      omega (arith, one, more, both)
+
+-- sums of as many numbers as a list has elements, each of which is at least what the element has
+sum_below-most : {X : Type 0} (g h : X → ℕ) (d : X) (n : ℕ) (xs : List X) (f : (k : ℕ) → k < n → ℕ) → length xs ≡ n → ((k : ℕ) (below : k < n) → g (get_or xs k d) ≤ f k below + h (get_or xs k d)) → sum_by g xs ≤ sum_below n f + sum_by h xs
+sum_below-most g h d zero [] f size each = omega arith
+sum_below-most g h d zero (x ∷ xs) f size each = absurd (omega (arith, size))
+sum_below-most g h d (suc n) [] f size each = absurd (omega (arith, size))
+sum_below-most g h d (suc n) (x ∷ xs) f size each =
+    let one : g x ≤ f 0 (zero-lt-suc n) + h x = each 0 (zero-lt-suc n) in
+    let more = sum_below-most g h d n xs (λ k below. f (suc k) (below_suc k n below)) (omega (arith, size)) (λ k below. each (suc k) (below_suc k n below)) in
+    omega (arith, one, more, sum_by-cons g x xs, sum_by-cons h x xs)
+
+sum_below-none : (n : ℕ) (f : (k : ℕ) → k < n → ℕ) → ((k : ℕ) (below : k < n) → f k below ≡ 0) → sum_below n f ≡ 0
+sum_below-none zero f each = refl
+sum_below-none (suc n) f each =
+    let one = each 0 (zero-lt-suc n) in
+    let more = sum_below-none n (λ k below. f (suc k) (below_suc k n below)) (λ k below. each (suc k) (below_suc k n below)) in
+    omega (arith, one, more)
 
 -- ---- stamps
 -- what an ask of the run adds has its stamp
@@ -175,7 +218,7 @@ module _ {D P : Type 0} (disk : Ghosts D) (tells : P → AcceptorState) (faults 
 
     -- the connections of a port
     module _ (ports : after ≡ ports_of workers) (legal : IsLegal (entries history)) where
-      port_served : (k : ℕ) (p : P) → k < length before → ServedPort stamp (added ++ past) (tells (get_or before k p)) (tells (get_or after k p))
+      abbrev port_served : (k : ℕ) (p : P) → k < length before → ServedPort stamp (added ++ past) (tells (get_or before k p)) (tells (get_or after k p))
       port_served k p below =
           let d : WorkerView (StampedEntry Filing) P = worker_of p in
           let inside : k < length (map worker_of before) = subst (λ n. k < n) (sym (size_map worker_of before)) below in
@@ -188,18 +231,54 @@ module _ {D P : Type 0} (disk : Ghosts D) (tells : P → AcceptorState) (faults 
           let ss = own.served.sessions in
           let were : (get_or (map worker_of before) k d).port ≡ get_or before k p = before_at before k d in
           let are : (get_or has.workers k d).port ≡ get_or after k p = sym port_is ∙ after_at after workers ports k d in
-          let all : All (λ (c : List ℕ × Closed). Exchanged stamp history c.0 c.1.text) (map connection ss) =
-          all_exchanged stamp history legal own.last.mine (k + 1) 1 ss (subst (λ (l : List (StampedEntry Filing)). AreToldOf (semantics_under stamp filing_semantics) (own_under stamp filing_asked) office_web (k + 1) l own.last.mine 1 ss) (entries_filed history log) (told k d inside is_honest).told) in
+          let have = (told k d inside is_honest).told in
+          let cs = connections_of stamp (entries_of closing.list) own.last.mine (k + 1) 1 ss have in
+          let all : All (λ (c : Connection). Exchanged stamp (entries_of closing.list) c.0 c.1.text c.2) cs =
+          all_exchanged stamp (entries_of closing.list) own.last.mine (k + 1) (subst (λ (l : List (StampedEntry Filing)). IsLegal (entries l)) (sym (entries_filed history log)) legal) 1 ss have in
           record {
-            connections = map connection ss;
-            brought = subst (λ (q : P). (tells q).coming ≡ map (λ (c : List ℕ × Closed). c.0) (map connection ss) ++ (tells (get_or after k p)).coming) were
-                (subst (λ (q : P). (tells (get_or (map worker_of before) k d).port).coming ≡ map (λ (c : List ℕ × Closed). c.0) (map connection ss) ++ (tells q).coming) are
-                (subst (λ (l : List (List ℕ)). (tells (get_or (map worker_of before) k d).port).coming ≡ l ++ (tells (get_or has.workers k d).port).coming) (bytes_of ss) (own.served.coming is_honest)));
-            written = subst (λ (q : P). (tells (get_or after k p)).closed ≡ (tells q).closed ++ map (λ (c : List ℕ × Closed). c.1) (map connection ss)) were
-                (subst (λ (q : P). (tells q).closed ≡ (tells (get_or (map worker_of before) k d).port).closed ++ map (λ (c : List ℕ × Closed). c.1) (map connection ss)) are
-                (subst (λ (l : List Closed). (tells (get_or has.workers k d).port).closed ≡ (tells (get_or (map worker_of before) k d).port).closed ++ l) (texts_of ss) (own.served.closed is_honest)));
-            exchanged = subst (λ (l : List (StampedEntry Filing)). All (λ (c : List ℕ × Closed). Exchanged stamp l c.0 c.1.text) (map connection ss)) joins all;
+            connections = cs;
+            brought = subst (λ (q : P). (tells q).coming ≡ map (λ (c : Connection). c.0) cs ++ (tells (get_or after k p)).coming) were
+                (subst (λ (q : P). (tells (get_or (map worker_of before) k d).port).coming ≡ map (λ (c : Connection). c.0) cs ++ (tells q).coming) are
+                (subst (λ (l : List (List ℕ)). (tells (get_or (map worker_of before) k d).port).coming ≡ l ++ (tells (get_or has.workers k d).port).coming) (bytes_of stamp (entries_of closing.list) own.last.mine (k + 1) 1 ss have) (own.served.coming is_honest)));
+            written = subst (λ (q : P). (tells (get_or after k p)).closed ≡ (tells q).closed ++ map (λ (c : Connection). c.1) cs) were
+                (subst (λ (q : P). (tells q).closed ≡ (tells (get_or (map worker_of before) k d).port).closed ++ map (λ (c : Connection). c.1) cs) are
+                (subst (λ (l : List Closed). (tells (get_or has.workers k d).port).closed ≡ (tells (get_or (map worker_of before) k d).port).closed ++ l) (texts_of stamp (entries_of closing.list) own.last.mine (k + 1) 1 ss have) (own.served.closed is_honest)));
+            exchanged = subst (λ (l : List (StampedEntry Filing)). All (λ (c : Connection). Exchanged stamp l c.0 c.1.text c.2) cs) (entries_filed history log ∙ joins) all;
           }
+
+      -- the replies of a port that tell of want of memory are those of its worker
+      module _ (p : P) where
+        wants_here : (k : ℕ) (below : k < length before) → all_times no_memory (port_served k p below).connections ≡ wants_in (get_or has.workers k (worker_of p)).handle
+        wants_here k below =
+            let d : WorkerView (StampedEntry Filing) P = worker_of p in
+            let inside : k < length (map worker_of before) = subst (λ n. k < n) (sym (size_map worker_of before)) below in
+            let own = has.each k d inside in
+            let here = told k d inside (all_honest k d inside) in
+            let all = all_wants stamp (entries_of closing.list) own.last.mine (k + 1) 1 own.served.sessions here.told in
+            let same : own.last.wants ≡ all_times no_memory (port_served k p below).connections = omega (arith, here.wants, own.fresh.wants, all) in
+            sym same ∙ sym (ap wants_in own.has)
+
+        asks_here : (k : ℕ) (below : k < length before) → turns_in (get_or has.workers k (worker_of p)).handle ≤ all_times otherwise (port_served k p below).connections + wants_in (get_or has.workers k (worker_of p)).handle
+        asks_here k below =
+            let d : WorkerView (StampedEntry Filing) P = worker_of p in
+            let inside : k < length (map worker_of before) = subst (λ n. k < n) (sym (size_map worker_of before)) below in
+            let own = has.each k d inside in
+            let here = told k d inside (all_honest k d inside) in
+            let all = all_asks stamp (entries_of closing.list) own.last.mine (k + 1) 1 own.served.sessions here.told in
+            let same : own.last.turns ≤ all_times otherwise (port_served k p below).connections + own.last.wants = omega (arith, here.wants, own.fresh.wants, here.turns, own.fresh.turns, all) in
+            subst (λ w. turns_in w ≤ all_times otherwise (port_served k p below).connections + wants_in w) (sym own.has) same
+
+        -- where any reply was 507, at least as many as there are ports were not
+        memory_here : 0 < sum_below (length before) (λ k below. all_times no_memory (port_served k p below).connections)
+            → length before ≤ sum_below (length before) (λ k below. all_times otherwise (port_served k p below).connections)
+        memory_here some_want =
+            let d : WorkerView (StampedEntry Filing) P = worker_of p in
+            let ports_are : length (map worker_of before) ≡ length before = size_map worker_of before in
+            let size : length has.workers ≡ length before = has.count ∙ ports_are in
+            let wants = sum_below-is (λ (w : WorkerView (StampedEntry Filing) P). wants_in w.handle) d (length before) has.workers (λ k below. all_times no_memory (port_served k p below).connections) size wants_here in
+            let asks = sum_below-most (λ (w : WorkerView (StampedEntry Filing) P). turns_in w.handle) (λ (w : WorkerView (StampedEntry Filing) P). wants_in w.handle) d (length before) has.workers (λ k below. all_times otherwise (port_served k p below).connections) size asks_here in
+            let found = has.found_room (omega (arith, wants, some_want)) in
+            omega (arith, found, asks, ports_are)
 
 -- ---- the run
 module _ {D K P : Type 0} (disk : Ghosts D) (sink : SinkGhosts K) (tells : P → AcceptorState) (faults : P → ℕ)
@@ -215,7 +294,7 @@ module _ {D K P : Type 0} (disk : Ghosts D) (sink : SinkGhosts K) (tells : P →
       let was = (tells (get_or before k p)).closed in
       let one : length (tells (get_or after k p)).closed ≡ length was + length all.back = ap length (all.closed (sincere k p inside)) ∙ length-append was all.back in
       let other : length (tells (get_or after k p)).closed ≡ length was + length s.connections =
-      ap length s.written ∙ length-append was (map (λ (c : List ℕ × Closed). c.1) s.connections) ∙ ap (λ n. length was + n) (length-map s.connections (λ (c : List ℕ × Closed). c.1)) in
+      ap length s.written ∙ length-append was (map (λ (c : Connection). c.1) s.connections) ∙ ap (λ n. length was + n) (length-map s.connections (λ (c : Connection). c.1)) in
       omega (arith, one, other, all.count)
 
   -- with status 0 all were
@@ -226,13 +305,15 @@ module _ {D K P : Type 0} (disk : Ghosts D) (sink : SinkGhosts K) (tells : P →
   kept_images c image = to_kept c past (images c image)
 
   -- ---- nothing was served
-  idle_port : after ≡ before → (k : ℕ) (p : P) → k < length before → ServedPort stamp ([] ++ past) (tells (get_or before k p)) (tells (get_or after k p))
-  idle_port same k p below = subst (λ (l : List P). ServedPort stamp past (tells (get_or before k p)) (tells (get_or l k p))) (sym same) (record {
-    connections = [];
-    brought = refl;
-    written = sym (append-nil (tells (get_or before k p)).closed);
-    exchanged = All-nil (λ (c : List ℕ × Closed). Exchanged stamp past c.0 c.1.text);
-  })
+  abbrev idle_port : after ≡ before → (k : ℕ) (p : P) → k < length before → ServedPort stamp ([] ++ past) (tells (get_or before k p)) (tells (get_or after k p))
+  idle_port same k p below =
+      let is : get_or after k p ≡ get_or before k p = ap (λ (l : List P). get_or l k p) same in
+      record {
+        connections = [];
+        brought = ap (λ (q : P). (tells q).coming) (sym is);
+        written = ap (λ (q : P). (tells q).closed) is ∙ sym (append-nil (tells (get_or before k p)).closed);
+        exchanged = All-nil (λ (c : Connection). Exchanged stamp past c.0 c.1.text c.2);
+      }
 
   idle : Counted → IsHonest (disk.tells new) → EachMoment (disk.tells old) (disk.tells new) (λ file. Recovers file past) → after ≡ before → RanPorts tells stamp sessions past (disk.tells old) (disk.tells new) before after status
   idle counted still moments same = record {
@@ -243,6 +324,7 @@ module _ {D K P : Type 0} (disk : Ghosts D) (sink : SinkGhosts K) (tells : P →
     end = λ c image. inl (moments.each c (counts new (disk.tells old).moment c still moments.later image));
     ports = idle_port same;
     all = λ is k p inside. as_many past k p inside (idle_port same k p inside) (counted is k p inside);
+    memory = λ p some_want. let none = sum_below-none (length before) (λ k inside. all_times no_memory (idle_port same k p inside).connections) (λ k inside. refl) in absurd (omega (arith, none, some_want));
   }
 
   plainly : EachMoment (disk.tells old) (disk.tells new) (λ file. kept.Recovers file past) → EachMoment (disk.tells old) (disk.tells new) (λ file. Recovers file past)
@@ -305,7 +387,7 @@ module _ {D K P : Type 0} (disk : Ghosts D) (sink : SinkGhosts K) (tells : P →
         go None settled = λ c image. inl (from_kept c history (settled c image))
         go (Some f) undecided = λ c image. ⊎_elim (λ without. inl (from_kept c history without)) (λ with_it. inr (from_kept c (f ∷ history) with_it)) (undecided.images c image)
 
-    ports_served : (k : ℕ) (p : P) → k < length before → ServedPort stamp (more ++ list) (tells (get_or before k p)) (tells (get_or after k p))
+    abbrev ports_served : (k : ℕ) (p : P) → k < length before → ServedPort stamp (more ++ list) (tells (get_or before k p)) (tells (get_or after k p))
     ports_served = port_served disk tells faults sessions stamp old new before after list history pending log waiting at workers has sincere ports legal
 
     ran_here : RanPorts tells stamp sessions list (disk.tells old) (disk.tells new) before after status
@@ -317,6 +399,7 @@ module _ {D K P : Type 0} (disk : Ghosts D) (sink : SinkGhosts K) (tells : P →
       end = subst (λ (l : List (StampedEntry Filing)). EachImage (disk.tells new) (Left l)) whole left;
       ports = ports_served;
       all = λ is k p inside. as_many (more ++ list) k p inside (ports_served k p inside) (counted is k p inside);
+      memory = memory_here disk tells faults sessions stamp old new before after list history pending log waiting at workers has sincere ports legal;
     }
 
     ran_there : RanPorts tells stamp sessions past (disk.tells old) (disk.tells new) before after status

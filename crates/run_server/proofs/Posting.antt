@@ -14,7 +14,7 @@ use Rattle.aid_types.specs.declared.number.Program.{Program}
 use Rattle.aid_types.specs.declared.number.Program.TheVariants.{Unsub, Sub, Plus, Pell, Fseog, Teach}
 use Rattle.aid_filings.specs.declared.filing.Filing.{Filing}
 use Rattle.aid_filings.specs.declared.filing.What.{What}
-use Rattle.aid_filings.specs.declared.filing.What.TheVariants.{Book, School, Calendar, Prior, Apply, Enroll, Originate, Pay, Withdraw, Repay, Adjust}
+use Rattle.aid_filings.specs.declared.filing.What.TheVariants.{Book, School, Calendar, Prior, Apply, Enroll, Originate, Pay, Withdraw, Repay, Adjust, Cost, Sent, Amend}
 use Rattle.aid_filings.specs.declared.reply.Operation.TheVariants.{File}
 use Rattle.law_terms.proofs.DayTextLaws.{IsDayReading-day_in}
 use Rattle.format_bytes.specs.Numbers.{break_days, day_number, facts_of, kind_of, numbers_of}
@@ -162,6 +162,9 @@ what_read d (Withdraw x) lists has r s =
     (ap (λ (zs : List ℤ). pos x.student ∷ pos x.year ∷ pos x.term ∷ day_number x.last ∷ day_number x.determined ∷ pos x.charges ∷ zs) (money_numbers x.could))
 what_read d (Repay x) lists has r s = whole_read d (slots_of (Repay x)) (written (Repay x)).2 (facts_of (Repay x)) refl r s refl
 what_read d (Adjust x) lists has r s = whole_read d (slots_of (Adjust x)) (written (Adjust x)).2 (facts_of (Adjust x)) refl r s refl
+what_read d (Cost x) lists has r s = whole_read d (slots_of (Cost x)) (written (Cost x)).2 (facts_of (Cost x)) refl r s refl
+what_read d (Sent x) lists has r s = whole_read d (slots_of (Sent x)) (written (Sent x)).2 (facts_of (Sent x)) refl r s refl
+what_read d (Amend x) lists has r s = whole_read d (slots_of (Amend x)) (written (Amend x)).2 (facts_of (Amend x)) refl r s refl
 
 -- ---- the keys of a body
 keys_are : (what : What) → 1 < (written what).0 → keys_of (kind_of what) ≡ codes "kind" ∷ codes "number" ∷ names_of what
@@ -177,6 +180,9 @@ keys_are (Pay x) has = refl
 keys_are (Withdraw x) has = refl
 keys_are (Repay x) has = refl
 keys_are (Adjust x) has = refl
+keys_are (Cost x) has = refl
+keys_are (Sent x) has = refl
+keys_are (Amend x) has = refl
 
 name_is : (what : What) → kind_named (written what).1 ≡ Some (kind_of what)
 unfolding table_row_of
@@ -191,6 +197,9 @@ name_is (Pay x) = refl
 name_is (Withdraw x) = refl
 name_is (Repay x) = refl
 name_is (Adjust x) = refl
+name_is (Cost x) = refl
+name_is (Sent x) = refl
+name_is (Amend x) = refl
 
 has_body : (what : What) → 1 < (written what).0 → has_bodies (kind_of what) ≡ true
 has_body (Book x) has = absurd (omega arith)
@@ -204,6 +213,9 @@ has_body (Pay x) has = refl
 has_body (Withdraw x) has = refl
 has_body (Repay x) has = refl
 has_body (Adjust x) has = refl
+has_body (Cost x) has = refl
+has_body (Sent x) has = refl
+has_body (Amend x) has = refl
 
 -- a key that has a value
 there : (d : Data) (key : List ℕ) (keys : List (List ℕ)) (v : Data) → get key d ≡ Some v → has_all keys d ≡ true → has_all (key ∷ keys) d ≡ true
@@ -232,6 +244,9 @@ have_what d (Pay x) s = have_all d (names_of (Pay x)) (written (Pay x)).2 s
 have_what d (Withdraw x) s = have_all d (names_of (Withdraw x)) (written (Withdraw x)).2 s
 have_what d (Repay x) s = have_all d (names_of (Repay x)) (written (Repay x)).2 s
 have_what d (Adjust x) s = have_all d (names_of (Adjust x)) (written (Adjust x)).2 s
+have_what d (Cost x) s = have_all d (names_of (Cost x)) (written (Cost x)).2 s
+have_what d (Sent x) s = have_all d (names_of (Sent x)) (written (Sent x)).2 s
+have_what d (Amend x) s = have_all d (names_of (Amend x)) (written (Amend x)).2 s
 
 -- ---- a body
 test_numbers : (slots : List Slot) (earlier zs : List ℤ) → AreNumbers slots earlier zs → are_numbers slots earlier zs ≡ true

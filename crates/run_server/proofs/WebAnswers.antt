@@ -16,7 +16,7 @@ use Rattle.office_log.specs.Submits.{filing_asked, filing_semantics}
 use Rattle.log_stamps.specs.Rows.{semantics_under, own_under}
 use Rattle.aid_stamps.specs.declared.stamp.Stamp.{Stamp}
 use Rattle.log_stamps.specs.declared.entry.StampedEntry.{StampedEntry}
-use Rattle.web_workers.proofs.AllStates.{are_counted, each_told}
+use Rattle.web_workers.proofs.AllStates.{are_counted, each_told, have_room}
 use Rattle.web_workers.proofs.Creating.{created_stand}
 use Rattle.web_workers.proofs.Stamped.{own_added_under, adds_added_under}
 use Rattle.web_workers.specs.AllTold.{EachIsTold}
@@ -25,7 +25,7 @@ use Rattle.web_workers.specs.Workers.{HasServed, WorkerView, ports_of, worker_of
 use Rattle.office_history.specs.Answer.{is_admit}
 use Rattle.log_lock.specs.declared.turned.Snapshot.{Snapshot}
 use Rattle.run_server.specs.RanWeb.{RanWeb, served, starved, unasked, unopened}
-use Rattle.run_server.specs.WebAnswers.{CountsFaults, HasAnswered, KeepsCreated}
+use Rattle.run_server.specs.WebAnswers.{CountsFaults, HasAnswered, KeepsCreated, ReservesMemory}
 use Rattle.run_server.specs.WebLaws.{created as created_adds, unavailable}
 use Rattle.run_server.specs.OfficeApi.{office_web}
 
@@ -59,6 +59,12 @@ module _ {D K P : Type 0} (disk : Ghosts D) (sink : SinkGhosts K) (tells : P →
         counted = are_counted (semantics_under stamp filing_semantics) (own_under stamp filing_asked) office_web (own_added_under filing_semantics filing_asked own_added stamp) unavailable tells faults sessions opening closed (map worker_of before) workers has told;
       }
 
+      reserves_memory : ReservesMemory disk tells faults sessions stamp new before after
+      reserves_memory = record {
+        answered = answered;
+        room = have_room (semantics_under stamp filing_semantics) (own_under stamp filing_asked) office_web (own_added_under filing_semantics filing_asked own_added stamp) unavailable tells faults sessions opening closed (map worker_of before) workers has told;
+      }
+
       keeps_created : KeepsCreated disk tells faults sessions stamp new before after
       keeps_created = record {
         answered = answered;
@@ -70,6 +76,12 @@ module _ {D K P : Type 0} (disk : Ghosts D) (sink : SinkGhosts K) (tells : P →
   counted (unopened error _ can opened cause still_disk same_ports ends) = inl same_ports
   counted (starved past _ can opened still_disk same_ports ends) = inl same_ports
   counted (served past history pending log waiting at workers _ can opened has ports sound moments ends) = inr (counts_faults past history pending log waiting at workers has ports sound)
+
+  pub reserved : RanWeb disk sink tells faults sessions stamp old new before after out out' status → (after ≡ before) ⊎ ReservesMemory disk tells faults sessions stamp new before after
+  reserved (unasked _ cannot same same_ports ends) = inl same_ports
+  reserved (unopened error _ can opened cause still_disk same_ports ends) = inl same_ports
+  reserved (starved past _ can opened still_disk same_ports ends) = inl same_ports
+  reserved (served past history pending log waiting at workers _ can opened has ports sound moments ends) = inr (reserves_memory past history pending log waiting at workers has ports sound)
 
   pub created : RanWeb disk sink tells faults sessions stamp old new before after out out' status → (after ≡ before) ⊎ KeepsCreated disk tells faults sessions stamp new before after
   created (unasked _ cannot same same_ports ends) = inl same_ports

@@ -52,12 +52,12 @@ pub data Replied (stamp : Stamp) (closed : List (StampedEntry Filing)) (head : R
   other : (status text : List ℕ) → ((f : Filing) → Posts head body f → ⊥) → Contains (codes "200 OK" ∷ codes "400 Bad Request" ∷ codes "404 Not Found" ∷ codes "405 Method Not Allowed" ∷ []) status
       → Replied stamp closed head body status text
 
--- A connection, by the bytes that it brought and the text that was written on it: a response to each request that came first, and behind them no more than one
+-- A connection, by the bytes that it brought, the text that was written on it, and the statuses of its replies: a response to each request that came first, and behind them no more than one
 -- response, which may be cut short: to the next request, or a rejection of what came.
-pub data Exchanged (stamp : Stamp) (closed : List (StampedEntry Filing)) : List ℕ → List ℕ → Type 0 where
-  answered : (bytes : List ℕ) (head : RequestHead) (body rest status reply text : List ℕ) (last : Bool) → BeginsWith bytes head body rest → Replied stamp closed head body status reply
-      → Exchanged stamp closed rest text → Exchanged stamp closed bytes (response status last reply ++ text)
+pub data Exchanged (stamp : Stamp) (closed : List (StampedEntry Filing)) : List ℕ → List ℕ → List (List ℕ) → Type 0 where
+  answered : (bytes : List ℕ) (head : RequestHead) (body rest status reply text : List ℕ) (last : Bool) (statuses : List (List ℕ)) → BeginsWith bytes head body rest → Replied stamp closed head body status reply
+      → Exchanged stamp closed rest text statuses → Exchanged stamp closed bytes (response status last reply ++ text) (status ∷ statuses)
   stopped : (bytes : List ℕ) (head : RequestHead) (body rest status reply text cut : List ℕ) (last : Bool) → BeginsWith bytes head body rest → Replied stamp closed head body status reply
-      → text ++ cut ≡ response status last reply → Exchanged stamp closed bytes text
+      → text ++ cut ≡ response status last reply → Exchanged stamp closed bytes text (status ∷ [])
   rejected : (bytes status reply text cut : List ℕ) → Contains (codes "400 Bad Request" ∷ codes "411 Length Required" ∷ codes "413 Payload Too Large" ∷ codes "431 Request Header Fields Too Large" ∷ codes "501 Not Implemented" ∷ []) status
-      → text ++ cut ≡ response status true reply → Exchanged stamp closed bytes text
+      → text ++ cut ≡ response status true reply → Exchanged stamp closed bytes text []

@@ -11,7 +11,7 @@ use Rattle.aid_types.specs.Programs.{rank}
 use Rattle.aid_types.specs.Whole.{whole_text}
 use Rattle.aid_filings.specs.declared.filing.Filing.{Filing}
 use Rattle.aid_filings.specs.declared.filing.What.{What}
-use Rattle.aid_filings.specs.declared.filing.What.TheVariants.{Book as BookFiled, School, Calendar, Prior, Apply, Enroll, Originate, Withdraw}
+use Rattle.aid_filings.specs.declared.filing.What.TheVariants.{Book as BookFiled, School, Calendar, Prior, Apply, Enroll, Originate, Withdraw, Cost, Sent, Amend}
 use Rattle.format_kinds.specs.Kinds.{words_of_programs}
 use Rattle.run_claims.specs.Written.{CanBeFiled, IsDateOf, Number, day, money, ranged, whole, word, written}
 
@@ -36,6 +36,9 @@ names_of (Apply x) =
 names_of (Enroll x) = words (codes "student year term credits")
 names_of (Originate x) = words (codes "student year cost")
 names_of (Withdraw x) = words (codes "student year term last determined charges could_unsub could_sub could_plus could_pell could_fseog could_teach")
+names_of (Cost x) = words (codes "student year cost")
+names_of (Sent x) = words (codes "student year term program cents day reference")
+names_of (Amend x) = words (codes "of_school of_number change reason reference")
 names_of _ = words (codes "student year term program cents")
 
 -- a value is a whole number

@@ -11,7 +11,7 @@ use Rattle.office_log.specs.Submits.{filing_asked, filing_semantics}
 use Rattle.log_stamps.specs.Rows.{semantics_under, own_under}
 use Rattle.aid_stamps.specs.declared.stamp.Stamp.{Stamp}
 use Rattle.log_stamps.specs.declared.entry.StampedEntry.{StampedEntry}
-use Rattle.web_workers.specs.AllTold.{AllHonest, CreatedStand, EachIsTold, all_unavailable}
+use Rattle.web_workers.specs.AllTold.{AllHonest, CreatedStand, EachIsTold, HaveRoom, all_unavailable}
 use Rattle.web_session.specs.Ports.{AcceptorState}
 use Rattle.web_workers.specs.Workers.{HasServed, WorkerView, ports_of, worker_of}
 use Rattle.log_lock.specs.Turning.{RoseBy}
@@ -35,6 +35,11 @@ pub record CountsFaults {D P : Type 0} (disk : Ghosts D) (tells : P → Acceptor
   pub counted : (honest : AllHonest tells (map worker_of before)) (d : WorkerView (StampedEntry Filing) P)
       → RoseBy (all_unavailable (semantics_under stamp filing_semantics) (own_under stamp filing_asked) office_web tells faults sessions answered.opening answered.closed (map worker_of before) answered.workers answered.served answered.told honest d) (disk.faults old) (disk.faults new)
       × (all_unavailable (semantics_under stamp filing_semantics) (own_under stamp filing_asked) office_web tells faults sessions answered.opening answered.closed (map worker_of before) answered.workers answered.served answered.told honest d ≡ 0 → disk.faults new ≡ disk.faults old)
+
+-- and where any ask was answered 507, at least as many as there are ports were answered otherwise, where all ports are honest
+pub record ReservesMemory {D P : Type 0} (disk : Ghosts D) (tells : P → AcceptorState) (faults : P → ℕ) (sessions : ℕ) (stamp : Stamp) (new : D) (before after : List P) : Type 0 where
+  pub answered : HasAnswered disk tells faults sessions stamp new before after
+  pub room : HaveRoom (semantics_under stamp filing_semantics) (own_under stamp filing_asked) office_web tells faults sessions answered.opening answered.closed (map worker_of before) answered.workers answered.served answered.told
 
 -- and where an honest port answered 201, the request's own filing stands in the list at the end
 pub record KeepsCreated {D P : Type 0} (disk : Ghosts D) (tells : P → AcceptorState) (faults : P → ℕ) (sessions : ℕ) (stamp : Stamp) (new : D) (before after : List P) : Type 0 where

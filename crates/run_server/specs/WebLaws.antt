@@ -1,4 +1,4 @@
--- 503 tells of each fault of the disk and of nothing else, and 201 of a filing that was added.
+-- 503 tells of each fault of the disk and of nothing else, 507 of want of memory and of nothing else, and 201 of a filing that was added.
 use Rattle.std.proofs.Common.{◌≡◌, refl}
 use Rattle.std.specs.Prelude.{IsTrue}
 use Rattle.aid_filings.specs.declared.reply.Response.{Response}
@@ -12,13 +12,13 @@ use Rattle.web_json.specs.Forms.{status_for}
 use Rattle.run_server.specs.OfficeApi.{office_web}
 
 pub unavailable : TellsFaults office_web
-unavailable (Answered (Admit outcome) front) = ((λ is. absurd (let bad : ⊥ = cc in bad)), (λ is. absurd (let bad : ⊥ = cc in bad)))
-unavailable (Answered (Again position outcome) front) = ((λ is. absurd (let bad : ⊥ = cc in bad)), (λ is. absurd (let bad : ⊥ = cc in bad)))
-unavailable (Answered (Refused refusal) front) = ((λ is. absurd (let bad : ⊥ = cc in bad)), (λ is. absurd (let bad : ⊥ = cc in bad)))
-unavailable (Answered (Quoted cents) front) = ((λ is. absurd (let bad : ⊥ = cc in bad)), (λ is. absurd (let bad : ⊥ = cc in bad)))
-unavailable (Answered (Standing row) front) = ((λ is. absurd (let bad : ⊥ = cc in bad)), (λ is. absurd (let bad : ⊥ = cc in bad)))
-unavailable (DiskFault undecided) = ((λ is. refl), (λ is. refl))
-unavailable NoMemory = ((λ is. absurd (let bad : ⊥ = cc in bad)), (λ is. absurd (let bad : ⊥ = cc in bad)))
+unavailable (Answered (Admit outcome) front) = ((λ is. absurd (let bad : ⊥ = cc in bad)), (λ is. absurd (let bad : ⊥ = cc in bad)), (λ is. absurd (let bad : ⊥ = cc in bad)), (λ is. absurd (let bad : ⊥ = cc in bad)))
+unavailable (Answered (Again position outcome) front) = ((λ is. absurd (let bad : ⊥ = cc in bad)), (λ is. absurd (let bad : ⊥ = cc in bad)), (λ is. absurd (let bad : ⊥ = cc in bad)), (λ is. absurd (let bad : ⊥ = cc in bad)))
+unavailable (Answered (Refused refusal) front) = ((λ is. absurd (let bad : ⊥ = cc in bad)), (λ is. absurd (let bad : ⊥ = cc in bad)), (λ is. absurd (let bad : ⊥ = cc in bad)), (λ is. absurd (let bad : ⊥ = cc in bad)))
+unavailable (Answered (Quoted cents) front) = ((λ is. absurd (let bad : ⊥ = cc in bad)), (λ is. absurd (let bad : ⊥ = cc in bad)), (λ is. absurd (let bad : ⊥ = cc in bad)), (λ is. absurd (let bad : ⊥ = cc in bad)))
+unavailable (Answered (Standing row) front) = ((λ is. absurd (let bad : ⊥ = cc in bad)), (λ is. absurd (let bad : ⊥ = cc in bad)), (λ is. absurd (let bad : ⊥ = cc in bad)), (λ is. absurd (let bad : ⊥ = cc in bad)))
+unavailable (DiskFault undecided) = ((λ is. refl), (λ is. refl), (λ is. absurd (let bad : ⊥ = cc in bad)), (λ is. absurd (let bad : ⊥ = cc in bad)))
+unavailable NoMemory = ((λ is. absurd (let bad : ⊥ = cc in bad)), (λ is. absurd (let bad : ⊥ = cc in bad)), (λ is. refl), (λ is. refl))
 
 pub created : (reply : LogReply Response) → status_for reply ≡ Created → IsTrue (is_added is_admit reply)
 created (Answered (Admit outcome) front) is = refl

@@ -6,4 +6,4 @@ mod web_laws;
 mod workers;
 
 pub use web::{OfficeApi, run_web};
-pub use web_laws::{created_stand, faults_are_counted, web_causes};
+pub use web_laws::{created_stand, faults_are_counted, memory_is_reserved, web_causes};

@@ -134,8 +134,9 @@ where
     P::Connection: Send,
     // The headline, in few words. Over an honest disk each image of which recovers a history, and over honest ports: each request that
     // was answered 201 or 200 `again` is one whose filing stands, at the position that it was told, in the history at the end; what joined has
-    // the stamp; and each image at each moment recovers what stood, with what joined up to then. What a file recovers is one history at
-    // most, in which no student stands above a limit.
+    // the stamp; and each image at each moment recovers what stood, with what joined up to then. Where any request was answered 507, at
+    // least as many as there are ports were answered 200, 201, 422 or 503. What a file recovers is one history at most, in which no
+    // student stands above a limit.
     ensures headline { (past : List (StampedEntry Filing)) → IsHonest (D.tells disk) → All (λ p. IsTrue (P.tells p).honest) ports.old.items → EachImage (D.tells disk) (λ file. Recovers file past)
         → RanPorts P.tells stamp sessions past (D.tells disk) (D.tells result.1) ports.old.items ports.new.items result.0 }
     ensures within { (file : List ℕ) (history : List (StampedEntry Filing)) → Recovers file history → IsWithinEveryLimit (entries history) }

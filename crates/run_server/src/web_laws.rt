@@ -7,7 +7,7 @@ ghost use Rattle.office_log.specs.Scheme.{office_scheme};
 ghost use Rattle.aid_stamps.specs.declared.stamp.Stamp.{Stamp};
 ghost use Rattle.log_stamps.specs.declared.entry.StampedEntry.{StampedEntry};
 ghost use Rattle.run_server.specs.RanWeb.{CanServe, HasAcceptorFault, HasServedAll, IsUnrisen, RanWeb};
-ghost use Rattle.run_server.specs.WebAnswers.{CountsFaults, KeepsCreated};
+ghost use Rattle.run_server.specs.WebAnswers.{CountsFaults, KeepsCreated, ReservesMemory};
 
 use io_traits::{Disk, Sink};
 use web_session::Acceptor;
@@ -35,6 +35,13 @@ pub fn web_causes<D: Disk, P: Acceptor, K: Sink>()
 pub fn faults_are_counted<D: Disk, P: Acceptor, K: Sink>()
     ensures { (sessions : ℕ) (stamp : Stamp) (old new : D) (before after : List P) (out out' : K) (status : ℕ) → RanWeb D.Disk K.Sink P.tells P.faults sessions stamp old new before after out out' status
         → (after ≡ before) ⊎ CountsFaults D.Disk P.tells P.faults sessions stamp old new before after }
+{}
+
+/// Unless the ports stayed as they were, they were served: over honest ports, where any request was answered 507, at least as many
+/// asks as there are ports were answered otherwise.
+pub fn memory_is_reserved<D: Disk, P: Acceptor, K: Sink>()
+    ensures { (sessions : ℕ) (stamp : Stamp) (old new : D) (before after : List P) (out out' : K) (status : ℕ) → RanWeb D.Disk K.Sink P.tells P.faults sessions stamp old new before after out out' status
+        → (after ≡ before) ⊎ ReservesMemory D.Disk P.tells P.faults sessions stamp new before after }
 {}
 
 /// Unless the ports stayed as they were, they were served: where 201 was answered on an honest port with a front, the request's own

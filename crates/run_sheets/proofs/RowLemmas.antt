@@ -1,15 +1,22 @@
 -- A row of words is that of one sheet at most.
-use Rattle.std.proofs.Common.{◌≡◌, ◌≢◌, ℕ, ◌≤◌, List, [], ◌∷◌, ◌++◌, Option, Some, None, codes, decimal, get_or, length, refl, sym, ap, ◌∙◌, arith}
+use Rattle.std.proofs.Common.{◌≡◌, ◌≢◌, ℕ, ◌≤◌, List, [], ◌∷◌, ◌++◌, Option, Some, None, Result, Ok, Err, codes, decimal, get_or, length, refl, sym, ap, ◌∙◌, arith}
 use Rattle.std.specs.Coded.{le_prop}
 use Rattle.std.proofs.lemmas.Fmt.{decimal_injective}
 use Rattle.aid_types.proofs.Same.{same_with_fact}
 use Rattle.aid_types.specs.Ranges.{IsBetween}
+use Rattle.aid_types.specs.declared.text.Malformed.{Malformed}
+use Rattle.law_terms.specs.DayText.{IsDayText, day_in}
+use Rattle.law_terms.specs.Days.{day_text}
+use Rattle.law_terms.proofs.DayTexts.{day_text-is}
+use Rattle.format_filings.proofs.Days.{day_again}
 use Rattle.run_words.specs.Words.{ReadsReport}
 use Rattle.run_words.specs.declared.command.ReportRequest.{ReportRequest}
 use Rattle.run_words.proofs.WordsLemmas.{same_report}
-use Rattle.run_sheets.specs.Words.{ReadsPosition, ReadsRequest, ReadsRow, ReadsTerm, request_words, sheet_words, term_words, upto_words}
+use Rattle.run_sheets.specs.Words.{ReadsDay, ReadsPosition, ReadsRequest, ReadsRow, ReadsTerm, request_words, sheet_words, term_words, upto_words}
+use Rattle.run_sheets.specs.declared.request.DueRequest.{DueRequest}
 use Rattle.run_sheets.specs.declared.request.NeedRequest.{NeedRequest}
 use Rattle.run_sheets.specs.declared.request.Position.{Position}
+use Rattle.run_sheets.specs.declared.request.ReturnsRequest.{ReturnsRequest}
 use Rattle.run_sheets.specs.declared.request.SheetRequest.{SheetRequest}
 use Rattle.run_sheets.specs.declared.request.SheetRequest.TheVariants as sheets
 use Rattle.run_sheets.specs.declared.request.SheetRow.{SheetRow}
@@ -55,12 +62,39 @@ same_withdrawal x y school student year term =
     same_with_fact P make (λ b. hlevel (le_prop)) ((x.school, x.student), (x.year, x.term)) ((y.school, y.student), (y.year, y.term)) x.in_range y.in_range
     (λ i. ((schools i, students i), (years i, terms i)))
 
+-- a word spells one day at most
+same_day : (m n : ℕ) → m ≤ 2958463 → n ≤ 2958463 → day_text m ≡ day_text n → m ≡ n
+same_day m n h k e = let read : Ok m ≡ Ok n = sym (day_again m h) ∙ ap day_in e ∙ day_again n k in cc
+
+same_due : (x y : DueRequest) → day_text x.day ≡ day_text y.day → decimal x.school ≡ decimal y.school → x ≡ y
+same_due x y day school =
+    let P : ℕ × ℕ → Type 0 = λ b. (b.0 ≤ 2958463) × IsBetween 1 999999 b.1 in
+    let make : (b : ℕ × ℕ) → P b → DueRequest = λ b p. record { day = b.0; school = b.1; in_range = p } in
+    let days = same_day x.day y.day x.in_range.0 y.in_range.0 day in
+    let schools = same_number x.school y.school (omega (arith, x.in_range)) (omega (arith, y.in_range)) school in
+    same_with_fact P make (λ b. hlevel (le_prop)) (x.day, x.school) (y.day, y.school) x.in_range y.in_range (λ i. (days i, schools i))
+
+same_returns : (x y : ReturnsRequest) → decimal x.school ≡ decimal y.school → decimal x.year ≡ decimal y.year → x ≡ y
+same_returns x y school year =
+    let P : ℕ × ℕ → Type 0 = λ b. IsBetween 1 999999 b.0 × IsBetween 2000 2099 b.1 in
+    let make : (b : ℕ × ℕ) → P b → ReturnsRequest = λ b p. record { school = b.0; year = b.1; in_range = p } in
+    let schools = same_number x.school y.school (omega (arith, x.in_range)) (omega (arith, y.in_range)) school in
+    let years = same_number x.year y.year (omega (arith, x.in_range)) (omega (arith, y.in_range)) year in
+    same_with_fact P make (λ b. hlevel (le_prop)) (x.school, x.year) (y.school, y.year) x.in_range y.in_range (λ i. (schools i, years i))
+
 -- words that begin with other letters are others
 abbrev first_letter : List (List ℕ) → ℕ
 first_letter words = get_or (get_or words 0 []) 0 0
 
 apart : {A : Type 0} (one other : List (List ℕ)) → one ≡ other → (first_letter one ≡ first_letter other → ⊥) → A
 apart one other e differ = absurd (differ (ap first_letter e))
+
+-- and so are words whose third letter is another
+abbrev third_letter : List (List ℕ) → ℕ
+third_letter words = get_or (get_or words 0 []) 2 0
+
+apart_third : {A : Type 0} (one other : List (List ℕ)) → one ≡ other → (third_letter one ≡ third_letter other → ⊥) → A
+apart_third one other e differ = absurd (differ (ap third_letter e))
 
 -- words of a term are those of one at most
 same_terms : (x y : TermRequest) → term_words x ≡ term_words y → x ≡ y
@@ -86,49 +120,87 @@ same_request (sheets.Withdrawal x) (sheets.Withdrawal y) e =
     let year : decimal x.year ≡ decimal y.year = cc in
     let term : decimal x.term ≡ decimal y.term = cc in
     ap sheets.Withdrawal (same_withdrawal x y school student year term)
+same_request (sheets.Due x) (sheets.Due y) e =
+    let day : day_text x.day ≡ day_text y.day = cc in
+    let school : decimal x.school ≡ decimal y.school = cc in
+    ap sheets.Due (same_due x y day school)
+same_request (sheets.Returns x) (sheets.Returns y) e =
+    let school : decimal x.school ≡ decimal y.school = cc in
+    let year : decimal x.year ≡ decimal y.year = cc in
+    ap sheets.Returns (same_returns x y school year)
 same_request (sheets.Report x) (sheets.Report y) e = ap sheets.Report (same_report x y cc)
 same_request sheets.List (sheets.Student y) e = apart (request_words sheets.List) (request_words (sheets.Student y)) e (λ is. omega (arith, is))
 same_request sheets.List (sheets.Need y) e = apart (request_words sheets.List) (request_words (sheets.Need y)) e (λ is. omega (arith, is))
 same_request sheets.List (sheets.Quotes y) e = apart (request_words sheets.List) (request_words (sheets.Quotes y)) e (λ is. omega (arith, is))
 same_request sheets.List (sheets.Payments y) e = apart (request_words sheets.List) (request_words (sheets.Payments y)) e (λ is. omega (arith, is))
 same_request sheets.List (sheets.Withdrawal y) e = apart (request_words sheets.List) (request_words (sheets.Withdrawal y)) e (λ is. omega (arith, is))
+same_request sheets.List (sheets.Due y) e = apart (request_words sheets.List) (request_words (sheets.Due y)) e (λ is. omega (arith, is))
+same_request sheets.List (sheets.Returns y) e = apart (request_words sheets.List) (request_words (sheets.Returns y)) e (λ is. omega (arith, is))
 same_request sheets.List (sheets.Report y) e = apart (request_words sheets.List) (request_words (sheets.Report y)) e (λ is. omega (arith, is))
 same_request (sheets.Student x) sheets.List e = apart (request_words (sheets.Student x)) (request_words sheets.List) e (λ is. omega (arith, is))
 same_request (sheets.Student x) (sheets.Need y) e = apart (request_words (sheets.Student x)) (request_words (sheets.Need y)) e (λ is. omega (arith, is))
 same_request (sheets.Student x) (sheets.Quotes y) e = apart (request_words (sheets.Student x)) (request_words (sheets.Quotes y)) e (λ is. omega (arith, is))
 same_request (sheets.Student x) (sheets.Payments y) e = apart (request_words (sheets.Student x)) (request_words (sheets.Payments y)) e (λ is. omega (arith, is))
 same_request (sheets.Student x) (sheets.Withdrawal y) e = apart (request_words (sheets.Student x)) (request_words (sheets.Withdrawal y)) e (λ is. omega (arith, is))
+same_request (sheets.Student x) (sheets.Due y) e = apart (request_words (sheets.Student x)) (request_words (sheets.Due y)) e (λ is. omega (arith, is))
+same_request (sheets.Student x) (sheets.Returns y) e = apart (request_words (sheets.Student x)) (request_words (sheets.Returns y)) e (λ is. omega (arith, is))
 same_request (sheets.Student x) (sheets.Report y) e = apart (request_words (sheets.Student x)) (request_words (sheets.Report y)) e (λ is. omega (arith, is))
 same_request (sheets.Need x) sheets.List e = apart (request_words (sheets.Need x)) (request_words sheets.List) e (λ is. omega (arith, is))
 same_request (sheets.Need x) (sheets.Student y) e = apart (request_words (sheets.Need x)) (request_words (sheets.Student y)) e (λ is. omega (arith, is))
 same_request (sheets.Need x) (sheets.Quotes y) e = apart (request_words (sheets.Need x)) (request_words (sheets.Quotes y)) e (λ is. omega (arith, is))
 same_request (sheets.Need x) (sheets.Payments y) e = apart (request_words (sheets.Need x)) (request_words (sheets.Payments y)) e (λ is. omega (arith, is))
 same_request (sheets.Need x) (sheets.Withdrawal y) e = apart (request_words (sheets.Need x)) (request_words (sheets.Withdrawal y)) e (λ is. omega (arith, is))
+same_request (sheets.Need x) (sheets.Due y) e = apart (request_words (sheets.Need x)) (request_words (sheets.Due y)) e (λ is. omega (arith, is))
+same_request (sheets.Need x) (sheets.Returns y) e = apart (request_words (sheets.Need x)) (request_words (sheets.Returns y)) e (λ is. omega (arith, is))
 same_request (sheets.Need x) (sheets.Report y) e = apart (request_words (sheets.Need x)) (request_words (sheets.Report y)) e (λ is. omega (arith, is))
 same_request (sheets.Quotes x) sheets.List e = apart (request_words (sheets.Quotes x)) (request_words sheets.List) e (λ is. omega (arith, is))
 same_request (sheets.Quotes x) (sheets.Student y) e = apart (request_words (sheets.Quotes x)) (request_words (sheets.Student y)) e (λ is. omega (arith, is))
 same_request (sheets.Quotes x) (sheets.Need y) e = apart (request_words (sheets.Quotes x)) (request_words (sheets.Need y)) e (λ is. omega (arith, is))
 same_request (sheets.Quotes x) (sheets.Payments y) e = apart (request_words (sheets.Quotes x)) (request_words (sheets.Payments y)) e (λ is. omega (arith, is))
 same_request (sheets.Quotes x) (sheets.Withdrawal y) e = apart (request_words (sheets.Quotes x)) (request_words (sheets.Withdrawal y)) e (λ is. omega (arith, is))
+same_request (sheets.Quotes x) (sheets.Due y) e = apart (request_words (sheets.Quotes x)) (request_words (sheets.Due y)) e (λ is. omega (arith, is))
+same_request (sheets.Quotes x) (sheets.Returns y) e = apart (request_words (sheets.Quotes x)) (request_words (sheets.Returns y)) e (λ is. omega (arith, is))
 same_request (sheets.Quotes x) (sheets.Report y) e = apart (request_words (sheets.Quotes x)) (request_words (sheets.Report y)) e (λ is. omega (arith, is))
 same_request (sheets.Payments x) sheets.List e = apart (request_words (sheets.Payments x)) (request_words sheets.List) e (λ is. omega (arith, is))
 same_request (sheets.Payments x) (sheets.Student y) e = apart (request_words (sheets.Payments x)) (request_words (sheets.Student y)) e (λ is. omega (arith, is))
 same_request (sheets.Payments x) (sheets.Need y) e = apart (request_words (sheets.Payments x)) (request_words (sheets.Need y)) e (λ is. omega (arith, is))
 same_request (sheets.Payments x) (sheets.Quotes y) e = apart (request_words (sheets.Payments x)) (request_words (sheets.Quotes y)) e (λ is. omega (arith, is))
 same_request (sheets.Payments x) (sheets.Withdrawal y) e = apart (request_words (sheets.Payments x)) (request_words (sheets.Withdrawal y)) e (λ is. omega (arith, is))
+same_request (sheets.Payments x) (sheets.Due y) e = apart (request_words (sheets.Payments x)) (request_words (sheets.Due y)) e (λ is. omega (arith, is))
+same_request (sheets.Payments x) (sheets.Returns y) e = apart (request_words (sheets.Payments x)) (request_words (sheets.Returns y)) e (λ is. omega (arith, is))
 same_request (sheets.Payments x) (sheets.Report y) e = apart (request_words (sheets.Payments x)) (request_words (sheets.Report y)) e (λ is. omega (arith, is))
 same_request (sheets.Withdrawal x) sheets.List e = apart (request_words (sheets.Withdrawal x)) (request_words sheets.List) e (λ is. omega (arith, is))
 same_request (sheets.Withdrawal x) (sheets.Student y) e = apart (request_words (sheets.Withdrawal x)) (request_words (sheets.Student y)) e (λ is. omega (arith, is))
 same_request (sheets.Withdrawal x) (sheets.Need y) e = apart (request_words (sheets.Withdrawal x)) (request_words (sheets.Need y)) e (λ is. omega (arith, is))
 same_request (sheets.Withdrawal x) (sheets.Quotes y) e = apart (request_words (sheets.Withdrawal x)) (request_words (sheets.Quotes y)) e (λ is. omega (arith, is))
 same_request (sheets.Withdrawal x) (sheets.Payments y) e = apart (request_words (sheets.Withdrawal x)) (request_words (sheets.Payments y)) e (λ is. omega (arith, is))
+same_request (sheets.Withdrawal x) (sheets.Due y) e = apart (request_words (sheets.Withdrawal x)) (request_words (sheets.Due y)) e (λ is. omega (arith, is))
+same_request (sheets.Withdrawal x) (sheets.Returns y) e = apart (request_words (sheets.Withdrawal x)) (request_words (sheets.Returns y)) e (λ is. omega (arith, is))
 same_request (sheets.Withdrawal x) (sheets.Report y) e = apart (request_words (sheets.Withdrawal x)) (request_words (sheets.Report y)) e (λ is. omega (arith, is))
+same_request (sheets.Due x) sheets.List e = apart (request_words (sheets.Due x)) (request_words sheets.List) e (λ is. omega (arith, is))
+same_request (sheets.Due x) (sheets.Student y) e = apart (request_words (sheets.Due x)) (request_words (sheets.Student y)) e (λ is. omega (arith, is))
+same_request (sheets.Due x) (sheets.Need y) e = apart (request_words (sheets.Due x)) (request_words (sheets.Need y)) e (λ is. omega (arith, is))
+same_request (sheets.Due x) (sheets.Quotes y) e = apart (request_words (sheets.Due x)) (request_words (sheets.Quotes y)) e (λ is. omega (arith, is))
+same_request (sheets.Due x) (sheets.Payments y) e = apart (request_words (sheets.Due x)) (request_words (sheets.Payments y)) e (λ is. omega (arith, is))
+same_request (sheets.Due x) (sheets.Withdrawal y) e = apart (request_words (sheets.Due x)) (request_words (sheets.Withdrawal y)) e (λ is. omega (arith, is))
+same_request (sheets.Due x) (sheets.Returns y) e = apart (request_words (sheets.Due x)) (request_words (sheets.Returns y)) e (λ is. omega (arith, is))
+same_request (sheets.Due x) (sheets.Report y) e = apart (request_words (sheets.Due x)) (request_words (sheets.Report y)) e (λ is. omega (arith, is))
+same_request (sheets.Returns x) sheets.List e = apart (request_words (sheets.Returns x)) (request_words sheets.List) e (λ is. omega (arith, is))
+same_request (sheets.Returns x) (sheets.Student y) e = apart (request_words (sheets.Returns x)) (request_words (sheets.Student y)) e (λ is. omega (arith, is))
+same_request (sheets.Returns x) (sheets.Need y) e = apart (request_words (sheets.Returns x)) (request_words (sheets.Need y)) e (λ is. omega (arith, is))
+same_request (sheets.Returns x) (sheets.Quotes y) e = apart (request_words (sheets.Returns x)) (request_words (sheets.Quotes y)) e (λ is. omega (arith, is))
+same_request (sheets.Returns x) (sheets.Payments y) e = apart (request_words (sheets.Returns x)) (request_words (sheets.Payments y)) e (λ is. omega (arith, is))
+same_request (sheets.Returns x) (sheets.Withdrawal y) e = apart (request_words (sheets.Returns x)) (request_words (sheets.Withdrawal y)) e (λ is. omega (arith, is))
+same_request (sheets.Returns x) (sheets.Due y) e = apart (request_words (sheets.Returns x)) (request_words (sheets.Due y)) e (λ is. omega (arith, is))
+same_request (sheets.Returns x) (sheets.Report y) e = apart_third (request_words (sheets.Returns x)) (request_words (sheets.Report y)) e (λ is. omega (arith, is))
 same_request (sheets.Report x) sheets.List e = apart (request_words (sheets.Report x)) (request_words sheets.List) e (λ is. omega (arith, is))
 same_request (sheets.Report x) (sheets.Student y) e = apart (request_words (sheets.Report x)) (request_words (sheets.Student y)) e (λ is. omega (arith, is))
 same_request (sheets.Report x) (sheets.Need y) e = apart (request_words (sheets.Report x)) (request_words (sheets.Need y)) e (λ is. omega (arith, is))
 same_request (sheets.Report x) (sheets.Quotes y) e = apart (request_words (sheets.Report x)) (request_words (sheets.Quotes y)) e (λ is. omega (arith, is))
 same_request (sheets.Report x) (sheets.Payments y) e = apart (request_words (sheets.Report x)) (request_words (sheets.Payments y)) e (λ is. omega (arith, is))
 same_request (sheets.Report x) (sheets.Withdrawal y) e = apart (request_words (sheets.Report x)) (request_words (sheets.Withdrawal y)) e (λ is. omega (arith, is))
+same_request (sheets.Report x) (sheets.Due y) e = apart (request_words (sheets.Report x)) (request_words (sheets.Due y)) e (λ is. omega (arith, is))
+same_request (sheets.Report x) (sheets.Returns y) e = apart_third (request_words (sheets.Report x)) (request_words (sheets.Returns y)) e (λ is. omega (arith, is))
 
 -- the words of a request are read as it
 pub reads_request : (words : List (List ℕ)) (r : SheetRequest) → words ≡ request_words r → ReadsRequest words (Some r)
@@ -152,6 +224,8 @@ reads_no_quotes words reads r = (λ same. absurd cc, λ told. absurd (none r tol
     none (sheets.Quotes of) told = let bad : None ≡ Some of = (reads of).1 cc in cc
     none (sheets.Payments of) told = apart (codes "quotes" ∷ words) (request_words (sheets.Payments of)) told (λ is. omega (arith, is))
     none (sheets.Withdrawal of) told = apart (codes "quotes" ∷ words) (request_words (sheets.Withdrawal of)) told (λ is. omega (arith, is))
+    none (sheets.Due of) told = apart (codes "quotes" ∷ words) (request_words (sheets.Due of)) told (λ is. omega (arith, is))
+    none (sheets.Returns of) told = apart (codes "quotes" ∷ words) (request_words (sheets.Returns of)) told (λ is. omega (arith, is))
     none (sheets.Report of) told = apart (codes "quotes" ∷ words) (request_words (sheets.Report of)) told (λ is. omega (arith, is))
 
 -- payments behind theirs
@@ -168,6 +242,8 @@ reads_no_payments words reads r = (λ same. absurd cc, λ told. absurd (none r t
     none (sheets.Quotes of) told = apart (codes "payments" ∷ words) (request_words (sheets.Quotes of)) told (λ is. omega (arith, is))
     none (sheets.Payments of) told = let bad : None ≡ Some of = (reads of).1 cc in cc
     none (sheets.Withdrawal of) told = apart (codes "payments" ∷ words) (request_words (sheets.Withdrawal of)) told (λ is. omega (arith, is))
+    none (sheets.Due of) told = apart (codes "payments" ∷ words) (request_words (sheets.Due of)) told (λ is. omega (arith, is))
+    none (sheets.Returns of) told = apart (codes "payments" ∷ words) (request_words (sheets.Returns of)) told (λ is. omega (arith, is))
     none (sheets.Report of) told = apart (codes "payments" ∷ words) (request_words (sheets.Report of)) told (λ is. omega (arith, is))
 
 -- a report behind its name
@@ -184,7 +260,20 @@ reads_no_report words reads r = (λ same. absurd cc, λ told. absurd (none r tol
     none (sheets.Quotes of) told = apart (codes "report" ∷ words) (request_words (sheets.Quotes of)) told (λ is. omega (arith, is))
     none (sheets.Payments of) told = apart (codes "report" ∷ words) (request_words (sheets.Payments of)) told (λ is. omega (arith, is))
     none (sheets.Withdrawal of) told = apart (codes "report" ∷ words) (request_words (sheets.Withdrawal of)) told (λ is. omega (arith, is))
+    none (sheets.Due of) told = apart (codes "report" ∷ words) (request_words (sheets.Due of)) told (λ is. omega (arith, is))
+    none (sheets.Returns of) told = apart_third (codes "report" ∷ words) (request_words (sheets.Returns of)) told (λ is. omega (arith, is))
     none (sheets.Report of) told = let bad : None ≡ Some of = (reads of).1 cc in cc
+
+-- a text that is read as a day, and one that is read as none
+pub reads_day : (word : List ℕ) (read : Result ℕ Malformed) (day : ℕ) → read ≡ Ok day → read ≡ day_in word → IsDayText word day → ReadsDay word (Some day)
+reads_day word read day is value text n few = (
+  λ same. let at : day ≡ n = cc in day_text-is word day text ∙ ap day_text at,
+  λ told. let again : Ok day ≡ Ok n = sym is ∙ value ∙ ap day_in told ∙ day_again n few in let at : day ≡ n = cc in ap Some at,
+)
+
+pub reads_no_day : (word : List ℕ) (read : Result ℕ Malformed) (e : Malformed) → read ≡ Err e → read ≡ day_in word → ReadsDay word None
+reads_no_day word read e is value n few =
+    (λ same. absurd cc, λ told. let bad : Ok n ≡ Err e = sym (day_again n few) ∙ ap day_in (sym told) ∙ sym value ∙ is in absurd cc)
 
 -- ---- rows
 abbrev row_of : Option Position → SheetRequest → SheetRow
@@ -201,6 +290,8 @@ not_upto r rest e = letters r (ap (λ (words : List (List ℕ)). get_or (get_or 
     letters (sheets.Quotes of) is = omega (arith, is)
     letters (sheets.Payments of) is = omega (arith, is)
     letters (sheets.Withdrawal of) is = omega (arith, is)
+    letters (sheets.Due of) is = omega (arith, is)
+    letters (sheets.Returns of) is = omega (arith, is)
     letters (sheets.Report report) is = omega (arith, is)
 
 -- words are those of one position at most
@@ -250,6 +341,8 @@ no_words = no_row [] none
     none None (sheets.Quotes of) told = cc
     none None (sheets.Payments of) told = cc
     none None (sheets.Withdrawal of) told = cc
+    none None (sheets.Due of) told = cc
+    none None (sheets.Returns of) told = cc
     none None (sheets.Report report) told = cc
     none (Some n) r told = cc
 

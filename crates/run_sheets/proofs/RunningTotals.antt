@@ -8,7 +8,7 @@ use Rattle.aid_types.specs.declared.number.Key.{Key}
 use Rattle.aid_types.specs.declared.number.Program.{Program}
 use Rattle.aid_filings.specs.declared.filing.Filing.{Filing}
 use Rattle.aid_filings.specs.declared.filing.What.{What}
-use Rattle.aid_filings.specs.declared.filing.What.TheVariants.{Book, School, Calendar, Prior, Apply, Enroll, Originate, Pay, Withdraw, Repay, Adjust}
+use Rattle.aid_filings.specs.declared.filing.What.TheVariants.{Book, School, Calendar, Prior, Apply, Enroll, Originate, Pay, Withdraw, Repay, Adjust, Cost, Sent, Amend}
 use Rattle.aid_filings.specs.declared.filing.WithdrawFacts.{WithdrawFacts}
 use Rattle.aid_stamps.specs.declared.stamp.Stamp.{Stamp}
 use Rattle.office_history.specs.Answer.{IsLegal}
@@ -174,6 +174,9 @@ told_add_up past stamp f o (Prior b) own legal = absurd cc
 told_add_up past stamp f o (Apply b) own legal = absurd cc
 told_add_up past stamp f o (Enroll b) own legal = absurd cc
 told_add_up past stamp f o (Originate b) own legal = absurd cc
+told_add_up past stamp f o (Cost b) own legal = absurd cc
+told_add_up past stamp f o (Amend b) own legal = absurd cc
+told_add_up past stamp f o (Sent b) own legal = tt
 
 -- those of any filing, from the nets of the term on
 module _ (school year term : ℕ) where

@@ -9,6 +9,8 @@ use Rattle.office_sheets.specs.Payments.{payments_sheet}
 use Rattle.office_sheets.specs.Quotes.{quotes_sheet}
 use Rattle.office_export.specs.Exports.{export_text}
 use Rattle.sheet_r2t4.specs.ReturnSheet.{return_sheet}
+use Rattle.sheet_returns.specs.Due.{due_sheet}
+use Rattle.sheet_returns.specs.Returns.{returns_sheet}
 use Rattle.run_words.specs.declared.command.ReportRequest.{ReportRequest}
 use Rattle.run_words.specs.declared.command.ReportRequest.TheVariants as reports
 use Rattle.log_stamps.specs.Entries.{entries, stamps_of}
@@ -36,6 +38,8 @@ sheet_on (sheets.Need of) past stamps = need_sheet past of.student of.year
 sheet_on (sheets.Quotes of) past stamps = quotes_sheet past of.school of.year of.term
 sheet_on (sheets.Payments of) past stamps = payments_sheet of.school of.year of.term past stamps
 sheet_on (sheets.Withdrawal of) past stamps = return_sheet past of.school of.student of.year of.term
+sheet_on (sheets.Due of) past stamps = due_sheet of.day of.school past
+sheet_on (sheets.Returns of) past stamps = returns_sheet of.school of.year past
 sheet_on (sheets.Report report) past stamps = report_on report past stamps
 
 -- the text of a request on a list

@@ -1,5 +1,6 @@
 -- The rows of words of a run that writes a sheet, behind the path of its journal. Own format.
-use Rattle.std.specs.Prelude.{◌≡◌, ◌↔◌, ◌++◌, ℕ, List, [], ◌∷◌, Option, Some, None, codes, decimal}
+use Rattle.std.specs.Prelude.{◌≡◌, ◌↔◌, ◌≤◌, ◌++◌, ℕ, List, [], ◌∷◌, Option, Some, None, codes, decimal}
+use Rattle.law_terms.specs.Days.{day_text}
 use Rattle.run_words.specs.Words.{report_words}
 use Rattle.run_sheets.specs.declared.request.Position.{Position}
 use Rattle.run_sheets.specs.declared.request.SheetRequest.{SheetRequest}
@@ -12,7 +13,7 @@ abbrev pub term_words : TermRequest → List (List ℕ)
 term_words of = decimal of.school ∷ decimal of.year ∷ decimal of.term ∷ []
 
 -- the words of a request: `list`, `student STUDENT`, `need STUDENT YEAR`, `quotes SCHOOL YEAR TERM`, `payments SCHOOL YEAR TERM`,
--- `withdrawal SCHOOL STUDENT YEAR TERM`, or a report as the aid office has it
+-- `withdrawal SCHOOL STUDENT YEAR TERM`, `due DAY SCHOOL`, `returns SCHOOL YEAR`, or a report as the aid office has it
 abbrev pub request_words : SheetRequest → List (List ℕ)
 request_words sheets.List = codes "list" ∷ []
 request_words (sheets.Student of) = codes "student" ∷ decimal of.student ∷ []
@@ -20,6 +21,8 @@ request_words (sheets.Need of) = codes "need" ∷ decimal of.student ∷ decimal
 request_words (sheets.Quotes of) = codes "quotes" ∷ term_words of
 request_words (sheets.Payments of) = codes "payments" ∷ term_words of
 request_words (sheets.Withdrawal of) = codes "withdrawal" ∷ decimal of.school ∷ decimal of.student ∷ decimal of.year ∷ decimal of.term ∷ []
+request_words (sheets.Due of) = codes "due" ∷ day_text of.day ∷ decimal of.school ∷ []
+request_words (sheets.Returns of) = codes "returns" ∷ decimal of.school ∷ decimal of.year ∷ []
 request_words (sheets.Report report) = codes "report" ∷ report_words report
 
 -- the words in front of it, where the list is taken up to a position: `upto POSITION`
@@ -42,6 +45,10 @@ ReadsTerm words read = (term : TermRequest) → (read ≡ Some term) ↔ (words 
 -- of a position
 abbrev pub ReadsPosition : List ℕ → Option Position → Type 0
 ReadsPosition word read = (position : Position) → (read ≡ Some position) ↔ (word ≡ decimal position.number)
+
+-- of a day up to 9999-12-31
+abbrev pub ReadsDay : List ℕ → Option ℕ → Type 0
+ReadsDay word read = (day : ℕ) → day ≤ 2958463 → (read ≡ Some day) ↔ (word ≡ day_text day)
 
 -- and of a row
 abbrev pub ReadsRow : List (List ℕ) → Option SheetRow → Type 0

@@ -1,7 +1,8 @@
 //! The sheets that can be asked for, and the words that say them.
+ghost use Rattle.std.specs.Prelude.{◌≤◌};
 ghost use Rattle.aid_types.specs.Ranges.{IsBetween};
 
-use aid_types::{School, Student, Year};
+use aid_types::{Day, School, Student, Year};
 use run_words::ReportRequest;
 
 /// The student whose ledger is asked for: 1 to 999,999,999,999.
@@ -38,6 +39,22 @@ pub struct WithdrawalRequest {
     pub ghost in_range: { (IsBetween 1 999999 school × IsBetween 1 999999999999 student) × (IsBetween 2000 2099 year × IsBetween 1 8 term) },
 }
 
+/// The school whose open returns are asked for, and the day on which they are looked at.
+#[derive(Clone, Copy)]
+pub struct DueRequest {
+    pub day: Day,
+    pub school: School,
+    pub ghost in_range: { (day ≤ 2958463) × IsBetween 1 999999 school },
+}
+
+/// The school and the award year whose returns are asked for, in the ranges of the others.
+#[derive(Clone, Copy)]
+pub struct ReturnsRequest {
+    pub school: School,
+    pub year: Year,
+    pub ghost in_range: { IsBetween 1 999999 school × IsBetween 2000 2099 year },
+}
+
 /// The sheet that is asked for.
 #[derive(Clone, Copy)]
 pub enum SheetRequest {
@@ -53,6 +70,10 @@ pub enum SheetRequest {
     Payments(TermRequest),
     /// `withdrawal SCHOOL STUDENT YEAR TERM`: the worksheet of a return of funds.
     Withdrawal(WithdrawalRequest),
+    /// `due DAY SCHOOL`: what a school has to send back and hasn't sent yet.
+    Due(DueRequest),
+    /// `returns SCHOOL YEAR`: what came of the returns of a school's year.
+    Returns(ReturnsRequest),
     /// `report standing YEAR`, and the other reports of the aid office.
     Report(ReportRequest),
 }

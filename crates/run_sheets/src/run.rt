@@ -56,8 +56,9 @@ fn write_sheet<D: Disk, K: Sink>(
 /// request, in front of which `upto POSITION` may stand: `list` writes all filings, each as its row behind its stamp;
 /// `student` the ledger of a student, `need` how the index and the award of a student in a year came about, `quotes`
 /// what the students of a term could be paid, `payments` what moved in it, `withdrawal` the worksheet of a return of
-/// funds, and `report` a report of the aid office. Behind `upto POSITION` the sheet
-/// is that of the list as it stood when so many filings were on it, and `none` where there are fewer. Nothing is filed.
+/// funds, `due` what a school still has to send back, `returns` what came of a year's returns, and `report` a report of
+/// the aid office. Behind `upto POSITION` the sheet is that of the list as it stood when so many filings were on it, and
+/// `none` where there are fewer. Nothing is filed.
 /// The office is opened, and the whole text is made, before any of it is written.
 ///
 /// The status is 0 where the text was written; 2 where the words are no row, and then no call is made on the disk; 4

@@ -12,6 +12,7 @@ use office_sheets::{front_of, list, none_text, payments, quotes, student};
 use run_words::ReportRequest;
 use sheet_need::need;
 use sheet_r2t4::withdrawal;
+use sheet_returns::due;
 use std::alloc::{AllocError, Global};
 
 /// The sheet of a row, as a text of the office.
@@ -77,6 +78,8 @@ fn sheet(
         SheetRequest::Withdrawal(of) => {
             withdrawal(alloc, office, of.school, of.student, of.year, of.term)
         }
+        SheetRequest::Due(of) => due(alloc, office, of.day, of.school),
+        SheetRequest::Returns(of) => sheet_returns::returns(alloc, office, of.school, of.year),
         SheetRequest::Report(request) => report(alloc, request, office, stamps),
     }
 }

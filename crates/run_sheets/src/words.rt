@@ -1,12 +1,14 @@
 //! The row that words are. It takes no memory.
-ghost use Rattle.std.specs.Prelude.{◌≡◌, ◌≢◌, ◌↔◌, ◌∷◌, [], IsTrue, MatchOption, codes, decimal, length, map, string_bytes};
+ghost use Rattle.std.specs.Prelude.{◌≡◌, ◌≢◌, ◌↔◌, ◌≤◌, ◌∷◌, [], IfSome, IsTrue, MatchOption, codes, decimal, length, map, string_bytes};
 ghost use Rattle.run_words.specs.Words.{ReadsReport};
-ghost use Rattle.run_sheets.specs.Words.{ReadsPosition, ReadsRequest, ReadsRow, ReadsTerm};
+ghost use Rattle.run_sheets.specs.Words.{ReadsDay, ReadsPosition, ReadsRequest, ReadsRow, ReadsTerm};
 
 use crate::request::{
-    NeedRequest, Position, SheetRequest, SheetRow, StudentRequest, TermRequest, WithdrawalRequest,
+    DueRequest, NeedRequest, Position, ReturnsRequest, SheetRequest, SheetRow, StudentRequest,
+    TermRequest, WithdrawalRequest,
 };
-use aid_types::{School, Student, Year};
+use aid_types::{Day, School, Student, Year};
+use law_terms::read_day;
 use run_words::{ReportRequest, number_in, report_request};
 
 /// The row that the words are: a request, in front of which `upto POSITION` may stand. `None` where they are no row. Each
@@ -140,6 +142,26 @@ fn last_request(name: &str, behind: &[String]) -> Option<SheetRequest>
         read_withdrawal(behind)
     } else if is_same_word(name, "report") {
         read_report(behind)
+    } else {
+        request_of_returns(name, behind)
+    }
+}
+
+// And of those of returns, which are left at last.
+fn request_of_returns(name: &str, behind: &[String]) -> Option<SheetRequest>
+    requires not_list { name.now ≢ codes "list" }
+    requires not_student { name.now ≢ codes "student" }
+    requires not_need { name.now ≢ codes "need" }
+    requires not_quotes { name.now ≢ codes "quotes" }
+    requires not_payments { name.now ≢ codes "payments" }
+    requires not_withdrawal { name.now ≢ codes "withdrawal" }
+    requires not_report { name.now ≢ codes "report" }
+    ensures { ReadsRequest (name.now ∷ map string_bytes behind.now) result }
+{
+    if is_same_word(name, "due") {
+        read_due(behind)
+    } else if is_same_word(name, "returns") {
+        read_returns(behind)
     } else {
         None
     }
@@ -291,6 +313,51 @@ fn withdrawal_request(school: &str, student: &str, year: &str, term: &str) -> Op
         student: Student(number_in(student, 1, 999_999_999_999)?),
         year: Year(number_in(year, 2000, 2099)? as u16),
         term: number_in(term, 1, 8)? as u8,
+    }))
+}
+
+// What a school has to send back on a day.
+fn read_due(behind: &[String]) -> Option<SheetRequest>
+    ensures { ReadsRequest (codes "due" ∷ map string_bytes behind.now) result }
+{
+    let (day, school) = two_words(behind)?;
+    due_request(day, school)
+}
+
+fn due_request(day: &str, school: &str) -> Option<SheetRequest>
+    ensures { ReadsRequest (codes "due" ∷ day.now ∷ school.now ∷ []) result }
+{
+    Some(SheetRequest::Due(DueRequest {
+        day: day_of(day)?,
+        school: School(number_in(school, 1, 999_999)? as u32),
+    }))
+}
+
+// The day that a word spells.
+fn day_of(word: &str) -> Option<Day>
+    ensures value { ReadsDay word.now result }
+    ensures in_range { IfSome result (λ day. day ≤ 2958463) }
+{
+    match read_day(word.as_bytes()) {
+        Ok(day) => Some(day),
+        Err(_) => None,
+    }
+}
+
+// The returns of a school's year.
+fn read_returns(behind: &[String]) -> Option<SheetRequest>
+    ensures { ReadsRequest (codes "returns" ∷ map string_bytes behind.now) result }
+{
+    let (school, year) = two_words(behind)?;
+    returns_request(school, year)
+}
+
+fn returns_request(school: &str, year: &str) -> Option<SheetRequest>
+    ensures { ReadsRequest (codes "returns" ∷ school.now ∷ year.now ∷ []) result }
+{
+    Some(SheetRequest::Returns(ReturnsRequest {
+        school: School(number_in(school, 1, 999_999)? as u32),
+        year: Year(number_in(year, 2000, 2099)? as u16),
     }))
 }
 

@@ -48,7 +48,7 @@ impl Entries for PlainFilings {
         match self.filings.next() {
             Some(entry) => {
                 let stamp = Stamp::plain();
-                StampedOfficeMachine::put(&StampedEntry { entry, stamp }, room);
+                StampedOfficeMachine::encode(&StampedEntry { entry, stamp }, room);
                 true
             }
             None => false,

@@ -4,7 +4,7 @@ use Rattle.std.specs.Prelude.{is_some, slice_index}
 use Rattle.aid_types.specs.declared.number.Key.{Key}
 use Rattle.aid_filings.specs.declared.filing.Filing.{Filing}
 use Rattle.aid_filings.specs.declared.filing.What.{What}
-use Rattle.aid_filings.specs.declared.filing.What.TheVariants.{Book as BookFiled, School, Calendar, Prior, Apply, Enroll, Originate, Pay, Withdraw, Repay, Adjust}
+use Rattle.aid_filings.specs.declared.filing.What.TheVariants.{Book as BookFiled, School, Calendar, Prior, Apply, Enroll, Originate, Pay, Withdraw, Repay, Adjust, Cost, Sent, Amend}
 use Rattle.aid_filings.specs.declared.filing.WithdrawFacts.{WithdrawFacts}
 use Rattle.law_r2t4.specs.Worksheet.{worksheet_of}
 use Rattle.law_r2t4.proofs.Programs.{sum-laid, sum-returned}
@@ -87,6 +87,9 @@ none_after (f ∷ past) c none =
     go key (Withdraw b) none ih = ih
     go key (Repay b) none ih = ih
     go key (Adjust b) none ih = ih
+    go key (Cost b) none ih = ih
+    go key (Sent b) none ih = ih
+    go key (Amend b) none ih = ih
 
 -- a withdrawal on the filings before it, and what comes after it
 module _ (past : List Filing) (key : Key) (w : WithdrawFacts) (program : ℕ) where
@@ -157,6 +160,9 @@ module _ (past : List Filing) (key : Key) (w : WithdrawFacts) (program : ℕ) wh
   step now k (Apply b) at ok ih = ih
   step now k (Enroll b) at ok ih = ih
   step now k (Originate b) at ok ih = ih
+  step now k (Cost b) at ok ih = ih
+  step now k (Sent b) at ok ih = ih
+  step now k (Amend b) at ok ih = ih
 
   holds : (newer : List Filing) → IsLegal (newer ++ filed ∷ past) → Holds (newer ++ filed ∷ past)
   holds [] legal = base legal.0 (withdrawn_first past key w legal.2)

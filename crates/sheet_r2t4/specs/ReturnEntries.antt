@@ -1,6 +1,6 @@
 -- The lines of a worksheet of a withdrawal, part by part (HEA 484B; 34 CFR 668.22(e) to (i)). `past` are the filings before the
 -- withdrawal, `now` all of them. Amounts by program are in the order of returns.
-use Rattle.std.specs.Prelude.{ℕ, ◌+◌, ◌-◌, ◌*◌, Bool, List, [], ◌∷◌, ◌++◌, Option, slice_index}
+use Rattle.std.specs.Prelude.{ℕ, ◌+◌, ◌-◌, ◌*◌, nat_lt, Bool, if◌then◌else◌, List, [], ◌∷◌, ◌++◌, Option, slice_index, sum}
 use Rattle.aid_types.specs.Nearest.{half_up}
 use Rattle.aid_types.specs.Programs.{minus, plus, rank, six}
 use Rattle.aid_types.specs.declared.number.Key.{Key}
@@ -9,14 +9,14 @@ use Rattle.aid_types.specs.declared.number.Program.TheVariants.{Unsub, Sub, Plus
 use Rattle.aid_types.specs.declared.term.Term.{Term}
 use Rattle.aid_filings.specs.declared.filing.Filing.{Filing}
 use Rattle.aid_filings.specs.declared.filing.WithdrawFacts.{WithdrawFacts}
-use Rattle.office_history.specs.Net.{Cell, days_of, is_cell, last_of, net_at, owed, paid_after, repaid, withdrawn_cell}
+use Rattle.office_history.specs.Net.{Cell, days_of, is_cell, last_of, net_at, owed, paid_after, repaid, returned, sent, withdrawn_cell}
 use Rattle.office_history.specs.Past.{the_term}
 use Rattle.law_r2t4.specs.declared.Lines.{Lines}
 use Rattle.sheet_r2t4.specs.declared.entry.Entry.{Entry}
 use Rattle.sheet_r2t4.specs.declared.entry.Figure.{Figure}
 use Rattle.sheet_r2t4.specs.declared.entry.Figure.TheVariants.{ByProgram, Cents, Days, Percent}
 use Rattle.sheet_r2t4.specs.declared.entry.Label.{Label}
-use Rattle.sheet_r2t4.specs.declared.entry.Label.TheVariants.{Disbursed, CouldHaveBeen, Both, TermDays, CompletedDays, PercentEarned, Earned, PostWithdrawal, Unearned, Charges, PercentUnearned, UnearnedCharges, SchoolReturns, LaidOnStudent, LoansLeft, GrantsAtFirst, GrantsKept, GrantsReturned, HalfOfGrants, OwedByProgram, RepaidSince, StillOwed, PaidSince, NetNow}
+use Rattle.sheet_r2t4.specs.declared.entry.Label.TheVariants.{Disbursed, CouldHaveBeen, Both, TermDays, CompletedDays, PercentEarned, Earned, PostWithdrawal, Unearned, Charges, PercentUnearned, UnearnedCharges, SchoolReturns, LaidOnStudent, LoansLeft, GrantsAtFirst, GrantsKept, GrantsReturned, HalfOfGrants, OwedByProgram, RepaidSince, StillOwed, PaidSince, NetNow, SentSince, StillToSend}
 
 -- a line. Own format
 abbrev pub entry : Label → Figure → Entry
@@ -98,11 +98,20 @@ since_entries now key w =
     ∷ entry StillOwed (ByProgram (minus (at_cells (owed now) key w) (at_cells (repaid now) key w)))
     ∷ entry PaidSince (ByProgram (at_cells (paid_after now) key w)) ∷ entry NetNow (ByProgram (nets_of now key w)) ∷ []
 
+-- by program what the school sent back of its part, and what of it is still to be sent. Own
+abbrev pub sent_lines : List ℕ → List ℕ → List Entry
+sent_lines gone part = entry SentSince (ByProgram gone) ∷ entry StillToSend (ByProgram (minus part gone)) ∷ []
+
+-- both, where anything was sent. Own
+abbrev pub sent_entries : List Filing → Key → WithdrawFacts → List Entry
+sent_entries now key w =
+    if nat_lt 0 (sum (at_cells (sent now) key w)) then sent_lines (at_cells (sent now) key w) (at_cells (returned now) key w) else []
+
 -- all lines of a worksheet, on a term, the nets before the withdrawal, and what was worked out from both. Own format
 abbrev pub entries_on : Option Term → List ℕ → Lines → List Filing → Key → WithdrawFacts → List Entry
 entries_on term net l now key w =
     disbursed_entries net w.could ++ days_entries term w.last ++ earned_entries l ++ charges_entries w.charges l.percent
-    ++ returned_entries net w.could l ++ since_entries now key w
+    ++ returned_entries net w.could l ++ since_entries now key w ++ sent_entries now key w
 
 -- those of a withdrawal
 abbrev pub return_entries : List Filing → List Filing → Key → WithdrawFacts → Lines → List Entry

@@ -1,7 +1,7 @@
 -- The words of a worksheet's lines. The letters are those of the Department's worksheet for credit-hour programs.
 use Rattle.std.specs.Prelude.{ℕ, List, codes}
 use Rattle.sheet_r2t4.specs.declared.entry.Label.{Label}
-use Rattle.sheet_r2t4.specs.declared.entry.Label.TheVariants.{Disbursed, CouldHaveBeen, Both, TermDays, CompletedDays, PercentEarned, Earned, PostWithdrawal, Unearned, Charges, PercentUnearned, UnearnedCharges, SchoolReturns, LaidOnStudent, LoansLeft, GrantsAtFirst, GrantsKept, GrantsReturned, HalfOfGrants, OwedByProgram, RepaidSince, StillOwed, PaidSince, NetNow}
+use Rattle.sheet_r2t4.specs.declared.entry.Label.TheVariants.{Disbursed, CouldHaveBeen, Both, TermDays, CompletedDays, PercentEarned, Earned, PostWithdrawal, Unearned, Charges, PercentUnearned, UnearnedCharges, SchoolReturns, LaidOnStudent, LoansLeft, GrantsAtFirst, GrantsKept, GrantsReturned, HalfOfGrants, OwedByProgram, RepaidSince, StillOwed, PaidSince, NetNow, SentSince, StillToSend}
 
 -- the letter of a line, and a space
 abbrev pub letter_text : Label → List ℕ
@@ -48,3 +48,5 @@ words_text RepaidSince = codes "repaid since"
 words_text StillOwed = codes "still owed"
 words_text PaidSince = codes "paid since"
 words_text NetNow = codes "net now"
+words_text SentSince = codes "sent back since"
+words_text StillToSend = codes "still to send back"

@@ -2,7 +2,9 @@
 ghost use Rattle.std.specs.Prelude.{◌≡◌, ◌≤◌, Some};
 ghost use Rattle.aid_types.specs.Ranges.{EachIsCents};
 ghost use Rattle.law_terms.specs.Terms.{IsLawful};
+ghost use Rattle.office_history.specs.Net.{returned as returned_of, sent};
 ghost use Rattle.sheet_r2t4.specs.ReturnEntries.{
+  at_cells,
   both_of as both_of_program,
   charges_entries,
   days_entries,
@@ -15,6 +17,7 @@ ghost use Rattle.sheet_r2t4.specs.ReturnEntries.{
   left_of as left_of_program,
   loans_left as loans_left_of,
   returned_entries,
+  sent_lines,
   since_entries,
 };
 
@@ -195,5 +198,34 @@ pub(crate) fn since(office: &Office, key: &Key, withdrawal: &WithdrawFacts) -> [
         entry(Label::StillOwed, Figure::ByProgram(still_owed)),
         entry(Label::PaidSince, Figure::ByProgram(account.after)),
         entry(Label::NetNow, Figure::ByProgram(net)),
+    ]
+}
+
+/// What the school sent back of its part of a withdrawal, and that part, by program.
+pub(crate) fn sent_back(
+    office: &Office,
+    key: &Key,
+    withdrawal: &WithdrawFacts,
+) -> (ByProgram, ByProgram)
+    ensures gone { result.0 ≡ at_cells (sent office.now.history) key.now withdrawal.now }
+    ensures part { result.1 ≡ at_cells (returned_of office.now.history) key.now withdrawal.now }
+{
+    let WithdrawFacts {
+        student,
+        year,
+        term,
+        ..
+    } = *withdrawal;
+    let account = office.place(key.school, student, year, term).account;
+    (account.sent, account.returned)
+}
+
+/// What was sent back of a part, and what of it is still to be sent.
+pub(crate) fn sent_since(gone: &ByProgram, part: &ByProgram) -> [Entry; 2]
+    ensures { result ≡ sent_lines gone.now part.now }
+{
+    [
+        entry(Label::SentSince, Figure::ByProgram(*gone)),
+        entry(Label::StillToSend, Figure::ByProgram(part.minus(gone))),
     ]
 }

@@ -28,6 +28,8 @@ pub enum Label {
     StillOwed,
     PaidSince,
     NetNow,
+    SentSince,
+    StillToSend,
 }
 
 /// What a line tells: amounts by program, in cents; an amount in cents; days; or tenths of a percent.

@@ -97,8 +97,8 @@ fn put_by_program(amounts: &ByProgram, out: &mut Vec<u8>) -> Result<(), AllocErr
     put_cents(11, total(cents), out)
 }
 
-// The sum of amounts by program, however great they are.
-fn total(cents: [u64; 6]) -> u128
+/// The sum of amounts by program, however great they are.
+pub(crate) fn total(cents: [u64; 6]) -> u128
     ensures { result ≡ sum cents }
 {
     let [unsub, sub, plus, pell, fseog, teach] = cents;

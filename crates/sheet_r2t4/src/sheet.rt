@@ -9,12 +9,14 @@ ghost use Rattle.aid_types.specs.Words.{program_text};
 ghost use Rattle.law_terms.specs.Days.{day_text};
 ghost use Rattle.law_terms.specs.Terms.{IsLawful};
 ghost use Rattle.office_history.specs.Sheets.{CanBeWorkedOut};
-ghost use Rattle.sheet_r2t4.specs.ReturnEntries.{entries_on};
+ghost use Rattle.sheet_r2t4.specs.ReturnEntries.{entries_on, sent_entries};
 ghost use Rattle.sheet_r2t4.specs.ReturnLines.{lines_text};
 ghost use Rattle.sheet_r2t4.specs.ReturnSheet.{due_words, heading, places as places_of, return_text, title as title_of};
 
-use crate::entries::{charges, days_of_term, disbursed, earned, returned, since};
-use crate::lines::{put_blanks, put_digits, put_lines, put_right, put_text};
+use crate::entries::{
+    charges, days_of_term, disbursed, earned, returned, sent_back, sent_since, since,
+};
+use crate::lines::{put_blanks, put_digits, put_lines, put_right, put_text, total};
 use crate::worked::{WorkedOut, worked_out};
 use aid_filings::WithdrawFacts;
 use aid_types::{Day, Key, Program, School, Student, Year, program_name};
@@ -184,5 +186,23 @@ fn put_figures(
     put_lines(&earned(lines), out)?;
     put_lines(&charges(withdrawal.charges, lines.percent), out)?;
     put_lines(&returned(net, could, lines), out)?;
-    put_lines(&since(office, key, withdrawal), out)
+    put_lines(&since(office, key, withdrawal), out)?;
+    put_sent(office, key, withdrawal, out)
+}
+
+// Appends what the school sent back, and what it has still to send, where it sent anything.
+#[tactic(auto, unfolding(crate::specs::ReturnLines::lines_text))]
+fn put_sent(
+    office: &Office,
+    key: &Key,
+    withdrawal: &WithdrawFacts,
+    out: &mut Vec<u8>,
+) -> Result<(), AllocError>
+    ensures { OnOk result (out.new.items ≡ out.old.items ++ lines_text (sent_entries office.now.history key.now withdrawal.now)) }
+{
+    let (gone, part) = sent_back(office, key, withdrawal);
+    if total(gone.cents()) == 0 {
+        return Ok(());
+    }
+    put_lines(&sent_since(&gone, &part), out)
 }

@@ -57,5 +57,7 @@ pub(crate) fn words(label: Label) -> &'static str
         Label::StillOwed => "still owed",
         Label::PaidSince => "paid since",
         Label::NetNow => "net now",
+        Label::SentSince => "sent back since",
+        Label::StillToSend => "still to send back",
     }
 }

@@ -12,21 +12,23 @@ use Rattle.aid_types.specs.declared.number.Program.{Program}
 use Rattle.aid_types.specs.declared.number.Program.TheVariants.{Unsub, Sub, Plus, Pell, Fseog, Teach}
 use Rattle.aid_types.proofs.Same.{key_parts, key_whole, side_parts, side_whole}
 use Rattle.aid_types.proofs.SameApplication.{application_parts, application_whole}
+use Rattle.aid_filings.specs.declared.filing.AmendFacts.{AmendFacts}
 use Rattle.aid_filings.specs.declared.filing.Amount.{Amount}
 use Rattle.aid_filings.specs.declared.filing.CalendarFacts.{CalendarFacts}
 use Rattle.aid_filings.specs.declared.filing.EnrollFacts.{EnrollFacts}
 use Rattle.aid_filings.specs.declared.filing.Filing.{Filing}
 use Rattle.aid_filings.specs.declared.filing.OriginateFacts.{OriginateFacts}
 use Rattle.aid_filings.specs.declared.filing.SchoolFacts.{SchoolFacts}
+use Rattle.aid_filings.specs.declared.filing.SentFacts.{SentFacts}
 use Rattle.aid_filings.specs.declared.filing.What.{What}
-use Rattle.aid_filings.specs.declared.filing.What.TheVariants.{Book, School, Calendar, Prior, Apply, Enroll, Originate, Pay, Withdraw, Repay, Adjust}
+use Rattle.aid_filings.specs.declared.filing.What.TheVariants.{Book, School, Calendar, Prior, Apply, Enroll, Originate, Pay, Withdraw, Repay, Adjust, Cost, Sent, Amend}
 use Rattle.aid_filings.specs.declared.filing.WithdrawFacts.{WithdrawFacts}
-use Rattle.aid_filings.proofs.SameFiling.{amount_parts, amount_whole, calendar_facts_parts, calendar_facts_whole, enroll_facts_parts, enroll_facts_whole, originate_facts_parts, originate_facts_whole, school_facts_parts, school_facts_whole, withdraw_facts_parts, withdraw_facts_whole}
+use Rattle.aid_filings.proofs.SameFiling.{amend_facts_parts, amend_facts_whole, amount_parts, amount_whole, calendar_facts_parts, calendar_facts_whole, enroll_facts_parts, enroll_facts_whole, originate_facts_parts, originate_facts_whole, school_facts_parts, school_facts_whole, sent_facts_parts, sent_facts_whole, withdraw_facts_parts, withdraw_facts_whole}
 use Rattle.web_json.specs.Bodies.{has_bodies, said}
 use Rattle.format_bytes.specs.Numbers.{amount_numbers, application_numbers, break_days, day_number, facts_of, flag_number, key_numbers, kind_of, region_number, side_numbers}
-use Rattle.format_bytes.specs.Parts.{calendar_numbers, enroll_numbers, originate_numbers, school_numbers, withdraw_numbers}
+use Rattle.format_bytes.specs.Parts.{amend_numbers, calendar_numbers, enroll_numbers, originate_numbers, school_numbers, sent_numbers, withdraw_numbers}
 use Rattle.web_json.specs.Brought.{brought_stays, capped_stays, amount_stays, signed_stays, cents_stay}
-use Rattle.web_json.specs.Filings.{application_of, breaks_of, calendar_of, day_of, enroll_of, filing_with, flag_of, key_of, money_of, originate_of, program_at, region_of, school_of, side_of, what_of, withdraw_of}
+use Rattle.web_json.specs.Filings.{amend_of, application_of, breaks_of, calendar_of, day_of, enroll_of, filing_with, flag_of, key_of, money_of, originate_of, program_at, region_of, school_of, sent_of, side_of, what_of, withdraw_of}
 
 -- ---- numbers of a kind
 day_again : (day : ℕ) → day_of (day_number day) ≡ day
@@ -86,6 +88,16 @@ unfolding withdraw_facts_parts
 withdraw_again x = withdraw_facts_whole (withdraw_of (withdraw_numbers x)) x
     (λ i. (x.student, (x.year, (brought_stays 1 7 x.term x.in_range.0 i, (day_again x.last i, (day_again x.determined i, (capped_stays 99999999 x.charges x.in_range.1 i, cents_stay x.could x.could_in_range i)))))))
 
+sent_again : (x : SentFacts) → sent_of (sent_numbers x) ≡ x
+unfolding sent_facts_parts
+sent_again x = sent_facts_whole (sent_of (sent_numbers x)) x
+    (λ i. (x.student, (x.year, (brought_stays 1 7 x.term x.in_range.0 i, (program_again x.program i, (capped_stays 99999999 x.cents x.in_range.1 i, (day_again x.day i, capped_stays 999999999999 x.reference x.in_range.2 i)))))))
+
+amend_again : (x : AmendFacts) → amend_of (amend_numbers x) ≡ x
+unfolding amend_facts_parts
+amend_again x = amend_facts_whole (amend_of (amend_numbers x)) x
+    (λ i. (key_again x.of i, (brought_stays 1 2 x.change x.in_range.0 i, (brought_stays 1 6 x.reason x.in_range.1 i, capped_stays 999999999999 x.reference x.in_range.2 i))))
+
 side_again : (x : Side) → side_of (side_numbers x) ≡ x
 unfolding side_parts
 side_again x = side_whole (side_of (side_numbers x)) x
@@ -110,6 +122,9 @@ what_again (Pay x) is = ap (λ (y : Amount). Some (Pay y)) (money_again x)
 what_again (Withdraw x) is = ap (λ (y : WithdrawFacts). Some (Withdraw y)) (withdraw_again x)
 what_again (Repay x) is = ap (λ (y : Amount). Some (Repay y)) (money_again x)
 what_again (Adjust x) is = ap (λ (y : Amount). Some (Adjust y)) (money_again x)
+what_again (Cost x) is = ap (λ (y : OriginateFacts). Some (Cost y)) (originate_again x)
+what_again (Sent x) is = ap (λ (y : SentFacts). Some (Sent y)) (sent_again x)
+what_again (Amend x) is = ap (λ (y : AmendFacts). Some (Amend y)) (amend_again x)
 
 -- a filing of which there are bodies is that of its kind and its numbers
 pub filing_again : (f : Filing) → has_bodies (kind_of f.what) ≡ true → filing_with (said f) ≡ Some f

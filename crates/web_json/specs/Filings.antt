@@ -8,6 +8,7 @@ use Rattle.aid_types.specs.declared.application.Side.{Side}
 use Rattle.aid_types.specs.declared.number.Key.{Key}
 use Rattle.aid_types.specs.declared.number.Program.{Program}
 use Rattle.aid_types.specs.declared.number.Program.TheVariants.{Unsub, Sub, Plus, Pell, Fseog, Teach}
+use Rattle.aid_filings.specs.declared.filing.AmendFacts.{AmendFacts}
 use Rattle.aid_filings.specs.declared.filing.Amount.{Amount}
 use Rattle.aid_filings.specs.declared.filing.CalendarFacts.{CalendarFacts}
 use Rattle.aid_filings.specs.declared.filing.EnrollFacts.{EnrollFacts}
@@ -15,6 +16,7 @@ use Rattle.aid_filings.specs.declared.filing.Filing.{Filing}
 use Rattle.aid_filings.specs.declared.filing.OriginateFacts.{OriginateFacts}
 use Rattle.aid_filings.specs.declared.filing.PriorFacts.{PriorFacts}
 use Rattle.aid_filings.specs.declared.filing.SchoolFacts.{SchoolFacts}
+use Rattle.aid_filings.specs.declared.filing.SentFacts.{SentFacts}
 use Rattle.aid_filings.specs.declared.filing.What.{What}
 use Rattle.aid_filings.specs.declared.filing.What.TheVariants as whats
 use Rattle.aid_filings.specs.declared.filing.WithdrawFacts.{WithdrawFacts}
@@ -112,6 +114,27 @@ withdraw_of zs = record {
   could_in_range = are_cents (drop 6 zs);
 }
 
+abbrev pub sent_of : List ℤ → SentFacts
+sent_of zs = record {
+  student = natural zs 0;
+  year = natural zs 1;
+  term = term_of (natural zs 2);
+  program = program_at (natural zs 3);
+  cents = min 99999999 (natural zs 4);
+  day = day_of (at zs 5);
+  reference = min 999999999999 (natural zs 6);
+  in_range = (is_brought 1 7 (natural zs 2), is_capped 99999999 (natural zs 4), is_capped 999999999999 (natural zs 6));
+}
+
+abbrev pub amend_of : List ℤ → AmendFacts
+amend_of zs = record {
+  of = key_of (take 2 zs);
+  change = brought 1 2 (natural zs 2);
+  reason = brought 1 6 (natural zs 3);
+  reference = min 999999999999 (natural zs 4);
+  in_range = (is_brought 1 2 (natural zs 2), is_brought 1 6 (natural zs 3), is_capped 999999999999 (natural zs 4));
+}
+
 abbrev pub side_of : List ℤ → Side
 side_of zs = record {
   agi = signed_of (at zs 0);
@@ -190,6 +213,9 @@ what_of kinds.Pay zs = Some (whats.Pay (money_of zs))
 what_of kinds.Withdraw zs = Some (whats.Withdraw (withdraw_of zs))
 what_of kinds.Repay zs = Some (whats.Repay (money_of zs))
 what_of kinds.Adjust zs = Some (whats.Adjust (money_of zs))
+what_of kinds.Cost zs = Some (whats.Cost (originate_of zs))
+what_of kinds.Sent zs = Some (whats.Sent (sent_of zs))
+what_of kinds.Amend zs = Some (whats.Amend (amend_of zs))
 
 -- a kind and the numbers of a key and of what is filed
 abbrev pub filing_with : Kind × List ℤ → Option Filing

@@ -11,7 +11,7 @@ use Rattle.log_machine.specs.declared.names.Filed.{Filed}
 use Rattle.web_session.specs.Asks.{Scheme}
 use Rattle.web_session.specs.Ports.{AcceptorState}
 use Rattle.web_workers.specs.Sessions.{Served}
-use Rattle.web_workers.specs.Workers.{AreReady, HasEnded, HasServed, HasStopped, HoldsHandle, IsReady, Ran, ServesOwn, WorkerView, Works, all_shown}
+use Rattle.web_workers.specs.Workers.{AreReady, HasEnded, HasServed, HasStopped, HaveFoundRoom, HoldsHandle, IsReady, Ran, ServesOwn, WorkerView, Works, all_shown}
 use Rattle.web_workers.specs.declared.stop.WebEnd.{WebEnd}
 use Rattle.web_workers.specs.declared.stop.WebEnd.TheVariants.{Open, Done, AcceptorFault}
 
@@ -66,12 +66,13 @@ module _ {Entry Operation Response P : Type 0} (semantics : Semantics Entry Oper
     pub all_ended : All (HasEnded lock opening) worked
     all_ended k d lt = ended (k + 1) (get_or before k d) (get_or opened k d) (get_or worked k d) (ready k d (omega (arith, lt, one, other))) (works k d (omega (arith, lt, other)))
 
-    pub has_served : (snapshot closed : Snapshot (Filed Entry)) (after : List (WorkerView Entry P)) → opening ≡ snapshot → Ran opening closed worked → all_shown after ≡ all_shown worked → HasServed semantics own scheme tells faults limit snapshot closed before after
-    has_served snapshot closed after is ran shown =
+    pub has_served : (snapshot closed : Snapshot (Filed Entry)) (after : List (WorkerView Entry P)) → opening ≡ snapshot → Ran opening closed worked → (room : ℕ) → length before ≤ room → HaveFoundRoom room worked → all_shown after ≡ all_shown worked → HasServed semantics own scheme tells faults limit snapshot closed before after
+    has_served snapshot closed after is ran room enough found shown =
         subst (λ o. HasServed semantics own scheme tells faults limit o closed before after) is (record {
           workers = worked;
           count = other ∙ one;
           each = λ k d lt. serves_own (k + 1) (get_or before k d) (get_or opened k d) (get_or worked k d) (ready k d lt) (works k d (omega (arith, lt, one)));
           ran = ran;
+          found_room = λ some_want. let whole = found some_want in omega (arith, whole, enough);
           shown = shown;
         })

@@ -1,5 +1,5 @@
 -- What the connections of all workers were told, of the list at the end.
-use Rattle.std.proofs.Common.{◌≡◌, ◌⊎◌, inl, inr, ⊎_elim, ℕ, zero, suc, ◌+◌, ◌<◌, IsTrue, List, [], ◌∷◌, ◌++◌, Option, Some, length, get_or, refl, sym, ◌∙◌, subst, arith, zero-lt-suc}
+use Rattle.std.proofs.Common.{◌≡◌, ◌⊎◌, inl, inr, ⊎_elim, ℕ, zero, suc, ◌+◌, ◌<◌, List, [], ◌∷◌, ◌++◌, Option, Some, length, get_or, refl, sym, ◌∙◌, subst, arith, zero-lt-suc}
 use Rattle.std.specs.Prelude.{Contains}
 use Rattle.std.specs.List.{flat_map, sum_by}
 use Rattle.std.proofs.lemmas.List.Elements.{Contains-append_cases}
@@ -10,13 +10,13 @@ use Rattle.log_machine.specs.declared.reply.LogReply.{LogReply}
 use Rattle.log_lock.specs.declared.turned.Snapshot.{Snapshot}
 use Rattle.log_lock.specs.Passes.{IsOlder, numbered}
 use Rattle.log_lock.specs.Turning.{RoseBy}
-use Rattle.log_desks.specs.Desks.{faults_in, left_in, mine_in, seen_in, settled_in}
+use Rattle.log_desks.specs.Desks.{faults_in, left_in, mine_in, seen_in, settled_in, turns_in, wants_in}
 use Rattle.log_machine.specs.Names.{entries_of}
 use Rattle.log_machine.specs.declared.names.Filed.{Filed}
 use Rattle.log_desks.proofs.Turning.{entries_older}
 use Rattle.web_session.specs.Asks.{Scheme}
-use Rattle.web_workers.specs.AllTold.{AllHonest, AreCounted, EachIsBrought, EachIsTold, all_unavailable, below_suc, sum_below}
-use Rattle.web_workers.specs.Closed.{IsBroughtBy, times_unavailable}
+use Rattle.web_workers.specs.AllTold.{AllHonest, AreCounted, EachIsBrought, EachIsTold, HaveRoom, all_asked, all_no_storage, all_unavailable, below_suc, sum_below}
+use Rattle.web_workers.specs.Closed.{IsBroughtBy, times_asked, times_no_storage, times_unavailable}
 use Rattle.web_session.specs.Ports.{AcceptorState}
 use Rattle.web_workers.specs.NewEntry.{TellsFaults}
 use Rattle.web_workers.specs.Workers.{HasServed, WorkerView}
@@ -36,7 +36,7 @@ none_in : {X : Type 0} (xs : List X) (x : X) → xs ≡ [] → Contains xs x →
 none_in xs x none has = let bad : Contains [] x = subst (λ l. Contains l x) none has in omega (arith, bad.1)
 
 -- numbers that are those of a list have the same sum
-sum_below-is : {X : Type 0} (g : X → ℕ) (d : X) (n : ℕ) (xs : List X) (f : (k : ℕ) → k < n → ℕ) → length xs ≡ n → ((k : ℕ) (below : k < n) → f k below ≡ g (get_or xs k d)) → sum_below n f ≡ sum_by g xs
+pub sum_below-is : {X : Type 0} (g : X → ℕ) (d : X) (n : ℕ) (xs : List X) (f : (k : ℕ) → k < n → ℕ) → length xs ≡ n → ((k : ℕ) (below : k < n) → f k below ≡ g (get_or xs k d)) → sum_below n f ≡ sum_by g xs
 sum_below-is g d zero [] f size is = refl
 sum_below-is g d zero (x ∷ xs) f size is = absurd (omega (arith, size))
 sum_below-is g d (suc n) [] f size is = absurd (omega (arith, size))
@@ -107,3 +107,35 @@ module _ {Entry Operation Response P : Type 0} (semantics : Semantics Entry Oper
 
       all : all_unavailable semantics own scheme tells faults limit opening closed before after served told honest d ≡ sum_by (λ (d : WorkerView Entry P). faults_in d.handle) served.workers
       all = sum_below-is (λ (d : WorkerView Entry P). faults_in d.handle) d (length before) served.workers _ served.count exactly
+
+  -- where any ask was answered 507, there was no room left: at least as many asks as there are ports were answered otherwise
+  pub have_room : (told : EachIsTold semantics own scheme tells faults limit opening closed before after served) → HaveRoom semantics own scheme tells faults limit opening closed before after served told
+  have_room told honest d some_want =
+      let found = served.found_room (omega (arith, all_wants, some_want)) in
+      omega (arith, all_wants, all_turns, found)
+    where
+      same_wants : (k : ℕ) (inside : k < length before)
+          → times_no_storage semantics own scheme (k + 1) (entries_of closed.list) (served.each k d inside).last.mine 1 (served.each k d inside).served.sessions (told k d inside (honest k d inside)).told ≡ wants_in (get_or served.workers k d).handle
+      same_wants k inside =
+          let one = served.each k d inside in
+          let times = times_no_storage semantics own scheme (k + 1) (entries_of closed.list) one.last.mine 1 one.served.sessions (told k d inside (honest k d inside)).told in
+          let is = (told k d inside (honest k d inside)).wants in
+          let first = one.fresh.wants in
+          let same : times ≡ one.last.wants = omega (arith, is, first) in
+          subst (λ p. times ≡ wants_in p) (sym one.has) same
+
+      all_wants : all_no_storage semantics own scheme tells faults limit opening closed before after served told honest d ≡ sum_by (λ (d : WorkerView Entry P). wants_in d.handle) served.workers
+      all_wants = sum_below-is (λ (d : WorkerView Entry P). wants_in d.handle) d (length before) served.workers _ served.count same_wants
+
+      same_turns : (k : ℕ) (inside : k < length before)
+          → times_asked semantics own scheme (k + 1) (entries_of closed.list) (served.each k d inside).last.mine 1 (served.each k d inside).served.sessions (told k d inside (honest k d inside)).told ≡ turns_in (get_or served.workers k d).handle
+      same_turns k inside =
+          let one = served.each k d inside in
+          let times = times_asked semantics own scheme (k + 1) (entries_of closed.list) one.last.mine 1 one.served.sessions (told k d inside (honest k d inside)).told in
+          let is = (told k d inside (honest k d inside)).turns in
+          let first = one.fresh.turns in
+          let same : times ≡ one.last.turns = omega (arith, is, first) in
+          subst (λ p. times ≡ turns_in p) (sym one.has) same
+
+      all_turns : all_asked semantics own scheme tells faults limit opening closed before after served told honest d ≡ sum_by (λ (d : WorkerView Entry P). turns_in d.handle) served.workers
+      all_turns = sum_below-is (λ (d : WorkerView Entry P). turns_in d.handle) d (length before) served.workers _ served.count same_turns

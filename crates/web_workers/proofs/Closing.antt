@@ -179,6 +179,11 @@ module _ {Entry Operation Response : Type 0} (semantics : Semantics Entry Operat
               let one = here.told.faults (done_available s.bytes s.text here.done here.answers s.end here.text) in
               let other = more.have.faults in
               omega (arith, one, other);
+          wants =
+              let one = here.told.wants (done_available s.bytes s.text here.done here.answers s.end here.text) in
+              let other = more.have.wants in
+              omega (arith, one, other);
+          turns = let one = here.told.turns in let other = more.have.turns in omega (arith, one, other);
         };
         later = older_trans (entries_of first.seen) (entries_of s.after.seen) (entries_of last.seen) here.told.seen more.later;
         kept = λ entry has. more.kept entry (subst (λ l. Contains l entry) (sym here.told.mine) (Contains-append_left first.mine here.told.added entry has));
@@ -187,7 +192,7 @@ module _ {Entry Operation Response : Type 0} (semantics : Semantics Entry Operat
     pub told_sessions : (seen : List Entry) (number : ℕ) (first : Known (Filed Entry)) (sessions : List (Session Entry)) (last : Known (Filed Entry)) → IsOlder (entries_of last.seen) seen → AreSessions semantics own scheme honest port number first sessions last → Known_of seen number sessions first last
     told_sessions seen number first [] last older same =
         subst (λ l. Known_of seen number [] first l) (sym same) (record {
-          have = record { told = tt; mine = λ entry has. inl has; left = λ entry has. inl has; faults = omega arith };
+          have = record { told = tt; mine = λ entry has. inl has; left = λ entry has. inl has; faults = omega arith; wants = omega arith; turns = omega arith };
           later = older_refl (entries_of first.seen);
           kept = λ entry has. has;
         })

@@ -12,8 +12,8 @@ use Rattle.log_lock.specs.Turning.{RoseBy}
 use Rattle.log_lock.specs.Passes.{Known, IsOlder, Closes, numbered}
 use Rattle.log_lock.proofs.Lists.{older_trans}
 use Rattle.log_machine.specs.declared.names.Filed.{Filed}
-use Rattle.log_desks.specs.Desks.{IsFresh, IsJoined, mine_in, settled_in, left_in, faults_in, seen_in}
-use Rattle.web_workers.specs.Workers.{WorkerView, Gathers, Ran}
+use Rattle.log_desks.specs.Desks.{IsFresh, IsJoined, mine_in, settled_in, left_in, faults_in, wants_in, turns_in, seen_in}
+use Rattle.web_workers.specs.Workers.{WorkerView, Gathers, HaveFoundRoom, Ran}
 
 flat_push : {X A : Type 0} (f : X → List A) (xs : List X) (y : X) (all more : List A) → all ≡ flat_map f xs → more ≡ all ++ f y → more ≡ flat_map f (xs ++ y ∷ [])
 flat_push f xs y all more is then = then ∙ (ap (λ l. l ++ f y) is ∙ (ap (λ l. flat_map f xs ++ l) (sym (append-nil (f y))) ∙ sym (flat_map-append f xs (y ∷ []))))
@@ -31,6 +31,8 @@ module _ {Entry P : Type 0} (lock : TableId) (opening : Snapshot (Filed Entry)) 
     settled = fresh.settled;
     left = fresh.left;
     faults = fresh.faults;
+    wants = fresh.wants;
+    turns = fresh.turns;
     seen = All-nil (λ (d : WorkerView Entry P). IsOlder (seen_in d.handle) handle.seen);
   }
 
@@ -44,6 +46,8 @@ module _ {Entry P : Type 0} (lock : TableId) (opening : Snapshot (Filed Entry)) 
         settled = flat_push (λ (d : WorkerView Entry P). settled_in d.handle) workers worker handle.settled after.settled g.settled j.settled;
         left = flat_push (λ (d : WorkerView Entry P). left_in d.handle) workers worker handle.left after.left g.left j.left;
         faults = sum_push (λ (d : WorkerView Entry P). faults_in d.handle) workers worker handle.faults after.faults g.faults j.faults;
+        wants = sum_push (λ (d : WorkerView Entry P). wants_in d.handle) workers worker handle.wants after.wants g.wants j.wants;
+        turns = sum_push (λ (d : WorkerView Entry P). turns_in d.handle) workers worker handle.turns after.turns g.turns j.turns;
         seen = All-append newer workers (worker ∷ []) (All-weaker (λ (d : WorkerView Entry P). IsOlder (seen_in d.handle) handle.seen) newer (λ d older. older_trans (seen_in d.handle) handle.seen after.seen older j.earlier) workers g.seen)
             (All-cons newer worker [] j.seen (All-nil newer));
       }
@@ -67,3 +71,9 @@ module _ {Entry P : Type 0} (lock : TableId) (opening : Snapshot (Filed Entry)) 
     still = λ none. c.still (g.faults ∙ none) ∙ ap (λ (s : Snapshot (Filed Entry)). s.faults) g.opening_is;
     fixed = c.fixed ∙ ap (λ (s : Snapshot (Filed Entry)). s.fixed) g.opening_is;
   }
+
+  -- and what it was told of want of memory
+  pub found_room : (handle : Known (Filed Entry)) (workers : List (WorkerView Entry P)) (closed : Snapshot (Filed Entry)) (room : ℕ) → handle.room ≡ room → Gathers lock opening handle workers → Closes handle closed → HaveFoundRoom room workers
+  found_room handle workers closed room same g c some_want =
+      let found = c.memory (omega (arith, g.wants, some_want)) in
+      omega (arith, g.wants, g.turns, same, found)

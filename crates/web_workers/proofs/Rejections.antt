@@ -14,7 +14,7 @@ use Rattle.web_session.specs.declared.end.End.{End}
 use Rattle.web_session.specs.declared.end.End.TheVariants.{Closed, Cut, Rejected, Limit, ConnectionFault, NoMemory}
 use Rattle.web_session.specs.declared.head.Head.{Head}
 use Rattle.web_session.specs.declared.status.Status.{Status}
-use Rattle.web_session.specs.declared.status.Status.TheVariants.{BadRequest, Created, HeadTooLarge, MethodNotAllowed, NotFound, Unavailable}
+use Rattle.web_session.specs.declared.status.Status.TheVariants.{BadRequest, Created, HeadTooLarge, MethodNotAllowed, NoStorage, NotFound, Unavailable}
 use Rattle.web_workers.specs.Closed.{IsPart, IsTextOf, IsWhole, StopsAt, silent, answering, rejecting}
 use Rattle.web_workers.specs.Told.{IsAvailable}
 
@@ -98,10 +98,16 @@ module _ (other : Status) (found : NotFound ≢ other) (allowed : MethodNotAllow
   done_not bytes text done answers Limit t = whole_not bytes text done answers Limit t
 
 pub available : (limit : ℕ) (bytes : List ℕ) (requests : List Request) (e : Ending) → Brings limit bytes requests e → All IsAvailable requests
-available = brought_not Unavailable (λ e. let no : ⊥ = cc in no) (λ e. let no : ⊥ = cc in no)
+available limit bytes requests e b k d lt = (
+  brought_not Unavailable (λ e. let no : ⊥ = cc in no) (λ e. let no : ⊥ = cc in no) limit bytes requests e b k d lt,
+  brought_not NoStorage (λ e. let no : ⊥ = cc in no) (λ e. let no : ⊥ = cc in no) limit bytes requests e b k d lt,
+)
 
 pub done_available : (bytes text : List ℕ) (done : List Request) (answers : List Answer) (end : End) → IsTextOf bytes text done answers end → All IsAvailable done
-done_available = done_not Unavailable (λ e. let no : ⊥ = cc in no) (λ e. let no : ⊥ = cc in no)
+done_available bytes text done answers end t k d lt = (
+  done_not Unavailable (λ e. let no : ⊥ = cc in no) (λ e. let no : ⊥ = cc in no) bytes text done answers end t k d lt,
+  done_not NoStorage (λ e. let no : ⊥ = cc in no) (λ e. let no : ⊥ = cc in no) bytes text done answers end t k d lt,
+)
 
 -- no request's target is rejected by 201
 abbrev pub IsUncreated : Request → Type 0

@@ -12,7 +12,9 @@ use Rattle.log_lock.specs.Passes.{IsOlder, Known}
 use Rattle.log_lock.proofs.Lists.{older_refl, older_trans, older_length}
 use Rattle.log_desks.specs.Answered.{placed}
 use Rattle.log_machine.specs.Names.{entries_of, filed_by}
+use Rattle.log_lock.specs.Turning.{wants_in}
 use Rattle.log_desks.specs.Rows.{Replies}
+use Rattle.log_desks.specs.Shares.{wants_memory}
 use Rattle.log_machine.specs.declared.names.Filed.{Filed}
 use Rattle.log_machine.specs.declared.names.RowName.{RowName}
 use Rattle.log_desks.proofs.Turning.{entries_length}
@@ -24,9 +26,9 @@ use Rattle.web_session.specs.declared.status.Status.{Status}
 use Rattle.web_session.specs.declared.status.Status.TheVariants.{Okay, Created, BadRequest, NotFound, MethodNotAllowed, LengthRequired, ContentTooLarge, Unprocessable, HeadTooLarge, NotImplemented, Unavailable, NoStorage}
 use Rattle.web_workers.specs.Clerks.{Clerking, SubmitsOperation, HandleAnswers, clerk_faults}
 use Rattle.web_workers.specs.NewEntry.{TellsFaults}
-use Rattle.web_workers.specs.Told.{AreAnswersTo, HasTold, IsAnswerTo, IsAvailable, IsOwnOf, IsSaidOf, Rise, ask_by, ask_in, count_unavailable, one_if_unavailable, refusal_of}
+use Rattle.web_workers.specs.Told.{AreAnswersTo, HasTold, IsAnswerTo, IsAvailable, IsOwnOf, IsSaidOf, Rise, ask_by, ask_in, count_no_storage, count_unavailable, one_if_no_storage, one_if_some, one_if_unavailable, refusal_of}
 
--- ---- 503
+-- ---- 503 and 507
 not_one : (s : Status) → s ≢ Unavailable → one_if_unavailable s ≡ 0
 not_one Okay ne = refl
 not_one Created ne = refl
@@ -40,6 +42,20 @@ not_one HeadTooLarge ne = refl
 not_one NotImplemented ne = refl
 not_one Unavailable ne = absurd (ne refl)
 not_one NoStorage ne = refl
+
+not_stored : (s : Status) → s ≢ NoStorage → one_if_no_storage s ≡ 0
+not_stored Okay ne = refl
+not_stored Created ne = refl
+not_stored BadRequest ne = refl
+not_stored NotFound ne = refl
+not_stored MethodNotAllowed ne = refl
+not_stored LengthRequired ne = refl
+not_stored ContentTooLarge ne = refl
+not_stored Unprocessable ne = refl
+not_stored HeadTooLarge ne = refl
+not_stored NotImplemented ne = refl
+not_stored Unavailable ne = refl
+not_stored NoStorage ne = absurd (ne refl)
 
 -- ---- positions that rise
 module _ {E : Type 0} where
@@ -88,6 +104,8 @@ module _ {Entry Operation Response : Type 0} (semantics : Semantics Entry Operat
     owned = All-nil (λ (entry : ℕ × Filed Entry). IsOwnOf semantics own scheme by [] entry.1);
     left = λ entry has. inl has;
     faults = λ available. omega arith;
+    wants = λ available. omega arith;
+    turns = omega arith;
     seen = older_refl (entries_of before.seen);
     opening = refl;
     lock = refl;
@@ -116,6 +134,12 @@ module _ {Entry Operation Response : Type 0} (semantics : Semantics Entry Operat
         let more = rest.faults (All-tail IsAvailable request requests all) in
         omega (arith, first, more)
 
+    wants_of : All IsAvailable (request ∷ requests) → after.wants ≡ before.wants + count_no_storage (answer ∷ answers)
+    wants_of all =
+        let first = one.wants (All-cons IsAvailable request [] (All-head IsAvailable request requests all) (All-nil IsAvailable)) in
+        let more = rest.wants (All-tail IsAvailable request requests all) in
+        omega (arith, first, more)
+
     pub told_more : HasTold semantics own scheme by (request ∷ requests) (answer ∷ answers) before after
     told_more = record {
       each = (
@@ -130,6 +154,8 @@ module _ {Entry Operation Response : Type 0} (semantics : Semantics Entry Operat
           (All-weaker (λ (entry : ℕ × Filed Entry). IsOwnOf semantics own scheme by requests entry.1) (λ (entry : ℕ × Filed Entry). IsOwnOf semantics own scheme by (request ∷ requests) entry.1) (λ entry is. of_rest entry.1 is) rest.added rest.owned);
       left = λ entry has. left_of entry (rest.left entry has);
       faults = faults_of;
+      wants = wants_of;
+      turns = let first = one.turns in let more = rest.turns in omega (arith, first, more);
       seen = older_trans (entries_of before.seen) (entries_of mid.seen) (entries_of after.seen) one.seen rest.seen;
       opening = rest.opening ∙ one.opening;
       lock = rest.lock ∙ one.lock;
@@ -139,7 +165,7 @@ module _ {Entry Operation Response : Type 0} (semantics : Semantics Entry Operat
   -- ---- one request
   module _ (request : Request) (answer : Answer) where
     -- it asks nobody
-    told_nobody : (before after : Known (Filed Entry)) (status : Status) → ask_in semantics own scheme by request ≡ None → refusal_of request.head.call ≡ status → answer ≡ failure_of status → (IsAvailable request → status ≢ Unavailable) → after ≡ before → HasTold semantics own scheme by (request ∷ []) (answer ∷ []) before after
+    told_nobody : (before after : Known (Filed Entry)) (status : Status) → ask_in semantics own scheme by request ≡ None → refusal_of request.head.call ≡ status → answer ≡ failure_of status → (IsAvailable request → (status ≢ Unavailable) × (status ≢ NoStorage)) → after ≡ before → HasTold semantics own scheme by (request ∷ []) (answer ∷ []) before after
     told_nobody before after status none refused is available same =
         subst (λ a. HasTold semantics own scheme by (request ∷ []) (answer ∷ []) before a) (sym same) (record {
           each = (
@@ -151,7 +177,9 @@ module _ {Entry Operation Response : Type 0} (semantics : Semantics Entry Operat
           rise = omega arith;
           owned = All-nil (λ (entry : ℕ × Filed Entry). IsOwnOf semantics own scheme by (request ∷ []) entry.1);
           left = λ entry has. inl has;
-          faults = λ all. let zero_of : one_if_unavailable answer.status ≡ 0 = ap (λ (a : Answer). one_if_unavailable a.status) is ∙ not_one status (available (All-head IsAvailable request [] all)) in omega (arith, zero_of);
+          faults = λ all. let zero_of : one_if_unavailable answer.status ≡ 0 = ap (λ (a : Answer). one_if_unavailable a.status) is ∙ not_one status (available (All-head IsAvailable request [] all)).0 in omega (arith, zero_of);
+          wants = λ all. let zero_of : one_if_no_storage answer.status ≡ 0 = ap (λ (a : Answer). one_if_no_storage a.status) is ∙ not_stored status (available (All-head IsAvailable request [] all)).1 in omega (arith, zero_of);
+          turns = let no_ask : one_if_some (ask_in semantics own scheme by request) ≡ 0 = ap one_if_some none in omega (arith, no_ask);
           seen = older_refl (entries_of before.seen);
           opening = refl;
           lock = refl;
@@ -174,8 +202,9 @@ module _ {Entry Operation Response : Type 0} (semantics : Semantics Entry Operat
         placed_rise past low high None le most = omega (arith, le, most)
         placed_rise past low high (Some e) le most = (omega (arith, le), omega (arith, most))
 
-        told_said : (said : LogReply Response) → answer ≡ record { status = scheme.status said; text = scheme.text said } → Replies Unit semantics own by operation said before after → HasTold semantics own scheme by (request ∷ []) (answer ∷ []) before after
-        told_said (reply.Answered response front) is (past, judged, size, on) = record {
+        told_said : (said : LogReply Response) → answer ≡ record { status = scheme.status said; text = scheme.text said } → after.wants ≡ before.wants + wants_in (wants_memory said) → after.turns ≡ before.turns + 1
+            → Replies Unit semantics own by operation said before after → HasTold semantics own scheme by (request ∷ []) (answer ∷ []) before after
+        told_said (reply.Answered response front) is wants_is turns_is (past, judged, size, on) = record {
           each = (
             subst (λ o. IsAnswerTo semantics own scheme by (entries_of after.seen) after.mine (refusal_of request.head.call) o answer) (sym operations) (
               reply.Answered response front,
@@ -202,6 +231,10 @@ module _ {Entry Operation Response : Type 0} (semantics : Semantics Entry Operat
           faults = λ all.
               let none : one_if_unavailable answer.status ≡ 0 = ap (λ (a : Answer). one_if_unavailable a.status) is ∙ not_one (scheme.status (reply.Answered response front)) (λ bad. let no : IsTrue false = (unavailable (reply.Answered response front)).0 bad in let wrong : ⊥ = cc in wrong) in
               omega (arith, none, on.faults);
+          wants = λ all.
+              let none : one_if_no_storage answer.status ≡ 0 = ap (λ (a : Answer). one_if_no_storage a.status) is ∙ not_stored (scheme.status (reply.Answered response front)) (λ bad. let no : IsTrue false = (unavailable (reply.Answered response front)).2 bad in let wrong : ⊥ = cc in wrong) in
+              omega (arith, none, wants_is);
+          turns = let one : one_if_some (ask_in semantics own scheme by request) ≡ 1 = ap one_if_some operations in omega (arith, one, turns_is);
           seen = older_trans (entries_of before.seen) past (entries_of after.seen) on.earlier (older_trans past (after_ask semantics past operation) (entries_of after.seen) (older_with (semantics.added past operation) past) on.later);
           opening = on.opening;
           lock = lock_is;
@@ -211,7 +244,7 @@ module _ {Entry Operation Response : Type 0} (semantics : Semantics Entry Operat
             older_with : (o : Option Entry) (past : List Entry) → IsOlder past (with_entry o past)
             older_with None past = older_refl past
             older_with (Some e) past = (e ∷ [], refl)
-        told_said (reply.DiskFault undecided) is failed = record {
+        told_said (reply.DiskFault undecided) is wants_is turns_is failed = record {
           each = (subst (λ o. IsAnswerTo semantics own scheme by (entries_of after.seen) after.mine (refusal_of request.head.call) o answer) (sym operations) (reply.DiskFault undecided, is, tt), tt);
           added = [];
           mine = failed.mine ∙ sym (append-nil before.mine);
@@ -221,6 +254,10 @@ module _ {Entry Operation Response : Type 0} (semantics : Semantics Entry Operat
           faults = λ all.
               let one : one_if_unavailable answer.status ≡ 1 = ap (λ (a : Answer). one_if_unavailable a.status) is ∙ ap one_if_unavailable ((unavailable (reply.DiskFault undecided)).1 refl) in
               omega (arith, one, failed.faults);
+          wants = λ all.
+              let none : one_if_no_storage answer.status ≡ 0 = ap (λ (a : Answer). one_if_no_storage a.status) is ∙ not_stored (scheme.status (reply.DiskFault undecided)) (λ bad. let no : IsTrue false = (unavailable (reply.DiskFault undecided)).2 bad in let wrong : ⊥ = cc in wrong) in
+              omega (arith, none, wants_is);
+          turns = let one : one_if_some (ask_in semantics own scheme by request) ≡ 1 = ap one_if_some operations in omega (arith, one, turns_is);
           seen = failed.earlier;
           opening = failed.opening;
           lock = lock_is;
@@ -230,7 +267,7 @@ module _ {Entry Operation Response : Type 0} (semantics : Semantics Entry Operat
             left_now : (entry : ℕ × Filed Entry) → Contains before.left entry ⊎ ((undecided ≡ Some entry.0) × (filed_by (own operation) by ≡ Some entry.1)) → Contains before.left entry ⊎ IsOwnOf semantics own scheme by (request ∷ []) entry.1
             left_now entry (inl had) = inl had
             left_now entry (inr (at, of)) = inr (own_here entry.1 of)
-        told_said reply.NoMemory is starved = record {
+        told_said reply.NoMemory is wants_is turns_is starved = record {
           each = (subst (λ o. IsAnswerTo semantics own scheme by (entries_of after.seen) after.mine (refusal_of request.head.call) o answer) (sym operations) (reply.NoMemory, is, tt), tt);
           added = [];
           mine = starved.mine ∙ sym (append-nil before.mine);
@@ -240,6 +277,10 @@ module _ {Entry Operation Response : Type 0} (semantics : Semantics Entry Operat
           faults = λ all.
               let none : one_if_unavailable answer.status ≡ 0 = ap (λ (a : Answer). one_if_unavailable a.status) is ∙ not_one (scheme.status reply.NoMemory) (λ bad. let no : IsTrue false = (unavailable reply.NoMemory).0 bad in let wrong : ⊥ = cc in wrong) in
               omega (arith, none, starved.faults);
+          wants = λ all.
+              let one : one_if_no_storage answer.status ≡ 1 = ap (λ (a : Answer). one_if_no_storage a.status) is ∙ ap one_if_no_storage ((unavailable reply.NoMemory).3 refl) in
+              omega (arith, one, wants_is);
+          turns = let one : one_if_some (ask_in semantics own scheme by request) ≡ 1 = ap one_if_some operations in omega (arith, one, turns_is);
           seen = starved.earlier;
           opening = starved.opening;
           lock = lock_is;
@@ -250,15 +291,15 @@ module _ {Entry Operation Response : Type 0} (semantics : Semantics Entry Operat
         told_ask : (o : Option Operation) → ask_in semantics own scheme by request ≡ o → refusal_of request.head.call ≡ BadRequest → AnswersOperation scheme (SubmitsOperation semantics own) clerk_faults before o answer after
             → HasTold semantics own scheme by (request ∷ []) (answer ∷ []) before.handle after.handle × (after.by ≡ by)
         told_ask None none refused (is, same) =
-            (told_nobody before.handle after.handle BadRequest none refused is (λ a e. let no : ⊥ = cc in no) (ap (λ (c : Clerking Entry). c.handle) same), ap (λ (c : Clerking Entry). c.by) same ∙ named)
+            (told_nobody before.handle after.handle BadRequest none refused is (λ a. ((λ e. let no : ⊥ = cc in no), (λ e. let no : ⊥ = cc in no))) (ap (λ (c : Clerking Entry). c.handle) same), ap (λ (c : Clerking Entry). c.by) same ∙ named)
         told_ask (Some operation) some refused (said, asked, is) =
             let submit = asked.step in
-            (told_said operation some before.handle after.handle submit.lock submit.share said is (subst (λ n. Replies Unit semantics own n operation said before.handle after.handle) named submit.replies), submit.by ∙ named)
+            (told_said operation some before.handle after.handle submit.lock submit.share said is submit.wants submit.turns (subst (λ n. Replies Unit semantics own n operation said before.handle after.handle) named submit.replies), submit.by ∙ named)
 
         told_call : (call : Result ApiCall Status) → request.head.call ≡ call → AnswersCall scheme (SubmitsOperation semantics own) clerk_faults before call request.body answer after
             → HasTold semantics own scheme by (request ∷ []) (answer ∷ []) before.handle after.handle × (after.by ≡ by)
         told_call (Err status) at (is, same) =
-            (told_nobody before.handle after.handle status (ap (λ c. ask_by semantics own scheme by c request.body) at) (ap refusal_of at) is (λ available bad. available (at ∙ ap Err bad)) (ap (λ (c : Clerking Entry). c.handle) same), ap (λ (c : Clerking Entry). c.by) same ∙ named)
+            (told_nobody before.handle after.handle status (ap (λ c. ask_by semantics own scheme by c request.body) at) (ap refusal_of at) is (λ available. ((λ bad. available.0 (at ∙ ap Err bad)), (λ bad. available.1 (at ∙ ap Err bad)))) (ap (λ (c : Clerking Entry). c.handle) same), ap (λ (c : Clerking Entry). c.by) same ∙ named)
         told_call (Ok call) at asked = told_ask (scheme.ask_of call request.body) (ap (λ c. ask_by semantics own scheme by c request.body) at) (ap refusal_of at) asked
 
   -- ---- a run of requests

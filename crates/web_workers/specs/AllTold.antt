@@ -1,5 +1,5 @@
 -- What the connections of all workers were told, of the list at the end.
-use Rattle.std.specs.Prelude.{◌≡◌, ◌+◌, ◌<◌, ℕ, List, [], ◌∷◌, Option, Some, length, get_or, Contains, IsTrue, zero, suc}
+use Rattle.std.specs.Prelude.{◌≡◌, ◌+◌, ◌<◌, ◌≤◌, ℕ, List, [], ◌∷◌, Option, Some, length, get_or, Contains, IsTrue, zero, suc}
 use Rattle.std.proofs.Common.{arith, zero-lt-suc}
 use Rattle.log_machine.specs.Scheme.{Semantics}
 use Rattle.log_machine.specs.declared.reply.LogReply.{LogReply}
@@ -13,7 +13,7 @@ use Rattle.log_machine.specs.declared.names.RowName.{RowName}
 use Rattle.web_session.specs.Asks.{Scheme, Request}
 use Rattle.web_session.specs.Responses.{Answer}
 use Rattle.web_session.specs.declared.status.Status.TheVariants.{Created}
-use Rattle.web_workers.specs.Closed.{AreToldOf, HaveTold, IsBroughtBy, times_unavailable}
+use Rattle.web_workers.specs.Closed.{AreToldOf, HaveTold, IsBroughtBy, times_asked, times_no_storage, times_unavailable}
 use Rattle.web_session.specs.Ports.{AcceptorState}
 use Rattle.web_workers.specs.Sessions.{Session}
 use Rattle.web_workers.specs.Told.{ask_in}
@@ -76,6 +76,19 @@ module _ {Entry Operation Response P : Type 0} (semantics : Semantics Entry Oper
     abbrev pub AreCounted : Type 0
     AreCounted = (honest : AllHonest tells before) (d : WorkerView Entry P)
         → RoseBy (all_unavailable honest d) opening.faults closed.faults × (all_unavailable honest d ≡ 0 → closed.faults ≡ opening.faults)
+
+    -- how many were 507, and how many requests were asks
+    abbrev pub all_no_storage : AllHonest tells before → WorkerView Entry P → ℕ
+    all_no_storage honest d =
+        sum_below (length before) (λ k inside. times_no_storage semantics own scheme (k + 1) (entries_of closed.list) (served.each k d inside).last.mine 1 (served.each k d inside).served.sessions (told k d inside (honest k d inside)).told)
+
+    abbrev pub all_asked : AllHonest tells before → WorkerView Entry P → ℕ
+    all_asked honest d =
+        sum_below (length before) (λ k inside. times_asked semantics own scheme (k + 1) (entries_of closed.list) (served.each k d inside).last.mine 1 (served.each k d inside).served.sessions (told k d inside (honest k d inside)).told)
+
+    -- where any ask was answered 507, at least as many asks as there are ports were not, where all ports are honest
+    abbrev pub HaveRoom : Type 0
+    HaveRoom = (honest : AllHonest tells before) (d : WorkerView Entry P) → 0 < all_no_storage honest d → length before + all_no_storage honest d ≤ all_asked honest d
 
     -- where an honest port answered 201, the request's own entry stands in the list at the end
     abbrev pub CreatedStand : Type 0

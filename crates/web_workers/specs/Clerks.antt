@@ -1,9 +1,11 @@
 -- The clerk of one connection: each ask is a turn of the lock by one pass.
-use Rattle.std.specs.Prelude.{◌≡◌, ℕ, Option}
+use Rattle.std.specs.Prelude.{◌≡◌, ◌+◌, ℕ, Option}
 use Rattle.log_machine.specs.Scheme.{Semantics}
 use Rattle.log_machine.specs.declared.reply.LogReply.{LogReply}
 use Rattle.log_lock.specs.Passes.{Known}
+use Rattle.log_lock.specs.Turning.{wants_in}
 use Rattle.log_desks.specs.Rows.{Replies}
+use Rattle.log_desks.specs.Shares.{wants_memory}
 use Rattle.log_machine.specs.declared.names.Filed.{Filed}
 use Rattle.log_machine.specs.declared.names.RowName.{RowName}
 use Rattle.web_session.specs.Asks.{Scheme, Request, Answers, IsAsked, Reaches}
@@ -23,6 +25,8 @@ pub record SubmitsOperation {Entry Operation Response : Type 0} (semantics : Sem
   pub replies : Replies Unit semantics own before.by operation reply before.handle after.handle
   pub lock : after.handle.lock ≡ before.handle.lock
   pub share : after.handle.allowance ≡ before.handle.allowance
+  pub wants : after.handle.wants ≡ before.handle.wants + wants_in (wants_memory reply)
+  pub turns : after.handle.turns ≡ before.handle.turns + 1
 
 -- the pass's own count of replies that told of a fault
 abbrev pub clerk_faults : {Entry : Type 0} → Clerking Entry → ℕ

@@ -1,5 +1,5 @@
 -- What the connections of a port were told, of the list at the end.
-use Rattle.std.specs.Prelude.{◌≡◌, ◌⊎◌, ◌+◌, ◌≤◌, ℕ, suc, List, [], ◌∷◌, ◌++◌, Contains, Option}
+use Rattle.std.specs.Prelude.{◌≡◌, ◌⊎◌, ◌+◌, ℕ, suc, List, [], ◌∷◌, ◌++◌, Contains, Option}
 use Rattle.log_machine.specs.Scheme.{Semantics}
 use Rattle.log_machine.specs.declared.reply.LogReply.{LogReply}
 use Rattle.log_lock.specs.Passes.{Known}
@@ -13,7 +13,7 @@ use Rattle.web_session.specs.declared.end.End.{End}
 use Rattle.web_session.specs.declared.end.End.TheVariants.{Closed, Cut, Rejected, Limit, ConnectionFault, NoMemory}
 use Rattle.web_session.specs.declared.status.Status.{Status}
 use Rattle.web_workers.specs.Sessions.{Session}
-use Rattle.web_workers.specs.Told.{AreAnswersTo, IsOwnOf, count_unavailable}
+use Rattle.web_workers.specs.Told.{AreAnswersTo, IsOwnOf, count_asks, count_no_storage, count_unavailable}
 
 -- the bytes bring just these requests, and the text is all of their exchange with these answers
 pub record IsWhole (bytes text : List ℕ) (done : List Request) (answers : List Answer) (way : End) : Type 0 where
@@ -79,14 +79,26 @@ module _ {Entry Operation Response : Type 0} (semantics : Semantics Entry Operat
     times_unavailable seen mine number [] told = 0
     times_unavailable seen mine number (s ∷ sessions) told = count_unavailable told.0.answers + times_unavailable seen mine (number + 1) sessions told.1
 
+    -- how many are 507, and how many of the requests were asks
+    abbrev pub times_no_storage : (seen : List Entry) (mine : List (ℕ × Filed Entry)) (number : ℕ) (sessions : List (Session Entry)) → AreToldOf seen mine number sessions → ℕ
+    times_no_storage seen mine number [] told = 0
+    times_no_storage seen mine number (s ∷ sessions) told = count_no_storage told.0.answers + times_no_storage seen mine (number + 1) sessions told.1
+
+    abbrev pub times_asked : (seen : List Entry) (mine : List (ℕ × Filed Entry)) (number : ℕ) (sessions : List (Session Entry)) → AreToldOf seen mine number sessions → ℕ
+    times_asked seen mine number [] told = 0
+    times_asked seen mine number (s ∷ sessions) told = count_asks semantics own scheme (record { desk = port; row = number }) told.0.done + times_asked seen mine (number + 1) sessions told.1
+
     -- the entry is the own one of a request that one of these connections brought and that was answered, and its number names it
     abbrev pub IsBroughtBy : (seen : List Entry) (mine : List (ℕ × Filed Entry)) (number : ℕ) (sessions : List (Session Entry)) → AreToldOf seen mine number sessions → Filed Entry → Type 0
     IsBroughtBy seen mine number [] told filed = ⊥
     IsBroughtBy seen mine number (s ∷ sessions) told filed = IsOwnOf semantics own scheme (record { desk = port; row = number }) told.0.done filed ⊎ IsBroughtBy seen mine (number + 1) sessions told.1 filed
 
-    -- What a port's connections were told, and what they made of what a pass knows. It was told of a fault for each 503, and of no other.
+    -- What a port's connections were told, and what they made of what a pass knows. It was told of a fault for each 503, and of no other, and of want
+    -- of memory for each 507. It took a turn for each ask.
     pub record HaveTold (seen : List Entry) (number : ℕ) (sessions : List (Session Entry)) (first last : Known (Filed Entry)) : Type 0 where
       pub told : AreToldOf seen last.mine number sessions
       pub mine : (entry : ℕ × Filed Entry) → Contains last.mine entry → Contains first.mine entry ⊎ IsBroughtBy seen last.mine number sessions told entry.1
       pub left : (entry : ℕ × Filed Entry) → Contains last.left entry → Contains first.left entry ⊎ IsBroughtBy seen last.mine number sessions told entry.1
       pub faults : last.faults ≡ first.faults + times_unavailable seen last.mine number sessions told
+      pub wants : last.wants ≡ first.wants + times_no_storage seen last.mine number sessions told
+      pub turns : last.turns ≡ first.turns + times_asked seen last.mine number sessions told

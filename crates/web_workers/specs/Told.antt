@@ -14,7 +14,7 @@ use Rattle.web_session.specs.Asks.{Scheme, Request}
 use Rattle.web_session.specs.Responses.{Answer, failure_of}
 use Rattle.web_session.specs.declared.call.ApiCall.{ApiCall}
 use Rattle.web_session.specs.declared.status.Status.{Status}
-use Rattle.web_session.specs.declared.status.Status.TheVariants.{BadRequest, Unavailable}
+use Rattle.web_session.specs.declared.status.Status.TheVariants.{BadRequest, NoStorage, Unavailable}
 
 -- how many of these answers are 503
 abbrev pub one_if_unavailable : Status → ℕ
@@ -25,14 +25,27 @@ abbrev pub count_unavailable : List Answer → ℕ
 count_unavailable [] = 0
 count_unavailable (answer ∷ answers) = one_if_unavailable answer.status + count_unavailable answers
 
+-- how many are 507
+abbrev pub one_if_no_storage : Status → ℕ
+one_if_no_storage NoStorage = 1
+one_if_no_storage _ = 0
+
+abbrev pub count_no_storage : List Answer → ℕ
+count_no_storage [] = 0
+count_no_storage (answer ∷ answers) = one_if_no_storage answer.status + count_no_storage answers
+
+abbrev pub one_if_some : {A : Type 0} → Option A → ℕ
+one_if_some None = 0
+one_if_some (Some a) = 1
+
 -- positions that rise, from past the one number up to the other
 abbrev pub Rise : {E : Type 0} → ℕ → ℕ → List (ℕ × E) → Type 0
 Rise low high [] = low ≤ high
 Rise low high (entry ∷ entries) = low < entry.0 × Rise entry.0 high entries
 
--- the status that rejects a request's target isn't 503
+-- the status that rejects a request's target is neither 503 nor 507
 abbrev pub IsAvailable : Request → Type 0
-IsAvailable request = request.head.call ≢ Err Unavailable
+IsAvailable request = (request.head.call ≢ Err Unavailable) × (request.head.call ≢ Err NoStorage)
 
 -- the status of a request that asks nothing: that which rejects its target, or 400
 abbrev pub refusal_of : Result ApiCall Status → Status
@@ -47,6 +60,11 @@ module _ {Entry Operation Response : Type 0} (semantics : Semantics Entry Operat
 
   abbrev pub ask_in : Request → Option Operation
   ask_in request = ask_by request.head.call request.body
+
+  -- how many of these requests are asks
+  abbrev pub count_asks : List Request → ℕ
+  count_asks [] = 0
+  count_asks (request ∷ requests) = one_if_some (ask_in request) + count_asks requests
 
   -- the entry is the own one of one of these requests
   abbrev pub IsOwnOf : List Request → Filed Entry → Type 0
@@ -80,7 +98,8 @@ module _ {Entry Operation Response : Type 0} (semantics : Semantics Entry Operat
   AreAnswersTo seen mine (request ∷ requests) (answer ∷ answers) = IsAnswerTo seen mine (refusal_of request.head.call) (ask_in request) answer × AreAnswersTo seen mine requests answers
 
   -- What these requests and answers made of what a pass knows. What it admitted besides is of these requests alone, each entry
-  -- once and past the list that it had seen; so is what it left undecided besides. It was told of a fault for each 503, and of no other.
+  -- once and past the list that it had seen; so is what it left undecided besides. It was told of a fault for each 503, and of no other,
+  -- and of want of memory for each 507. It took a turn for each ask.
   pub record HasTold (requests : List Request) (answers : List Answer) (before after : Known (Filed Entry)) : Type 0 where
     pub each : AreAnswersTo (entries_of after.seen) after.mine requests answers
     pub added : List (ℕ × Filed Entry)
@@ -89,6 +108,8 @@ module _ {Entry Operation Response : Type 0} (semantics : Semantics Entry Operat
     pub owned : All (λ (entry : ℕ × Filed Entry). IsOwnOf requests entry.1) added
     pub left : (entry : ℕ × Filed Entry) → Contains after.left entry → Contains before.left entry ⊎ IsOwnOf requests entry.1
     pub faults : All IsAvailable requests → after.faults ≡ before.faults + count_unavailable answers
+    pub wants : All IsAvailable requests → after.wants ≡ before.wants + count_no_storage answers
+    pub turns : after.turns ≡ before.turns + count_asks requests
     pub seen : IsOlder (entries_of before.seen) (entries_of after.seen)
     pub opening : after.opening ≡ before.opening
     pub lock : after.lock ≡ before.lock

@@ -8,7 +8,7 @@ use Rattle.log_machine.specs.declared.reply.LogReply.{LogReply}
 use Rattle.log_lock.specs.declared.turned.Snapshot.{Snapshot}
 use Rattle.log_lock.specs.Turning.{RoseBy}
 use Rattle.log_lock.specs.Passes.{Known, IsOlder, numbered}
-use Rattle.log_desks.specs.Desks.{IsFresh, mine_in, settled_in, left_in, faults_in, seen_in}
+use Rattle.log_desks.specs.Desks.{IsFresh, mine_in, settled_in, left_in, faults_in, wants_in, turns_in, seen_in}
 use Rattle.log_machine.specs.declared.names.Filed.{Filed}
 use Rattle.web_session.specs.Asks.{Scheme}
 use Rattle.web_session.specs.Ports.{AcceptorState}
@@ -92,6 +92,8 @@ pub record Gathers {Entry P : Type 0} (lock : TableId) (opening : Snapshot (File
   pub settled : handle.settled ≡ flat_map (λ (d : WorkerView Entry P). settled_in d.handle) workers
   pub left : handle.left ≡ flat_map (λ (d : WorkerView Entry P). left_in d.handle) workers
   pub faults : handle.faults ≡ sum_by (λ (d : WorkerView Entry P). faults_in d.handle) workers
+  pub wants : handle.wants ≡ sum_by (λ (d : WorkerView Entry P). wants_in d.handle) workers
+  pub turns : handle.turns ≡ sum_by (λ (d : WorkerView Entry P). turns_in d.handle) workers
   pub seen : All (λ (d : WorkerView Entry P). IsOlder (seen_in d.handle) handle.seen) workers
 
 -- What the list is at the end of what these workers' turns did: the list before, and past it just what the turns admitted of
@@ -110,6 +112,12 @@ pub record Ran {Entry P : Type 0} (opening closed : Snapshot (Filed Entry)) (wor
   pub still : sum_by (λ (d : WorkerView Entry P). faults_in d.handle) workers ≡ 0 → closed.faults ≡ opening.faults
   pub fixed : closed.fixed ≡ opening.fixed
 
+-- The list had room for so many turns: where any of the workers' turns told of want of memory, at least so many did not.
+abbrev pub HaveFoundRoom : {Entry P : Type 0} → ℕ → List (WorkerView Entry P) → Type 0
+HaveFoundRoom {Entry} {P} room workers =
+    0 < sum_by (λ (d : WorkerView Entry P). wants_in d.handle) workers
+    → room + sum_by (λ (d : WorkerView Entry P). wants_in d.handle) workers ≤ sum_by (λ (d : WorkerView Entry P). turns_in d.handle) workers
+
 -- What a worker did, with a pass that knew nothing but the opening list.
 pub record ServesOwn {Entry Operation Response P : Type 0} (semantics : Semantics Entry Operation Response) (own : Operation → Option Entry) (scheme : Scheme Operation (LogReply Response)) (tells : P → AcceptorState) (faults : P → ℕ) (opening : Snapshot (Filed Entry)) (number limit : ℕ) (old new : WorkerView Entry P) : Type 0 where
   pub numbered : new.number ≡ number
@@ -121,10 +129,11 @@ pub record ServesOwn {Entry Operation Response P : Type 0} (semantics : Semantic
   pub stopped : HasStopped new.ended new.served limit (faults old.port) (faults new.port)
   pub later : faults old.port ≤ faults new.port
 
--- What the workers did. `workers` are they as they were before they gave their passes back.
+-- What the workers did, on a list with room for one turn of each. `workers` are they as they were before they gave their passes back.
 pub record HasServed {Entry Operation Response P : Type 0} (semantics : Semantics Entry Operation Response) (own : Operation → Option Entry) (scheme : Scheme Operation (LogReply Response)) (tells : P → AcceptorState) (faults : P → ℕ) (limit : ℕ) (opening closed : Snapshot (Filed Entry)) (before after : List (WorkerView Entry P)) : Type 0 where
   pub workers : List (WorkerView Entry P)
   pub count : length workers ≡ length before
   pub each : (k : ℕ) (d : WorkerView Entry P) → k < length before → ServesOwn semantics own scheme tells faults opening (k + 1) limit (get_or before k d) (get_or workers k d)
   pub ran : Ran opening closed workers
+  pub found_room : HaveFoundRoom (length before) workers
   pub shown : all_shown after ≡ all_shown workers

@@ -1,9 +1,9 @@
 //! Desks behind ports get passes of one lock, and give them back.
-ghost use Rattle.std.specs.Prelude.{◌≡◌, ◌<◌, ◌+◌, [], ℕ, None, IfOk, IfErr, length, get_or};
+ghost use Rattle.std.specs.Prelude.{◌≡◌, ◌<◌, ◌≤◌, ◌+◌, [], ℕ, None, IfOk, IfErr, length, get_or};
 ghost use Rattle.std.specs.List.{All};
 ghost use Rattle.log_desks.specs.Desks.{IsFresh, IsJoined};
 ghost use Rattle.log_desks.specs.Shares.{stand_of, IsBegun, IsReached};
-ghost use Rattle.web_workers.specs.Workers.{AreReady, IsReady, HasEnded, Gathers, Ran, all_shown};
+ghost use Rattle.web_workers.specs.Workers.{AreReady, IsReady, HasEnded, HaveFoundRoom, Gathers, Ran, all_shown};
 
 use crate::Worker;
 use io_traits::Disk;
@@ -24,6 +24,7 @@ fn hand_out<D: Disk, R: SingleEntryMachine, M: Since, P: Acceptor>(
     requires share { 1 < first.allowance }
     ensures fresh { IsFresh turns.now.id first.opening result }
     ensures share { result.allowance + 1 ≡ first.allowance }
+    ensures room { result.room ≡ first.room }
     ensures ready { IsReady turns.now.id first.opening number worker.old worker.new }
 {
     let (rest, part) = turns.split(first, 1);
@@ -42,6 +43,7 @@ pub(crate) fn deal<D: Disk, R: SingleEntryMachine, M: Since, P: Acceptor>(
     requires share { length workers.old < first.allowance }
     ensures fresh { IsFresh turns.now.id first.opening result }
     ensures share { result.allowance + length workers.old ≡ first.allowance }
+    ensures room { result.room ≡ first.room }
     ensures ready { AreReady turns.now.id first.opening (length workers.old) workers.old workers.new }
     ensures workers { length workers.new ≡ length workers.old }
 {
@@ -66,6 +68,7 @@ pub fn open_workers<D: Disk, R: SingleEntryMachine, M: Since, P: Acceptor>(
     ensures opening { IfOk result (λ r. r.1.opening ≡ stand_of kept.history None [] None (D.faults kept.disk) (D.tells kept.disk).honest) }
     ensures fresh { IfOk result (λ r. IsFresh r.0.id r.1.opening r.1) }
     ensures all { IfOk result (λ r. r.1.allowance + length workers.new ≡ r.0.handles) }
+    ensures room { IfOk result (λ r. length workers.old ≤ r.1.room) }
     ensures ready { IfOk result (λ r. AreReady r.0.id r.1.opening (length workers.old) workers.old workers.new) }
     ensures workers { length workers.new ≡ length workers.old }
     ensures same { IfErr result (λ back. workers.new ≡ workers.old) }
@@ -112,6 +115,7 @@ pub(crate) fn collect<D: Disk, R: SingleEntryMachine, M: Since, P: Acceptor>(
     requires ended { All (HasEnded turns.now.id rest.opening) workers.old }
     ensures gathers { Gathers turns.now.id rest.opening result workers.old }
     ensures share { result.allowance ≡ rest.allowance + length workers.old }
+    ensures room { result.room ≡ rest.room }
     ensures workers { length workers.new ≡ length workers.old }
     ensures same { all_shown workers.new ≡ all_shown workers.old }
 {
@@ -132,6 +136,7 @@ pub fn close_workers<D: Disk, R: SingleEntryMachine, M: Since, P: Acceptor>(
     requires all { rest.allowance + length workers.old ≡ turns.handles }
     requires ended { All (HasEnded turns.id rest.opening) workers.old }
     ensures ran { Ran rest.opening (stand_of result.history result.pending result.log result.waiting (D.faults result.disk) (D.tells result.disk).honest) workers.old }
+    ensures found_room { HaveFoundRoom rest.room workers.old }
     ensures reached { IsReached D.Disk R.scheme M.moment M.already rest.opening result.disk result.history result.pending }
     ensures workers { length workers.new ≡ length workers.old }
     ensures same { all_shown workers.new ≡ all_shown workers.old }

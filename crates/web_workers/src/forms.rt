@@ -28,7 +28,7 @@ pub trait MachineApi<R: SingleEntryMachine> {
     fn write(alloc: Global, reply: &LogReply<R::Response>) -> Result<Vec<u8>, AllocError>
         ensures { IfOk result (λ text. text.items ≡ scheme.text reply.now) };
 
-    /// 503 is answered just where the disk failed.
+    /// 503 is answered just where the disk failed, and 507 just where there was no memory.
     ghost unavailable: { TellsFaults scheme };
 
     /// 201 is answered only where the ask's own entry was added.

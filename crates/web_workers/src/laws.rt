@@ -9,7 +9,7 @@ ghost use Rattle.web_session.specs.Responses.{Answer};
 ghost use Rattle.aid_stamps.specs.declared.stamp.Stamp.{Stamp};
 ghost use Rattle.log_stamps.specs.Rows.{semantics_under, own_under};
 ghost use Rattle.log_stamps.specs.declared.entry.StampedEntry.{StampedEntry};
-ghost use Rattle.web_workers.specs.AllTold.{AreCounted, CreatedStand, EachIsBrought, EachIsTold};
+ghost use Rattle.web_workers.specs.AllTold.{AreCounted, CreatedStand, EachIsBrought, EachIsTold, HaveRoom};
 ghost use Rattle.web_workers.specs.Clerks.{Clerking, HandleAnswers};
 ghost use Rattle.web_workers.specs.Closed.{IsBegunBy, IsPart};
 ghost use Rattle.web_workers.specs.Told.{HasTold, IsAvailable};
@@ -27,7 +27,7 @@ pub fn told<R: SingleEntryMachine, T: MachineApi<R>>()
         → HasTold (semantics_under stamp R.semantics) (own_under stamp R.own) T.scheme before.by requests answers before.handle after.handle }
 {}
 
-/// A request's target isn't rejected by 503, so each 503 tells of a fault of the disk.
+/// A request's target is rejected neither by 503 nor by 507, so each 503 tells of a fault of the disk, and each 507 of want of memory.
 pub fn available()
     ensures { (limit : ℕ) (bytes : List ℕ) (requests : List Request) (ending : Ending) → Brings limit bytes requests ending → All IsAvailable requests }
 {}
@@ -53,6 +53,12 @@ pub fn all_told<R: SingleEntryMachine, T: MachineApi<R>, P: Acceptor>()
 pub fn faults_are_counted<R: SingleEntryMachine, T: MachineApi<R>, P: Acceptor>()
     ensures { (stamp : Stamp) (limit : ℕ) (opening closed : Snapshot (Filed (StampedEntry R.Entry))) (before after : List (WorkerView (StampedEntry R.Entry) P)) (served : HasServed (semantics_under stamp R.semantics) (own_under stamp R.own) T.scheme P.tells P.faults limit opening closed before after)
         (told : EachIsTold (semantics_under stamp R.semantics) (own_under stamp R.own) T.scheme P.tells P.faults limit opening closed before after served) → AreCounted (semantics_under stamp R.semantics) (own_under stamp R.own) T.scheme P.tells P.faults limit opening closed before after served told }
+{}
+
+/// Over honest ports, where any request was answered 507, at least as many asks were answered otherwise as there are ports.
+pub fn memory_is_reserved<R: SingleEntryMachine, T: MachineApi<R>, P: Acceptor>()
+    ensures { (stamp : Stamp) (limit : ℕ) (opening closed : Snapshot (Filed (StampedEntry R.Entry))) (before after : List (WorkerView (StampedEntry R.Entry) P)) (served : HasServed (semantics_under stamp R.semantics) (own_under stamp R.own) T.scheme P.tells P.faults limit opening closed before after)
+        (told : EachIsTold (semantics_under stamp R.semantics) (own_under stamp R.own) T.scheme P.tells P.faults limit opening closed before after served) → HaveRoom (semantics_under stamp R.semantics) (own_under stamp R.own) T.scheme P.tells P.faults limit opening closed before after served told }
 {}
 
 /// Where 201 was answered on an honest port with a front, the request's own entry stands in the list at the end behind so

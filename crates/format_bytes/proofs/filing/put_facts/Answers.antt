@@ -1,5 +1,5 @@
 use Rattle.std.proofs.Common.{◌++◌, ◌∙◌, ap, sym, List, ℤ}
-use Rattle.aid_filings.specs.declared.filing.What.TheVariants.{Prior, Apply, Enroll, Originate, Pay, Repay, Adjust}
+use Rattle.aid_filings.specs.declared.filing.What.TheVariants.{Prior, Apply, Enroll, Originate, Pay, Repay, Adjust, Cost, Sent, Amend}
 use Rattle.format_kinds.specs.Kinds.{table_row_of}
 use Rattle.format_bytes.specs.Numbers.{facts_of}
 use Rattle.format_bytes.proofs.Same.{facts_fit}
@@ -32,6 +32,18 @@ returns-in-Repay-clause-in_range c = facts_fit c.args.what.now (Repay c.in-Repay
 pub returns-in-Adjust-clause-in_range : goal.returns-in-Adjust-clause-in_range
 unfolding facts_of table_row_of
 returns-in-Adjust-clause-in_range c = facts_fit c.args.what.now (Adjust c.in-Adjust.amount) c.in-Adjust.is c.put_amount-in-Adjust.ensures.in_range
+
+pub returns-in-Cost-clause-in_range : goal.returns-in-Cost-clause-in_range
+unfolding facts_of table_row_of
+returns-in-Cost-clause-in_range c = facts_fit c.args.what.now (Cost c.in-Cost.facts) c.in-Cost.is c.put_originate-in-Cost.ensures.in_range
+
+pub returns-in-Sent-clause-in_range : goal.returns-in-Sent-clause-in_range
+unfolding facts_of table_row_of
+returns-in-Sent-clause-in_range c = facts_fit c.args.what.now (Sent c.in-Sent.facts) c.in-Sent.is c.put_sent.ensures.in_range
+
+pub returns-in-Amend-clause-in_range : goal.returns-in-Amend-clause-in_range
+unfolding facts_of table_row_of
+returns-in-Amend-clause-in_range c = facts_fit c.args.what.now (Amend c.in-Amend.facts) c.in-Amend.is c.put_amend.ensures.in_range
 
 pub returns-in-Apply-clause-added : goal.returns-in-Apply-clause-added
 unfolding facts_of

@@ -37,4 +37,4 @@ returns-in-Err-NotEntry-clause-damaged g c honest history given entries legal pl
     let x = at_some c.in_ok-place.field-0 c.in-Some.place (HasAll g.D.Disk g.R.StateMachine.scheme.header c.next.new.self ps) (λ place. (place ≡ gate_place ps) × HasGiven g.D.Disk g.R.StateMachine.scheme.header c.next.new.self (ps ++ c.next.new.room ∷ [])) c.in-Some.is (c.in_ok-place.ensures.given honest g.R.StateMachine.scheme.header ps given) in
     let begins = begins_from g.D.Disk scheme.header c.next.new.self told (ps ++ c.next.new.room ∷ []) (c.next.ensures.told honest) x.1 in
     fault_at scheme told.reads history (record { entries = entries; legal = legal }) c.in-Some.place place x.0
-    (no_entry c.next.new.room begins (λ entry range e. c.take.ensures.not_entry entry range (c.bytes.ensures.held ∙ e) (let err = c.in-Err-NotEntry.is in let which = c.in-Err-NotEntry.field-0-is in cc (err, which)))) is
+    (no_entry c.next.new.room begins (λ entry range e. c.decode.ensures.not_entry entry range (c.bytes.ensures.held ∙ e) (let err = c.in-Err-NotEntry.is in let which = c.in-Err-NotEntry.field-0-is in cc (err, which)))) is

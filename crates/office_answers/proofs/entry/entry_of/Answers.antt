@@ -42,3 +42,8 @@ pub returns-in-Adjust : goal.returns-in-Adjust
 returns-in-Adjust g c =
     let past = g.P.HistoryView.history c.args.past.now in
     subst (λ (what : What). IsOwnEntry past c.args.filing.now.key what c.adjusted.result) (sym c.in-Adjust.is) (c.adjusted.ensures past c.args.filing.now.key)
+
+pub returns-in-Sent : goal.returns-in-Sent
+returns-in-Sent g c =
+    let past = g.P.HistoryView.history c.args.past.now in
+    subst (λ (what : What). IsOwnEntry past c.args.filing.now.key what c.sent.result) (sym c.in-Sent.is) (c.sent.ensures past c.args.filing.now.key)

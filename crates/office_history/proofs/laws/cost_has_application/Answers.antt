@@ -11,7 +11,7 @@ returns-clause-originated c school student year h =
 pub returns-clause-cost : goal.returns-clause-cost
 returns-clause-cost c school student year h =
     let past = reverse c.args.history.now in
-    is_in_force (application past student year) (cost_has_one past c.requires school student year (cost_is_filed past school student year h))
+    is_in_force (application past student year) (cost_has_one past c.requires school student year (cost_is_filed past c.requires school student year h))
 
 pub returns-clause-standing : goal.returns-clause-standing
 returns-clause-standing c school student year h = cost_stands (reverse c.args.history.now) c.requires school student year h

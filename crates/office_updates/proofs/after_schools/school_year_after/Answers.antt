@@ -8,7 +8,7 @@ use Rattle.office_history.specs.declared.rows.SchoolYearRow.{SchoolYearRow}
 use Rattle.office_history.proofs.Bounds.{paid-most}
 use Rattle.office_updates.specs.Changed.{school_year_changed}
 use Rattle.office_updates.proofs.NamesChanged.{amount_school_year, named_as}
-use Rattle.office_updates.proofs.SchoolYearsAfter.{amount-cents, amount-school_year, originate-school_year, withdraw-cents, withdraw-school_year, with_cost, with_net, year_placed}
+use Rattle.office_updates.proofs.SchoolYearsAfter.{amount-cents, amount-school_year, cost-school_year, originate-school_year, withdraw-cents, withdraw-school_year, with_cost, with_net, year_placed}
 use Rattle.office_updates.proofs.after_schools.school_year_after.Goals as goal
 
 -- the net of the row before is small
@@ -52,6 +52,20 @@ returns-in-Originate-clause-written g c =
 pub returns-in-Originate-clause-named : goal.returns-in-Originate-clause-named
 returns-in-Originate-clause-named g c =
     named_as _ _ c.with_cost.result (ap (school_year_changed c.args.filing.now.key.school) c.in-Originate.is) c.with_cost.ensures.name
+
+pub returns-in-Cost-clause-written : goal.returns-in-Cost-clause-written
+returns-in-Cost-clause-written g c =
+    let past = g.P.HistoryView.history c.args.past.now in
+    let f = c.args.filing.now in
+    let o = c.in-Cost.changed in
+    let before = c.requires.before _ (ap (school_year_changed f.key.school) c.in-Cost.is) in
+    year_placed past f _ _ c.with_changed_cost.result (cost-school_year past f o c.in-Cost.is)
+    c.with_changed_cost.ensures.name
+    (c.with_changed_cost.ensures.row ∙ ap (λ (row : SchoolYearRow). record row { cost = o.cost }) before)
+
+pub returns-in-Cost-clause-named : goal.returns-in-Cost-clause-named
+returns-in-Cost-clause-named g c =
+    named_as _ _ c.with_changed_cost.result (ap (school_year_changed c.args.filing.now.key.school) c.in-Cost.is) c.with_changed_cost.ensures.name
 
 pub returns-in-Pay-clause-written : goal.returns-in-Pay-clause-written
 returns-in-Pay-clause-written g c =

@@ -1,11 +1,8 @@
-use Rattle.std.proofs.Common.{◌≡◌, ◌∙◌, sym, ap, subst, ℕ, ◌+◌, length, Some, arith}
-use Rattle.law_pell.specs.Award.{no_ceiling}
-use Rattle.law_pell.specs.declared.Ceiling.{Ceiling}
-use Rattle.office_history.specs.Award.{award_under, ceiling_under}
+use Rattle.std.proofs.Common.{◌≡◌, ◌∙◌, sym, ap, ℕ, ◌+◌, length, Some, arith}
+use Rattle.office_history.specs.Award.{ceiling_under}
 use Rattle.office_history.specs.Past.{the_book}
 use Rattle.office_history.proofs.Ceilings.{none_under}
 use Rattle.office_history.proofs.Legal.{legal_is_short}
-use Rattle.office_updates.specs.Moved.{year_applied}
 use Rattle.office_updates.proofs.after_years.applied.Goals.{then-award-eq0, else-award-eq0}
 use Rattle.office_updates.proofs.after_years.applied.Goals as goal
 

@@ -28,7 +28,7 @@ returns-in-Ok-clause-served g c =
       subst (λ s. HasServed (semantics_under c.args.stamp g.R.StateMachine.semantics) (own_under c.args.stamp g.R.SingleEntryMachine.own) g.T.MachineApi.scheme g.P.Acceptor.tells g.P.Acceptor.faults c.args.sessions (stand_of c.args.kept.history None [] None (g.D.Disk.faults c.args.kept.disk) (g.D.Disk.tells c.args.kept.disk).honest) s c.args.workers.now c.close_workers.new.workers)
           (sym (stand_same g.D.Disk closed.history _ closed.pending _ closed.log _ closed.waiting closed.disk _ parts.history parts.pending parts.log parts.disk))
           (has_served (semantics_under c.args.stamp g.R.StateMachine.semantics) (own_under c.args.stamp g.R.SingleEntryMachine.own) g.T.MachineApi.scheme g.P.Acceptor.tells g.P.Acceptor.faults c.in-Ok.turns.id c.in-Ok.rest.opening c.args.sessions c.args.workers.now c.open_workers.new.workers c.work_all.new.workers
-          c.open_workers.ensures.workers c.work_all.ensures.workers e.ready c.work_all.ensures.works _ _ c.close_workers.new.workers e.opening c.close_workers.ensures.ran c.close_workers.ensures.same),
+          c.open_workers.ensures.workers c.work_all.ensures.workers e.ready c.work_all.ensures.works _ _ c.close_workers.new.workers e.opening c.close_workers.ensures.ran c.in-Ok.rest.room e.room c.close_workers.ensures.found_room c.close_workers.ensures.same),
     )
 
 pub returns-in-Ok-clause-reached : goal.returns-in-Ok-clause-reached

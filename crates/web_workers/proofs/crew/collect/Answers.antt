@@ -17,6 +17,7 @@ loop-i-preserved g c =
     record {
       gathers = gathers_more lock c.args.rest.opening c.loop-i.handle c.take_back.new.handle was c.loop-i.i here inside same loop.gathers c.take_back.ensures.joined;
       share = omega (arith, c.take_back.ensures.joined.share, loop.share);
+      room = c.take_back.ensures.joined.room_is ∙ loop.room;
       ahead = fewer_ahead (HasEnded lock c.args.rest.opening) c.loop-i.workers c.loop-i.i worker loop.ahead;
       still = still_ahead c.loop-i.workers was c.loop-i.i worker loop.still;
       workers = length-set c.loop-i.workers c.loop-i.i worker ∙ loop.workers;

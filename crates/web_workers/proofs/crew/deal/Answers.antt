@@ -18,6 +18,7 @@ loop-i-preserved g c =
       fresh = fresh;
       opening = fresh.opening_is;
       share = omega (arith, c.hand_out-handle.ensures.share, loop.share);
+      room = c.hand_out-handle.ensures.room ∙ loop.room;
       ready = ready_more lock c.args.first.opening was c.loop-i.workers c.loop-i.i (get_or c.loop-i.workers c.loop-i.i c.index-workers-i.result) worker within loop.ready
           (λ d. sym (loop.still c.loop-i.i d (omega arith)) ∙ get_or_any c.loop-i.workers c.loop-i.i d c.index-workers-i.result within)
           (subst (λ o. IsReady lock o (c.loop-i.i + 1) (get_or c.loop-i.workers c.loop-i.i c.index-workers-i.result) worker) loop.opening c.hand_out-handle.ensures.ready);

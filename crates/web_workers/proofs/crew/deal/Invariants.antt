@@ -8,6 +8,7 @@ invariant-loop-i g l = record {
   fresh : IsFresh l.turns.id l.fn.first.opening l.handle;
   opening : l.handle.opening ≡ l.fn.first.opening;
   share : l.handle.allowance + l.i ≡ l.fn.first.allowance;
+  room : l.handle.room ≡ l.fn.first.room;
   ready : AreReady l.turns.id l.fn.first.opening l.i l.fn.workers l.workers;
   still : (k : ℕ) (d : WorkerView g.row.R-Entry.Denot g.row.P.Denot) → l.i ≤ k → get_or l.workers k d ≡ get_or l.fn.workers k d;
   workers : length l.workers ≡ length l.fn.workers;

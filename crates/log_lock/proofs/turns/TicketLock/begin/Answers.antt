@@ -7,5 +7,5 @@ load-requires g c =
     let (x, is, decided, there) = c.requires.first in (
       search rules,
       search rules,
-      λ s kept long. steps.brings g.T.LockedState.snapshot g.T.LockedState.reached c.self.inside.table.shared.key c.args.seat.now.id c.args.seat.now.me x c.self.invariant.2 (search rules) decided there s kept (long ∙ c.self.invariant.1),
+      λ s kept long. steps.brings g.T.LockedState.snapshot g.T.LockedState.reached g.T.LockedState.room c.self.inside.table.shared.key c.args.seat.now.id c.args.seat.now.me x c.self.invariant.2 (search rules) decided there s kept (long ∙ c.self.invariant.1),
     )

@@ -1,6 +1,8 @@
 use Rattle.std.proofs.Common.{◌≡◌, [], ◌∷◌, Some, rules, subst}
 use Rattle.log_lock.specs.Rule.{HasGone}
+use Rattle.log_lock.specs.Turning.{TakesRoom, wants_in}
 use Rattle.log_lock.proofs.Lists.{has_slot, slot_same}
+use Rattle.log_lock.proofs.Goings.{takes_room}
 use Rattle.log_lock.proofs.turns.TicketLock.serve.Goals as goal
 
 pub exchange-taken-requires : goal.exchange-taken-requires
@@ -14,6 +16,11 @@ returns-clause-turned g c x is =
     let gone = c.submit-reply.ensures in
     let says = g.T.LockedState.says c.submit-reply.result in
     let told : g.T.LockedState.snapshot c.tell.new.state ≡ g.T.LockedState.snapshot c.in-Some.state = c.tell.ensures.same in
-    subst (λ z. (y : _) × HasGone (g.T.LockedState.own c.args.operation) says (g.T.LockedState.snapshot z) (g.T.LockedState.snapshot y) × g.T.LockedState.meets (g.T.LockedState.snapshot z) c.args.operation c.submit-reply.result (g.T.LockedState.snapshot y) × ((start : _) → g.T.LockedState.reached start z → g.T.LockedState.reached start y) × (c.exchange-before.new.seat.me.1 ≡ (0, Some y) ∷ [])) same
-    (subst (λ s. (y : _) × HasGone (g.T.LockedState.own c.args.operation) says s (g.T.LockedState.snapshot y) × g.T.LockedState.meets s c.args.operation c.submit-reply.result (g.T.LockedState.snapshot y) × ((start : _) → g.T.LockedState.reached start c.in-Some.state → g.T.LockedState.reached start y) × (c.exchange-before.new.seat.me.1 ≡ (0, Some y) ∷ [])) told
-    (c.submit-reply.new.self, (gone.goes, gone.rose, gone.still, gone.fixed), gone.meets, λ start there. gone.reaches start (c.tell.ensures.reaches start there), search rules))
+    let room : g.T.LockedState.room c.tell.new.state ≡ g.T.LockedState.room c.in-Some.state = c.tell.ensures.room in
+    let takes : TakesRoom (wants_in (g.T.LockedState.wants c.submit-reply.result)) (g.T.LockedState.room c.in-Some.state) (g.T.LockedState.room c.submit-reply.new.self) =
+    subst (λ n. TakesRoom (wants_in (g.T.LockedState.wants c.submit-reply.result)) n (g.T.LockedState.room c.submit-reply.new.self)) room (takes_room (g.T.LockedState.wants c.submit-reply.result) _ _ gone.memory gone.room) in
+    subst (λ z. (y : _) × HasGone (g.T.LockedState.own c.args.operation) says (g.T.LockedState.snapshot z) (g.T.LockedState.snapshot y) × g.T.LockedState.meets (g.T.LockedState.snapshot z) c.args.operation c.submit-reply.result (g.T.LockedState.snapshot y) × ((start : _) → g.T.LockedState.reached start z → g.T.LockedState.reached start y)
+    × TakesRoom (wants_in (g.T.LockedState.wants c.submit-reply.result)) (g.T.LockedState.room z) (g.T.LockedState.room y) × (c.exchange-before.new.seat.me.1 ≡ (0, Some y) ∷ [])) same
+    (subst (λ s. (y : _) × HasGone (g.T.LockedState.own c.args.operation) says s (g.T.LockedState.snapshot y) × g.T.LockedState.meets s c.args.operation c.submit-reply.result (g.T.LockedState.snapshot y) × ((start : _) → g.T.LockedState.reached start c.in-Some.state → g.T.LockedState.reached start y)
+    × TakesRoom (wants_in (g.T.LockedState.wants c.submit-reply.result)) (g.T.LockedState.room c.in-Some.state) (g.T.LockedState.room y) × (c.exchange-before.new.seat.me.1 ≡ (0, Some y) ∷ [])) told
+    (c.submit-reply.new.self, (gone.goes, gone.rose, gone.still, gone.fixed), gone.meets, λ start there. gone.reaches start (c.tell.ensures.reaches start there), takes, search rules))

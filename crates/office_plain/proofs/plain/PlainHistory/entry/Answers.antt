@@ -41,3 +41,7 @@ returns-in-Withdraw c =
     let w = c.in-Withdraw.facts in
     subst (λ (what : What). IsOwnEntry past key what c.returned.result) (sym c.in-Withdraw.is)
     (subst (λ (a : Account). IsOwnEntry past key (Withdraw w) a) (sym (c.returned.ensures ∙ ap of_lines c.sheet.ensures)) (own-entry past key w))
+
+pub returns-in-Sent : goal.returns-in-Sent
+returns-in-Sent c =
+    subst (λ (what : What). IsOwnEntry c.args.self.now c.args.filing.now.key what c.sent.result) (sym c.in-Sent.is) (c.sent.ensures c.args.self.now c.args.filing.now.key)

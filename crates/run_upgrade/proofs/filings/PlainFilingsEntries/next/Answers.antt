@@ -15,6 +15,6 @@ returns-in-Some-clause-given c some =
     record {
       entry = with_stamp plain_stamp filing;
       first = ap under_plain is_first;
-      spelled = c.put.ensures.spelled ∙ ap office_scheme.spelling plain;
-      in_range = subst office_scheme.IsEntry plain c.put.ensures.in_range;
+      spelled = c.encode.ensures.spelled ∙ ap office_scheme.spelling plain;
+      in_range = subst office_scheme.IsEntry plain c.encode.ensures.in_range;
     }

@@ -1,6 +1,9 @@
-use Rattle.std.proofs.Common.{refl}
+use Rattle.std.proofs.Common.{ap, refl}
 use Rattle.std.specs.Prelude.{option_map}
+use Rattle.log_lock.specs.Passes.{Known}
+use Rattle.log_machine.specs.declared.names.Filed.{Filed}
 use Rattle.log_stamps.specs.Entries.{with_stamp}
+use Rattle.log_stamps.specs.declared.entry.StampedEntry.{StampedEntry}
 use Rattle.log_stamps.specs.OwnLaws.{own_added, adds_added}
 use Rattle.log_stamps.specs.Rows.{ask_under}
 use Rattle.log_stamps.specs.Stamped.{stamped_semantics}
@@ -21,6 +24,8 @@ returns-clause-asked g c =
             c.self.inside.by (ask_under stamp c.args.operation) c.self.inside.handle c.submit.new.handle c.submit.result c.submit.ensures.turned);
         lock = c.submit.ensures.lock;
         share = c.submit.ensures.share;
+        wants = c.submit.ensures.wants;
+        turns = ap (λ (k : Known (Filed (StampedEntry g.row.R-Entry.Denot))). k.turns) c.submit.ensures.turned.whole;
       };
       stamp = refl;
     })

@@ -1,0 +1,2 @@
+pub mod DueOrder
+pub mod Passes
