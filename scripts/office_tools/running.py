@@ -20,19 +20,32 @@ class Stopped(SystemExit):
 
 
 class State:
-    """What a signal has to know: the program that runs, and what a run that files says where it is stopped."""
+    """What a signal has to know: the program that runs, whether it is being started, the signal that came meanwhile, and what a run that
+    files says where it is stopped."""
     child = None
+    starts = False
+    late = 0
     files = ""
     tells = None        # a function that says how far the work is
 
 
 def on_signal(number, _frame):
-    """Hands the signal on to the program, and ends the run once that has ended."""
+    """Hands the signal on to the program, and ends the run once that has ended. While the program is being started, the signal waits."""
+    if State.starts:
+        State.late = number
+        return
     for each in STOPS:
         signal.signal(each, signal.SIG_IGN)
     if State.child and State.child.poll() is None:
         State.child.send_signal(number)
     raise Stopped(STOPS[number])
+
+
+def take_late_signal():
+    """Acts on a signal that came while the program was being started."""
+    number, State.late = State.late, 0
+    if number:
+        on_signal(number, None)
 
 
 def take_signals():
@@ -96,6 +109,7 @@ def run(words, paths=(0,), given=None, out=None, quiet=False, take=None, keeps_o
     given = subprocess.DEVNULL if given is None else None if given is INPUT else given
     line, folder = program.line_of(words, paths)
     sys.stdout.flush()
+    State.starts = True
     try:
         State.child = child = subprocess.Popen(
             line, cwd=folder, stdin=given, stdout=subprocess.PIPE if take else out, stderr=subprocess.DEVNULL if quiet else None,
@@ -103,10 +117,13 @@ def run(words, paths=(0,), given=None, out=None, quiet=False, take=None, keeps_o
     except OSError as error:
         say(f"{line[0]} can't be run: {error.strerror}")
         return 127 if isinstance(error, FileNotFoundError) else 126
+    finally:
+        State.starts = False
     if not take:
         return finish(child)
     with child.stdout as pipe:
         try:
+            take_late_signal()
             status = stream(pipe.fileno(), take, keeps_on)
         except Stopped:
             stream(pipe.fileno(), take, True)
@@ -118,6 +135,7 @@ def run(words, paths=(0,), given=None, out=None, quiet=False, take=None, keeps_o
 def finish(child):
     """The status of the program once it has ended, also where a signal comes meanwhile."""
     try:
+        take_late_signal()
         return ended(child)
     except Stopped:
         ended(child)
