@@ -115,16 +115,17 @@ class Office:
                     return 4
         return 0
 
-    def read_only(self):
-        """Runs a command that only reads on a copy, and prints its text. Without room for a copy or the text it runs on the journal."""
+    def read_only(self, take=None):
+        """Runs a command that only reads on a copy, and prints its text. Without room for a copy or the text it runs on the journal, and `take`
+        gets each line as it comes."""
         status, text = copies.NO_COPY, None
         if os.path.isfile(self.journal) and copies.scratch("copy"):
             status, text = copies.run_on_copy(self, self.journal, self.words)
         if status == copies.NO_COPY:
             self.refuse_hurt(self.journal)
-            status = self.run(self.words)
+            status = self.run(self.words, take=take)
         elif status == 4:
-            status = self.run(self.words, copies.scratch("copy"))
+            status = self.run(self.words, copies.scratch("copy"), take=take)
         elif self.hand_on(text):
             return 4
         self.say_status(status)
@@ -133,14 +134,14 @@ class Office:
     def sheet(self):
         """A sheet of a copy. 1 where there is nothing to tell of these names, or there are fewer filings, and where a return is late."""
         self.desk, self.stamp = SHEET, []
-        status = self.read_only()
+        behind, lines = self.words[2:] if self.words[0] == "upto" else self.words, []
+        status = self.read_only(lines.append if behind[0] == "due" else None)
         if status:
             return status
         path = copies.scratch("text")
-        text = copies.text_of(path) if path and os.path.exists(path) else b""
+        text = b"\n".join(lines) if lines else copies.text_of(path) if path and os.path.exists(path) else b""
         if text.split(b"\n", 1)[0] == b"none" and self.words[0] != "due":
             refuse(f"there is nothing in {self.journal} to tell of these names, or it has fewer filings", 1)
-        behind = self.words[2:] if self.words[0] == "upto" else self.words
         return 1 if behind[0] == "due" and is_late(text) else 0
 
     def needs(self, words, desk=None):
