@@ -34,7 +34,7 @@ LAYERS = [
     ("Tests, planted bugs and benches", TESTS),
 ]
 # What stands on a crate of a later layer, and is meant to.
-MEANT = {("aid_stamps", "io_traits"), ("io_host", "web_session"), ("office_log", "log_")}
+MEANT = {("aid_stamps", "io_traits"), ("io_host", "web_session"), ("office_log", "log_"), ("office_amends", "log_stamps")}
 
 
 def layer_of(name):

@@ -1,7 +1,7 @@
 """The table of commands: the words of each, what it is for, and what runs it. Help, completion, the man page and the judging of words go by it."""
 from dataclasses import dataclass
 
-from . import approval, asking, before, copies, explain, guide, ids, installing, letter, lint, plot, program, reconcile, rows, serving, settings, show, tables
+from . import amending, approval, asking, before, copies, explain, guide, ids, installing, letter, lint, plot, program, reconcile, rows, serving, settings, show, tables
 from .program import AID, AUDIT, CLOCK, LOANS, SHEET, WORK
 from .words import CLERK, DAY, NUMBER, ROUND_NUMBER, SCHOOL, SOME_SCHOOL, STUDENT, TERM, YEAR, Argument, choice, number, optional, path, rest
 
@@ -74,7 +74,7 @@ PLACE, OF_TERM = (SCHOOL, STUDENT, YEAR, TERM), (SOME_SCHOOL, YEAR, TERM)
 FUND = SCHOOL, YEAR, TERM, number("AMOUNT", 1, 99_999_999), choice("level", "quarter"), ROUND_NUMBER
 MADE_UP = number("SEED", 0, 999_999_999_999), number("STUDENTS", 1, 20_000)
 SERVER = number("PORT", 1, 65_535), number("WORKERS", 1, 16), number("SESSIONS", 1, 1_000_000)
-TRIED = rest("COMMAND", "file, intake, book, fund, desks or generate with its words, or need STUDENT YEAR < APPLY.csv")
+TRIED = rest("COMMAND", "file, intake, book, fund, desks, generate or amend with its words, or need STUDENT YEAR < APPLY.csv")
 STAMPED = DAY, CLERK, rest("COMMAND", "a command with its words")
 THEN = number("POSITION", 1, 4_294_967_295), rest("SHEET", "a sheet, or report, with its words")
 REPORTS = {
@@ -118,6 +118,10 @@ ON_JOURNAL = [
     own("dry", None, (TRIED,), "tries a command that files, on a copy", "dry file < examples/year.csv", flags=(*AGAIN, *TABLE)),
     own("at", None, STAMPED, "stamps what it files with day and name", "at 2025-09-01 brown file < examples/year.csv", copy=False),
     own("upgrade", copies.upgrade, (path("OLD"),), "founds an office of what OLD (version 1) holds", "upgrade old.journal", copy=False),
+    own(
+        "amend", amending.amend, (path("NEW"), number("NUMBER", 1, 999_000_000_000)), "copies it with corrections (docs/KEEPING.md)",
+        "at 2026-02-12 brown amend new.journal 900 < corrections.csv", copy=False, input="CORRECTIONS.csv",
+    ),
     own("settings", settings.settings, (), "what is set", "settings", copy=False),
     own(
         "settings stamps", set_stamps, (choice("required", "optional"),), "sets whether a filing needs a stamp", "settings stamps required",
@@ -187,6 +191,10 @@ TOOLS = [
     Command(
         "rows", rows.run, tuple(Argument(name, "", A_WORD, True) for name in ("KIND", "SCHOOL", "NUMBER")), "rows of a sheet; --template too",
         "rows pay 110 600 < sheet.csv", "SHEET.csv",
+    ),
+    Command(
+        "book-row", amending.book_row, (number("REASON", 1, 7), number("REFERENCE", 0, 999_999_999_999), NUMBER), "the row that corrects a book",
+        "book-row 1 0 1 < examples/2025.toml", "BOOK.toml",
     ),
     Command("show", show.run, (BOOK, path("BEFORE.toml", may_miss=True)), "prints a year book in words and units", "show examples/2026.toml"),
     Command(

@@ -4,7 +4,7 @@ import os
 import time
 from dataclasses import dataclass
 
-from . import approval, before, copies, ids, running, settings, what_if
+from . import amending, approval, before, copies, ids, running, settings, what_if
 from .commands import JUDGE_THEMSELVES, ON_JOURNAL, OTHER_DESKS, TOOLS, first_words, table_of
 from .office import Office
 from .say import refuse, say
@@ -12,9 +12,12 @@ from .words import CLERK, DAY, first_wrong, near, number, rest
 
 SECONDS = number("SECONDS", 1, 86_400)
 OTHER_NAMES = {"-h": "help", "--help": "help", "version": "--version"}
-TRIED = ("file", "book", "fund", "desks", "generate", "quote", "report", "intake", "need")
+TRIED = ("file", "book", "fund", "desks", "generate", "quote", "report", "intake", "need", "amend")
 # What is tried in another way than it is run.
-TRIALS = {"intake": before.try_intake, "file": before.try_rows, "desks": before.try_rows, "fund": approval.dry_fund, "need": what_if.dry_need}
+TRIALS = {
+    "intake": before.try_intake, "file": before.try_rows, "desks": before.try_rows, "fund": approval.dry_fund, "need": what_if.dry_need,
+    "amend": amending.try_amend,
+}
 SHEETS = ("list", "student", "need", "quotes", "payments", "withdrawal", "due", "returns", "report")
 
 
@@ -169,7 +172,9 @@ def run_on_journal(office, command, behind, options):
         running.State.files = f"what is on file in {path} stands: run the same again"
     if command.name == "upgrade":
         running.State.files = f"{behind[0]} is as it was: run the same again"
-    if command.files or command.name in ("found", "upgrade"):
+    if command.name == "amend":
+        running.State.files = f"{path} is as it was: run the same again"
+    if command.files or command.name in ("found", "upgrade", "amend"):
         wait_for(path, options.wait)
     if command.name != "serve":
         running.say_at_work(path)

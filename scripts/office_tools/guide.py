@@ -6,7 +6,7 @@ from .words import near
 
 # The order of help: a command in a line of its own with its purpose, or several in one, with a text behind them.
 ON_JOURNAL = [
-    "found", "book", "file", "intake", "desks", "fund", "generate", "serve", "dry", "at", "upgrade",
+    "found", "book", "file", "intake", "desks", "fund", "generate", "serve", "dry", "at", (("upgrade", "amend"), ""),
     (("settings", "settings stamps"), ""),
 ]
 ON_A_COPY = [
@@ -17,7 +17,7 @@ ON_A_COPY = [
     (("returns", "upto"), "sheets; each as it was then"), (("next", "ids"), "a school's next number; the file of ids and names"), "backup", "since", "salvage",
 ]
 ALONE = [
-    "help", "check", "explain", "lint", "rows", "show", (("plot",), ""), "reconcile", (("pay-rows", "carry"), ""),
+    "help", "check", "explain", "lint", "rows", (("show", "book-row"), ""), (("plot",), ""), "reconcile", (("pay-rows", "carry"), ""),
     (("--version", "demo", "audit", "clock", "completion", "man"), ""), (("install", "loans", "work"), ""),
 ]
 FRONT = "in front of COMMAND: --lenient (0 for 1), --cut (KEEPING.md), --wait SECONDS"

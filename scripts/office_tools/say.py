@@ -47,6 +47,19 @@ UPGRADED = {
     7: "{old} is damaged, and nothing was copied: upgrade its last copy; {old} is as it was",
     9: "there was not enough memory: run it again with more; {old} is as it was",
 }
+AMENDED = {
+    1: "nothing was made: the last line says how many rows are no corrections that fit (errors), or how many filings would no longer stand "
+    "(refused), and a line names each; {old} is as it was",
+    2: "these words are none of the program's; {old} is as it was",
+    3: "the corrections couldn't be read; {old} is as it was",
+    4: "the text couldn't be written: run it again; {old} is as it was",
+    5: "{new} or {old} can't be opened or is held by another run, or its disk failed or is full: mend that, and run it again; "
+    "{old} is as it was",
+    6: "the line tells of {old}, or of {new} where it says exists or target: mend the path, and name a new file behind amend; {old} is as it was",
+    7: "{old} is damaged, and nothing was made: amend its last copy; {old} is as it was",
+    8: "the corrections have more than 16 MiB: make them in parts; {old} is as it was",
+    9: "there was not enough memory, of which two offices are wanted: run it again with more; {old} is as it was",
+}
 AUDITED = {
     3: "the input couldn't be read: run the same again",
     4: "the text couldn't be written: run it again",

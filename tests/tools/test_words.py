@@ -91,9 +91,11 @@ class Guide(unittest.TestCase):
                 self.assertRegex(text, rf"(?<![a-z]){word}(?![a-z])")
 
     def test_examples_are_right(self):
-        """The words of each example are those of its command."""
+        """The words of each example are those of its command, which may stand behind a stamp."""
         for command in ON_JOURNAL:
             words = command.example.split(" < ")[0].split()
+            if command.name != "at" and words[0] == "at":
+                words = words[3:]
             found, behind = dispatch.find(words, table_of(ON_JOURNAL))
             self.assertEqual((found.name, first_wrong(found.name, found.arguments, behind)), (command.name, ""))
 

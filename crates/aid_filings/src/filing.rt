@@ -99,7 +99,7 @@ pub struct SentFacts {
 
 /// A record of one correction of the list: the key of the filing that was corrected, what was done (1 it was replaced, 2 it was
 /// taken out, 3 it was put in), the reason (1 mistyped, 2 the student's document, 3 the school's record, 4 the government's
-/// record, 5 a review's finding, 6 filed twice, 7 another), and a number by which the school finds the paper, 0 to
+/// record, 5 a review's finding, 6 filed twice, 7 other), and a number by which the school finds the paper, 0 to
 /// 999,999,999,999.
 #[derive(Clone, Copy, PartialEq, Eq)]
 pub struct AmendFacts {

@@ -8,9 +8,9 @@ ghost use Rattle.log_runs.specs.Statuses.{is_read_fault, is_write_fault};
 ghost use Rattle.audit.specs.Answers.{AnswersInput};
 
 use clock_hours::clock_lines;
-use io_traits::{ReadError, Sink, Source, read_to_limit};
+use io_traits::{Sink, Source};
 use log_runs::{RunStop, put};
-use log_session::{CheckStop, INPUT_LIMIT, ReadStop};
+use log_session::{CheckStop, read_input};
 use std::alloc::{AllocError, Global};
 
 /// What answers a whole input with a text.
@@ -34,26 +34,6 @@ impl Answering for ClockAnswers {
 
     fn answer(alloc: Global, input: Vec<u8>) -> Result<Vec<u8>, AllocError> {
         clock_lines(alloc, input)
-    }
-}
-
-// Reads the whole input.
-fn read_input<S: Source>(alloc: Global, input: &mut S) -> Result<Vec<u8>, ReadStop>
-    ensures short { IfOk result (λ read. length read.items ≤ 16777216) }
-    ensures bytes { IfOk result (λ read. IsTrue (S.honest input.old) → read.items ≡ S.left input.old) }
-    ensures whole { OnOk result (IsReadWhole INPUT_LIMIT (record { honest = S.honest input.old; before = S.left input.old; after = S.left input.new })) }
-    ensures unread { IfErr result (λ stop. IsUnread stop INPUT_LIMIT (record { honest = S.honest input.old; before = S.left input.old; after = S.left input.new })) }
-    ensures cause { result ≡ Err ReadStop.Read → Rose (S.faults input.old) (S.faults input.new) }
-    ensures unmoved { OnOk result (S.faults input.new ≡ S.faults input.old) }
-    ensures unmoved_err { IfErr result (λ stop. stop ≢ ReadStop.Read → S.faults input.new ≡ S.faults input.old) }
-    ensures later { S.faults input.old ≤ S.faults input.new }
-    ensures honest { S.honest input.new ≡ S.honest input.old }
-{
-    match read_to_limit(alloc, input, INPUT_LIMIT) {
-        Ok(read) => Ok(read),
-        Err(ReadError::Failed) => Err(ReadStop::Read),
-        Err(ReadError::TooLong) => Err(ReadStop::TooLong),
-        Err(ReadError::NoMemory) => Err(ReadStop::NoMemory),
     }
 }
 

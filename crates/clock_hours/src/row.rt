@@ -12,7 +12,7 @@ use crate::hours::{clock_pay, clock_sheet};
 use csv::ByteRecord;
 use format_rows::{Cause, RowError, RowReader};
 use law_r2t4::Lines;
-use std::alloc::Global;
+use std::alloc::{AllocError, Global};
 
 /// Rows about clock-hour programs, each of which gives its answer.
 pub struct ClockForm;
@@ -26,8 +26,12 @@ impl RowReader for ClockForm {
 
     ghost said = { λ answer. answer };
 
-    fn read(_alloc: Global, row: u32, texts: &ByteRecord) -> Result<ClockAnswer, RowError> {
-        answer_of(row, texts)
+    fn read(
+        _alloc: Global,
+        row: u32,
+        texts: &ByteRecord,
+    ) -> Result<Result<ClockAnswer, RowError>, AllocError> {
+        Ok(answer_of(row, texts))
     }
 }
 

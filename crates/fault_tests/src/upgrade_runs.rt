@@ -1,6 +1,6 @@
 // One upgrade over files in memory.
 use io_memory::{DiskStop, MemoryDisk, MemorySink};
-use run_upgrade::upgrade;
+use run_builds::upgrade;
 use std::alloc::{AllocError, Global};
 use std::test::Fail;
 

@@ -9,7 +9,7 @@ use csv::ByteRecord;
 use format_kinds::Kind;
 use format_rows::{RowError, RowReader};
 use format_table::Numbers;
-use std::alloc::Global;
+use std::alloc::{AllocError, Global};
 use std::marker::Model;
 
 /// What contracts see of a filing: its kind and its numbers. No code makes one.
@@ -37,7 +37,11 @@ impl RowReader for FilingForm {
 
     ghost said = { filing_said };
 
-    fn read(alloc: Global, row: u32, texts: &ByteRecord) -> Result<Filing, RowError> {
-        filing_of_row(alloc, row, texts)
+    fn read(
+        alloc: Global,
+        row: u32,
+        texts: &ByteRecord,
+    ) -> Result<Result<Filing, RowError>, AllocError> {
+        Ok(filing_of_row(alloc, row, texts))
     }
 }

@@ -5,3 +5,4 @@ pub mod ReadingLemmas
 pub mod RecordsLemmas
 pub mod TableFormLemmas
 pub mod TextLaws
+pub mod WholeFields

@@ -1,6 +1,7 @@
 -- The numbers of a row's fields, and the first that isn't one.
 use Rattle.std.specs.Prelude.{ℕ, ◌+◌, ℤ, List, [], ◌∷◌, Option, Some, None, Result, Err}
 use Rattle.std.specs.Result.{result_map_both}
+use Rattle.aid_types.specs.Whole.{whole_between, whole_of}
 use Rattle.aid_types.specs.declared.text.Malformed.{Malformed}
 use Rattle.aid_types.specs.declared.text.Malformed.TheVariants as malformed
 use Rattle.format_table.specs.Walk.{Found, Source}
@@ -29,6 +30,15 @@ first_number words row place form (text ∷ texts) =
 -- numbers before it.
 abbrev pub row_source : List (List ℕ) → ℕ → Source (List (List ℕ)) RowError
 row_source words row = record { find = λ before line texts. first_number words row (before + 2) line.form texts; past = λ before texts. refused row (before + 2) Range; left = λ texts. None }
+
+-- the whole number within bounds that a field's text spells, or why the row is none
+abbrev pub whole_field : ℕ → ℕ → ℤ → ℤ → List ℕ → Result ℤ RowError
+whole_field row field low high text = result_map_both (λ z. z) (λ e. refused row field (cause_of e)) (whole_between low high (whole_of text))
+
+-- the same of a field that may not be there
+abbrev pub whole_spelled : ℕ → ℕ → ℤ → ℤ → Option (List ℕ) → Result ℤ RowError
+whole_spelled row field low high None = Err (refused row 0 WrongCount)
+whole_spelled row field low high (Some text) = whole_field row field low high text
 
 -- ---- what the code reads first
 abbrev pub number_spelled : List (List ℕ) → ℕ → ℕ → Form → Option (List ℕ) → Result ℤ RowError

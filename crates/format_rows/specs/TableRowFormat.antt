@@ -1,5 +1,5 @@
 -- What a row of a table means.
-use Rattle.std.specs.Prelude.{ℕ, ℤ, List, [], ◌++◌, drop, if◌then◌else◌, Option, Some, None, option_and_then, Result, Err}
+use Rattle.std.specs.Prelude.{ℕ, ℤ, List, ◌++◌, drop, if◌then◌else◌, Option, Some, None, option_and_then, Result, Err}
 use Rattle.std.specs.Result.{result_map_both}
 use Rattle.csv.specs.Records.{field_at}
 use Rattle.format_table.specs.Parts.{Slot}

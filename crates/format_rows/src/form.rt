@@ -1,12 +1,12 @@
 // How rows are read.
-ghost use Rattle.std.specs.Prelude.{◌≡◌, ℕ, List, Result};
+ghost use Rattle.std.specs.Prelude.{◌≡◌, ℕ, IfOk, List, Result};
 ghost use Rattle.csv.specs.Records.{fields_of};
 ghost use Rattle.format_rows.specs.Meanings.{said_of};
 ghost use Rattle.format_rows.specs.declared.error.RowError.{RowError};
 
 use crate::error::RowError;
 use csv::ByteRecord;
-use std::alloc::Global;
+use std::alloc::{AllocError, Global};
 
 /// How a row is read, and what it means.
 pub trait RowReader {
@@ -22,7 +22,11 @@ pub trait RowReader {
     /// What is seen of an entry.
     ghost said: { Self.Entry → Self.Said };
 
-    /// Reads a row.
-    fn read(alloc: Global, row: u32, texts: &ByteRecord) -> Result<Self::Entry, RowError>
-        ensures { said_of said result ≡ meaning row (fields_of texts.now) };
+    /// Reads a row. The outer error is want of memory.
+    fn read(
+        alloc: Global,
+        row: u32,
+        texts: &ByteRecord,
+    ) -> Result<Result<Self::Entry, RowError>, AllocError>
+        ensures { IfOk result (λ entry. said_of said entry ≡ meaning row (fields_of texts.now)) };
 }

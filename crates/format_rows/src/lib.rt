@@ -20,6 +20,6 @@ pub use form::RowReader;
 pub use laws::one_text;
 pub use lines::{put_error, put_fine, put_tally, refused_line};
 pub use numbers::{push_cents, push_count, push_number};
-pub use row::{entry_of_row, numbers_of};
+pub use row::{entry_of_row, numbers_of, whole_at};
 pub use rows::TextRows;
 pub use table_form::{RowSaid, TableForm};

@@ -1,5 +1,6 @@
 //! The entry of a row.
-ghost use Rattle.std.specs.Prelude.{◌≡◌, ◌+◌, ◌++◌, ◌≤◌, [], drop, length, map, option_and_then, option_map, true, Some};
+ghost use Rattle.std.specs.Prelude.{◌≡◌, ◌+◌, ◌-◌, ◌++◌, ◌≤◌, [], IfOk, drop, length, map, option_and_then, option_map, true, Some};
+ghost use Rattle.aid_types.specs.Ranges.{IsWithin};
 ghost use Rattle.csv.specs.Records.{field_at, fields_of as texts_of};
 ghost use Rattle.format_table.specs.Forms.{IsTable, most_numbers};
 ghost use Rattle.format_table.specs.Parts.{slots_of};
@@ -7,13 +8,13 @@ ghost use Rattle.format_table.specs.TableRows.{row_of as kind_row};
 ghost use Rattle.format_table.specs.Tables.{are_plain, kind_at, kind_named};
 ghost use Rattle.format_table.specs.Walk.{numbers_drafted, numbers_of_slots};
 ghost use Rattle.format_rows.specs.Meanings.{said_of};
-ghost use Rattle.format_rows.specs.Numbers.{cause_of as cause_of_text, number_spelled, refused as refusal, row_source};
+ghost use Rattle.format_rows.specs.Numbers.{cause_of as cause_of_text, number_spelled, refused as refusal, row_source, whole_spelled};
 ghost use Rattle.format_rows.specs.TableRowFormat.{row_meaning, row_of_slots, said_by};
 
 use crate::count::has_fields;
 use crate::error::{Cause, RowError};
 use crate::field::number_in;
-use aid_types::Malformed;
+use aid_types::{Malformed, read_whole};
 use csv::ByteRecord;
 use format_table::{Draft, EntryCodec, Form, KindTable, MOST_NUMBERS, Part, TableRow};
 
@@ -99,6 +100,27 @@ fn number_at(
     match number_in(words, form, text) {
         Ok(number) => Ok(number),
         Err(malformed) => Err(refused(row, place, cause_of(malformed))),
+    }
+}
+
+/// The whole number from `low` to `high` that a field spells, which counts from 1.
+pub fn whole_at(
+    row: u32,
+    texts: &ByteRecord,
+    field: u16,
+    low: i64,
+    high: i64,
+) -> Result<i64, RowError>
+    requires { 1 ≤ field }
+    ensures value { result ≡ whole_spelled row field low high (field_at (texts_of texts.now) (field - 1)) }
+    ensures in_range { IfOk result (λ z. IsWithin low high z) }
+{
+    let Some(text) = texts.get(usize::from(field) - 1) else {
+        return Err(refused(row, 0, Cause::WrongCount));
+    };
+    match read_whole(text, low, high) {
+        Ok(number) => Ok(number),
+        Err(malformed) => Err(refused(row, field, cause_of(malformed))),
     }
 }
 

@@ -103,7 +103,10 @@ impl<M: RowReader> TextRows<M> {
         }
         match self.reader.read_byte_record(&mut self.texts) {
             Ok(true) => {
-                let row = M::read(self.alloc, self.number, &self.texts);
+                let Ok(row) = M::read(self.alloc, self.number, &self.texts) else {
+                    self.ended = true;
+                    return Err(Fault::Stopped);
+                };
                 self.number += 1;
                 Ok(Some(row))
             }

@@ -7,7 +7,7 @@ use crate::form::RowReader;
 use crate::row::entry_of_row;
 use csv::ByteRecord;
 use format_table::{EntryCodec, Numbers};
-use std::alloc::Global;
+use std::alloc::{AllocError, Global};
 use std::marker::{Model, PhantomData};
 
 /// What contracts see of an entry of a table: the code of its kind, and its numbers. No code makes one.
@@ -37,7 +37,11 @@ impl<T: EntryCodec> RowReader for TableForm<T> {
 
     ghost said = { said_by T.code_of T.numbers_of };
 
-    fn read(_alloc: Global, row: u32, texts: &ByteRecord) -> Result<T::Entry, RowError> {
-        entry_of_row::<T>(row, texts)
+    fn read(
+        _alloc: Global,
+        row: u32,
+        texts: &ByteRecord,
+    ) -> Result<Result<T::Entry, RowError>, AllocError> {
+        Ok(entry_of_row::<T>(row, texts))
     }
 }

@@ -3,7 +3,7 @@ ghost use Rattle.std.specs.Prelude.{◌≤◌, length, Ok};
 
 use csv::ByteRecord;
 use format_rows::{RowError, RowReader, TextRows};
-use std::alloc::Global;
+use std::alloc::{AllocError, Global};
 use std::process::Abort;
 use std::test::Fail;
 
@@ -19,8 +19,12 @@ impl RowReader for AnyRow {
 
     ghost said = { λ entry. entry };
 
-    fn read(_alloc: Global, _row: u32, _texts: &ByteRecord) -> Result<(), RowError> {
-        Ok(())
+    fn read(
+        _alloc: Global,
+        _row: u32,
+        _texts: &ByteRecord,
+    ) -> Result<Result<(), RowError>, AllocError> {
+        Ok(Ok(()))
     }
 }
 

@@ -26,6 +26,6 @@ pub use opening::open;
 pub use planned::file_planned;
 pub use reporting::{Report, write_report};
 pub use round_laws::{counted_stands, each_moment_of_counted, each_moment_of_counted_session};
-pub use session::{INPUT_LIMIT, answer, file, read_rows};
+pub use session::{INPUT_LIMIT, answer, file, read_input, read_rows};
 pub use stop::{FileStop, FoundStop, ReadStop, SessionStop};
 pub use tally::Tally;

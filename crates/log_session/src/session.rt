@@ -13,6 +13,26 @@ use std::alloc::Global;
 /// The greatest length of an input, in bytes.
 pub const INPUT_LIMIT: usize = 16_777_216;
 
+/// Reads the whole input.
+pub fn read_input<S: Source>(alloc: Global, input: &mut S) -> Result<Vec<u8>, ReadStop>
+    ensures short { IfOk result (λ read. length read.items ≤ 16777216) }
+    ensures bytes { IfOk result (λ read. IsTrue (S.honest input.old) → read.items ≡ S.left input.old) }
+    ensures whole { OnOk result (IsReadWhole INPUT_LIMIT (record { honest = S.honest input.old; before = S.left input.old; after = S.left input.new })) }
+    ensures unread { IfErr result (λ stop. IsUnread stop INPUT_LIMIT (record { honest = S.honest input.old; before = S.left input.old; after = S.left input.new })) }
+    ensures cause { result ≡ Err ReadStop.Read → Rose (S.faults input.old) (S.faults input.new) }
+    ensures unmoved { OnOk result (S.faults input.new ≡ S.faults input.old) }
+    ensures unmoved_err { IfErr result (λ stop. stop ≢ ReadStop.Read → S.faults input.new ≡ S.faults input.old) }
+    ensures later { S.faults input.old ≤ S.faults input.new }
+    ensures honest { S.honest input.new ≡ S.honest input.old }
+{
+    match read_to_limit(alloc, input, INPUT_LIMIT) {
+        Ok(read) => Ok(read),
+        Err(ReadError::Failed) => Err(ReadStop::Read),
+        Err(ReadError::TooLong) => Err(ReadStop::TooLong),
+        Err(ReadError::NoMemory) => Err(ReadStop::NoMemory),
+    }
+}
+
 /// Reads the whole input, and begins to read its rows.
 pub fn read_rows<S: Source, R: StateMachine, F: RowFormat<R>>(
     alloc: Global,
@@ -29,11 +49,9 @@ pub fn read_rows<S: Source, R: StateMachine, F: RowFormat<R>>(
     ensures later { S.faults input.old ≤ S.faults input.new }
     ensures honest { S.honest input.new ≡ S.honest input.old }
 {
-    let text = match read_to_limit(alloc, input, INPUT_LIMIT) {
+    let text = match read_input(alloc, input) {
         Ok(text) => text,
-        Err(ReadError::Failed) => return Err(ReadStop::Read),
-        Err(ReadError::TooLong) => return Err(ReadStop::TooLong),
-        Err(ReadError::NoMemory) => return Err(ReadStop::NoMemory),
+        Err(stop) => return Err(stop),
     };
     match forms.read(alloc, text) {
         Ok(rows) => Ok(rows),

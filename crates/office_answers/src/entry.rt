@@ -17,9 +17,8 @@ use law_r2t4::Lines;
 use office_history::{Account, HistoryView};
 
 /// What a filing moves in the student's term that it is about, after what is on file, and what it says was sent back; nothing where
-/// it does neither. Of that
-/// term before the filing are told the position of the student's withdrawal from it, and what moved in it; and of a withdrawal the
-/// term on file.
+/// it does neither. Of that term before the filing are told the position of the student's withdrawal from it, and what moved in it;
+/// and of a withdrawal the term on file.
 pub fn entry_of<P: HistoryView>(
     past: &P,
     filing: &Filing,

@@ -16,4 +16,4 @@ pub use entry::{adjusted, entry_of, paid, repaid, returned, sent};
 pub use responses::{answer, returned_outcome};
 pub use sheets::sheet;
 pub use standings::{quote, standing};
-pub use uncounted::{quote_on, rule_on, standing_on, verdict_on};
+pub use uncounted::{key_position_on, quote_on, rule_on, standing_on, verdict_on};

@@ -3,12 +3,13 @@ ghost use Rattle.std.specs.Prelude.{◌≡◌, ℕ, ◌*◌, ◌<◌, ◌≤◌,
 ghost use Rattle.aid_filings.specs.declared.reply.Response.TheVariants.{Admit};
 ghost use Rattle.aid_types.specs.RuleLines.{first_broken};
 ghost use Rattle.office_history.specs.Answer.{answer_of, is_admit, quote_of, standing_of};
+ghost use Rattle.office_history.specs.Past.{key_at};
 ghost use Rattle.office_history.specs.Rules.{payment_rules};
 
 use crate::responses::answer;
 use crate::standings::{quote, standing};
 use aid_filings::{Filing, Outcome, Response, StandingRow};
-use aid_types::{School, Student, Year};
+use aid_types::{Key, School, Student, Year};
 use office_history::HistoryView;
 use sorted_rows::Steps;
 use std::marker::Brand;
@@ -28,6 +29,22 @@ fn verdict_counted<P: HistoryView, L: Ledger>(past: &P, filing: &Filing, blank: 
     ensures { result ≡ answer_of (P.history past.now) filing.now }
 {
     answer(past, filing, &mut Steps::<L>::new(blank))
+}
+
+/// The position of the filing with a key; 0 where there is none.
+pub fn key_position_on<P: HistoryView>(past: &P, key: &Key) -> u32
+    ensures { result ≡ key_at key.now (P.history past.now) }
+{
+    key_position_counted::<P, Brand>(past, key, Blank::new(1))
+}
+
+fn key_position_counted<P: HistoryView, L: Ledger>(past: &P, key: &Key, blank: Blank) -> u32
+    requires name { blank.name ≡ L.name }
+    requires parts { blank.parts ≡ L.parts }
+    requires some { 0 < blank.parts }
+    ensures { result ≡ key_at key.now (P.history past.now) }
+{
+    past.key_at(key, &mut Steps::<L>::new(blank))
 }
 
 /// With what a filing would be admitted: where its key is new, and it breaks no rule.

@@ -30,7 +30,7 @@ use Rattle.office_export.proofs.Visible.{AreVisible, visible_cents, visible_deci
 use Rattle.office_export.proofs.Spaced.{form_of-line, line_of-spaced}
 
 -- ---- a filing's line
-digits_of : (f : Filing) → are_digits (encode_lower (spelling f)) ≡ true
+pub digits_of : (f : Filing) → are_digits (encode_lower (spelling f)) ≡ true
 digits_of f = are_digits-encode_lower (spelling f) (bytes-spelling f)
 
 filing_words : (f : Filing) → AllByRecursion AreVisible (codes "filing" ∷ encode_lower (spelling f) ∷ [])

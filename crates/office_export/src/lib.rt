@@ -8,5 +8,5 @@ mod writing;
 
 pub use form::{LineForm, form_of};
 pub use io_traits::PayloadBuffer;
-pub use reading::{filing_in, first_line};
+pub use reading::{filing_in, filing_of_digits, first_line};
 pub use writing::{put_end_line, put_filing_line, put_standing_line};

@@ -5,8 +5,9 @@ ghost use Rattle.format_bytes.specs.Spelling.{spelling};
 ghost use Rattle.format_bytes.specs.Numbers.{IsFiling};
 ghost use Rattle.hex.specs.Hex.{encode_lower};
 ghost use Rattle.office_export.specs.Exports.{lines_of};
-ghost use Rattle.office_export.specs.Forms.{are_digits};
+ghost use Rattle.office_export.specs.Forms.{are_digits as are_digits_of};
 
+use crate::words::are_digits;
 use aid_filings::Filing;
 use format_bytes::{TakeError, take};
 use io_traits::CAPACITY;
@@ -33,7 +34,7 @@ pub fn first_line(text: &[u8]) -> Option<(&[u8], &[u8])>
 
 /// The filing that the digits spell, two for each byte. `None` says that they spell none; an `Err` is want of memory for a book.
 pub fn filing_in(alloc: Global, digits: &[u8]) -> Result<Option<Filing>, AllocError>
-    requires { are_digits digits.now ≡ true }
+    requires { are_digits_of digits.now ≡ true }
     // What is found has these digits.
     ensures found { IfOk result (λ found. IfSome found (λ filing. IsFiling filing × (encode_lower (spelling filing) ≡ digits.now))) }
     // Where nothing is found no filing has them.
@@ -49,6 +50,18 @@ pub fn filing_in(alloc: Global, digits: &[u8]) -> Result<Option<Filing>, AllocEr
         return Ok(None);
     };
     filing_of(alloc, bytes)
+}
+
+/// The filing that a text spells, two digits of lower case for each byte. `None` says that it spells none; an `Err` is want of memory
+/// for a book.
+pub fn filing_of_digits(alloc: Global, text: &[u8]) -> Result<Option<Filing>, AllocError>
+    ensures found { IfOk result (λ found. IfSome found (λ filing. IsFiling filing × (encode_lower (spelling filing) ≡ text.now))) }
+    ensures none { result ≡ Ok None → (filing : AnyFiling) → IsFiling filing → encode_lower (spelling filing) ≢ text.now }
+{
+    if !are_digits(text) {
+        return Ok(None);
+    }
+    filing_in(alloc, text)
 }
 
 // The filing that the bytes spell, where they spell one.

@@ -23,8 +23,10 @@ ghost use Rattle.office_index.specs.WalkedFor.{walked_for};
 
 use crate::indexed::Indexed;
 use aid_filings::{Filing, Operation, Outcome, Response, StandingRow};
-use aid_types::{Program, School, Student, Year};
-use office_answers::{answer, quote, quote_on, rule_on, standing, standing_on, verdict_on};
+use aid_types::{Key, Program, School, Student, Year};
+use office_answers::{
+    answer, key_position_on, quote, quote_on, rule_on, standing, standing_on, verdict_on,
+};
 use office_history::{HistoryView, PlaceRow, SchoolRow, SchoolYearRow};
 use office_updates::{place_of, school_of, school_year_of};
 use sorted_rows::Steps;
@@ -109,6 +111,13 @@ impl Office {
         ensures stands { IsSome result ↔ (1 ≤ position) × (position ≤ length self.now.history) }
     {
         self.indexed.filing(position)
+    }
+
+    /// The position of the filing with a key; 0 where there is none.
+    pub fn position(&self, key: &Key) -> u32
+        ensures { result ≡ key_at key.now self.now.history }
+    {
+        key_position_on(&self.indexed, key)
     }
 
     /// The outcome with which the filing at this position was admitted; `None` where there is no such position.

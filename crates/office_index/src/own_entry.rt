@@ -13,8 +13,8 @@ use office_answers::entry_of;
 use office_history::{Account, HistoryView, PlaceRow};
 use office_updates::term_of;
 
-/// What a filing that comes next moves in the student's term that it is about; nothing where it moves no money. `row` is the
-/// row of that term before the filing.
+/// What a filing that comes next moves in the student's term that it is about, and what it says was sent back; nothing where it does
+/// neither. `row` is the row of that term before the filing.
 pub(crate) fn own_entry<P: HistoryView>(past: &P, filing: &Filing, row: &PlaceRow) -> Account
     requires legal { IsLegal (filing.now ∷ P.history past.now) }
     requires row { IsPlaceBefore (P.history past.now) filing.now row.now }

@@ -126,7 +126,6 @@ impl PlainHistory<'_> {
                 let lines = self.sheet(&filing.key, facts, &self.account_of(own));
                 (ByProgram::EMPTY, lines.returned)
             }
-            What::Sent(_) => (ByProgram::EMPTY, ByProgram::EMPTY),
             _ => (ByProgram::EMPTY, ByProgram::EMPTY),
         }
     }
@@ -147,7 +146,6 @@ impl PlainHistory<'_> {
                 let (_, taken) = self.paid_and_taken(filing, own);
                 (0, cells.cents_of(&taken))
             }
-            What::Sent(_) => (0, 0),
             _ => (0, 0),
         }
     }

@@ -25,9 +25,9 @@ fund_cell r student = cell_at r.school student r.year r.term 4
 abbrev pub need_of : List Filing → RoundRequest → ℕ → ℕ
 need_of past r student = (100 * cost past r.school student r.year - net past (at_school_in_year r.school student r.year)) / 100
 
--- A candidate has a cost of attendance on file at the school in the year and an application in force, is enrolled in the term, hasn't
--- withdrawn from it there, and has no grant of the fund's program in it yet (34 CFR 676.9, 676.10; own: the last one). The index is the
--- final one of the application in force.
+-- A candidate has a cost of attendance on file at the school in the year (`originated`) and an application in force, is enrolled in the
+-- term, hasn't withdrawn from it there, and has no grant of the fund's program in it yet (34 CFR 676.9, 676.10; own: the last one). The
+-- index is the final one of the application in force.
 pub record IsCandidate (past : List Filing) (r : RoundRequest) (c : Candidate) : Type 0 where
   pub originated : 0 < cost_at past r.school c.student r.year
   pub applied : 0 < (standing_of past c.student r.year).transaction

@@ -6,7 +6,7 @@ use aid_filings::{Filing, What};
 use std::alloc::{AllocError, Global};
 
 /// A copy of a filing. An `Err` is want of memory.
-pub(crate) fn copy_filing(alloc: Global, filing: &Filing) -> Result<Filing, AllocError>
+pub fn copy_filing(alloc: Global, filing: &Filing) -> Result<Filing, AllocError>
     ensures { IfOk result (λ copy. copy ≡ filing.now) }
 {
     Ok(Filing {

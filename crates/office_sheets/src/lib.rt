@@ -16,6 +16,7 @@ mod term_payments;
 mod term_quotes;
 mod term_sums;
 
+pub use copies::copy_filing;
 pub use front::front_of;
 pub use headed::headed_text;
 pub use laws::{rows_of_student, totals_of_payments};

@@ -4,7 +4,7 @@ use Rattle.std.specs.Prelude.{◌≡◌, ◌⊎◌, ◌↔◌, ◌||◌, ℕ, Bo
 use Rattle.aid_types.specs.Ranges.{IsBetween}
 use Rattle.aid_stamps.specs.Stamps.{plain_stamp}
 use Rattle.aid_stamps.specs.declared.stamp.Stamp.{Stamp}
-use Rattle.run_words.specs.Stamped.{AreStampedDesks, AreStampedServe, IsStamped, IsStampedRow}
+use Rattle.run_words.specs.Stamped.{AreStampedDesks, AreStampedServe, IsAmend, IsStamped, IsStampedRow}
 use Rattle.run_words.specs.Words.{IsUpgrade}
 use Rattle.run_words.specs.declared.command.Command.{Command}
 use Rattle.run_words.specs.declared.command.Command.TheVariants.{CheckBook, CheckRows}
@@ -55,9 +55,10 @@ AreDesksOf Loans words files stamp = (stamp ≡ plain_stamp) × (paths : List (L
 AreDesksOf Work words files stamp = ⊥
 AreDesksOf Sheet words files stamp = ⊥
 
--- the words found a list in the journal's file, or copy an older one into it
+-- the words found a list in the journal's file, or build one there of another journal
 abbrev pub IsFounding : Program → List (List ℕ) → Type 0
-IsFounding Office words = ((stamp : Stamp) × IsStamped words stamp (codes "found" ∷ [])) ⊎ ((file : List ℕ) × IsUpgrade words file)
+IsFounding Office words = ((stamp : Stamp) × IsStamped words stamp (codes "found" ∷ []))
+    ⊎ (((file : List ℕ) × IsUpgrade words file) ⊎ ((stamp : Stamp) × (file : List ℕ) × (number : ℕ) × IsAmend words stamp file number))
 IsFounding Loans words = words ≡ codes "found" ∷ []
 IsFounding Work words = words ≡ codes "found" ∷ []
 IsFounding Sheet words = ⊥
@@ -72,6 +73,7 @@ pub record Suits (program : Program) (words : List (List ℕ)) (call : MainRow) 
   pub desks : (files : ℕ) (stamp : Stamp) → (call ≡ row.Desks files stamp) ↔ AreDesksOf program words files stamp
   pub serve : (port workers sessions : ℕ) (stamp : Stamp) → (call ≡ row.Serve port workers sessions stamp) ↔ ((program ≡ Office) × AreStampedServe words port workers sessions stamp)
   pub upgrade : (call ≡ row.Upgrade) ↔ ((program ≡ Office) × ((file : List ℕ) × IsUpgrade words file))
+  pub amend : (call ≡ row.Amend) ↔ ((program ≡ Office) × (stamp : Stamp) × (file : List ℕ) × (number : ℕ) × IsAmend words stamp file number)
   -- only a sheet's journal is opened for reading alone
   pub read : (how ≡ opening.Read) ↔ (program ≡ Sheet)
   -- only a journal that nothing is done with isn't held

@@ -1,7 +1,7 @@
 //! What the words say.
 ghost use Rattle.std.specs.Prelude.{◌≡◌, ◌≢◌, ◌↔◌, ◌⊎◌, ◌∷◌, [], ℕ, List, None, IfSome, IsTrue, bytes_eq, codes, map, string_bytes};
 ghost use Rattle.aid_stamps.specs.declared.stamp.Stamp.{Stamp as StampData};
-ghost use Rattle.run_words.specs.Stamped.{AreStampedServe};
+ghost use Rattle.run_words.specs.Stamped.{AreStampedServe, IsAmend};
 ghost use Rattle.run_words.specs.Words.{IsUpgrade};
 ghost use Rattle.run_plan.specs.Plans.{AreDesksOf, IsFounding, IsPlan, IsPlanFromPath, IsUnheld, Suits, from_path, is_audit as is_audit_in, program_in as program_of_words, program_of as program_of_word};
 
@@ -131,6 +131,7 @@ fn loan_row(words: &[String]) -> MainRow
     ensures desks { (files : ℕ) (stamp : StampData) → (result ≡ MainRow.Desks files stamp) ↔ AreDesksOf Program.Loans (map string_bytes words.now) files stamp }
     ensures other { (port workers sessions : ℕ) (stamp : StampData) → result ≢ MainRow.Serve port workers sessions stamp }
     ensures no_upgrade { result ≢ MainRow.Upgrade }
+    ensures no_amend { result ≢ MainRow.Amend }
 {
     match words.split_first() {
         Some((first, files)) => loan_row_of(first.as_str(), files),
@@ -143,6 +144,7 @@ fn loan_row_of(first: &str, files: &[String]) -> MainRow
     ensures desks { (count : ℕ) (stamp : StampData) → (result ≡ MainRow.Desks count stamp) ↔ AreDesksOf Program.Loans (first.now ∷ map string_bytes files.now) count stamp }
     ensures other { (port workers sessions : ℕ) (stamp : StampData) → result ≢ MainRow.Serve port workers sessions stamp }
     ensures no_upgrade { result ≢ MainRow.Upgrade }
+    ensures no_amend { result ≢ MainRow.Amend }
 {
     if is_word(first, "desks") && !files.is_empty() && files.len() <= MOST_DESKS {
         MainRow::Desks {
@@ -160,6 +162,8 @@ fn row_for(program: Program, words: &[String]) -> MainRow
     ensures serve { (port workers sessions : ℕ) (stamp : StampData) → (result ≡ MainRow.Serve port workers sessions stamp)
         ↔ ((program ≡ Program.Office) × AreStampedServe (map string_bytes words.now) port workers sessions stamp) }
     ensures upgrade { (result ≡ MainRow.Upgrade) ↔ ((program ≡ Program.Office) × ((file : List ℕ) × IsUpgrade (map string_bytes words.now) file)) }
+    ensures amend { (result ≡ MainRow.Amend) ↔ ((program ≡ Program.Office) × (stamp : StampData) × (file : List ℕ) × (number : ℕ)
+        × IsAmend (map string_bytes words.now) stamp file number) }
 {
     match program {
         Program::Office => row_of(words),
@@ -180,7 +184,9 @@ fn is_found_alone(words: &[String]) -> bool
 
 // How the file of an aid office is opened for these words, which need this call.
 fn office_opening(row: &MainRow, words: &[String]) -> Opening
-    requires { (row.now ≡ MainRow.Upgrade) ↔ ((file : List ℕ) × IsUpgrade (map string_bytes words.now) file) }
+    requires upgrade { (row.now ≡ MainRow.Upgrade) ↔ ((file : List ℕ) × IsUpgrade (map string_bytes words.now) file) }
+    requires amend { (row.now ≡ MainRow.Amend) ↔ ((stamp : StampData) × (file : List ℕ) × (number : ℕ)
+        × IsAmend (map string_bytes words.now) stamp file number) }
     ensures founds { (result ≡ Opening.Found) ↔ IsFounding Program.Office (map string_bytes words.now) }
     ensures written { result ≢ Opening.Read }
     ensures unheld { result ≡ Opening.Open → IsUnheld row.now (map string_bytes words.now) }
@@ -189,7 +195,7 @@ fn office_opening(row: &MainRow, words: &[String]) -> Opening
         return Opening::Found;
     }
     match *row {
-        MainRow::Upgrade => Opening::Found,
+        MainRow::Upgrade | MainRow::Amend => Opening::Found,
         MainRow::Desks { .. } | MainRow::Serve { .. } => Opening::Hold,
         MainRow::Run => run_opening(words),
     }
@@ -221,7 +227,9 @@ fn list_opening(words: &[String]) -> Opening
 
 // How the journal's file is opened.
 fn opening_for(program: Program, row: &MainRow, words: &[String]) -> Opening
-    requires { (row.now ≡ MainRow.Upgrade) ↔ ((program ≡ Program.Office) × ((file : List ℕ) × IsUpgrade (map string_bytes words.now) file)) }
+    requires upgrade { (row.now ≡ MainRow.Upgrade) ↔ ((program ≡ Program.Office) × ((file : List ℕ) × IsUpgrade (map string_bytes words.now) file)) }
+    requires amend { (row.now ≡ MainRow.Amend) ↔ ((program ≡ Program.Office) × (stamp : StampData) × (file : List ℕ) × (number : ℕ)
+        × IsAmend (map string_bytes words.now) stamp file number) }
     ensures founds { (result ≡ Opening.Found) ↔ IsFounding program (map string_bytes words.now) }
     ensures read { (result ≡ Opening.Read) ↔ (program ≡ Program.Sheet) }
     ensures unheld { result ≡ Opening.Open → (program ≡ Program.Office) × IsUnheld row.now (map string_bytes words.now) }

@@ -30,7 +30,9 @@ use Rattle.run_rules.specs.declared.desks.RuleDeskInput.{RuleDeskInput}
 use Rattle.run_server.specs.RanWeb.{RanWeb}
 use Rattle.run_sheets.specs.Runs.{RanSheets}
 use Rattle.run_sheets.specs.Runs as sheets
-use Rattle.run_upgrade.specs.Upgrades.{Upgrades}
+use Rattle.run_builds.specs.Amendments.{Amending}
+use Rattle.run_builds.specs.Upgrades.{Upgrades}
+use Rattle.run_builds.specs.declared.amendment.AmendRequest.{AmendRequest}
 use Rattle.web_session.specs.Ports.{AcceptorState}
 use Rattle.work_rounds.specs.Runs.{RanWork, SchoolGives}
 use Rattle.work_rounds.specs.Words.{command_in as work_command}
@@ -64,6 +66,10 @@ pub data Performed {D B F P K Policy : Type 0} (names : List (List ℕ)) (gives 
   upgrade : (from from' : B) (old new : D) (status : ℕ)
       → Upgrades of.to_read of.disk of.sink (record { source = (of.to_read.faults from, of.to_read.faults from'); target = (of.disk.faults old, of.disk.faults new); sink = (of.sink.faults out, of.sink.faults out') }) from old new out out' status
       → Performed names gives schools grants of source input words out out' (task.Upgrade from old) (task.Upgrade from' new) status
+  amend : (from from' : B) (old new : D) (request : AmendRequest) (status : ℕ)
+      → Amending of.to_read of.disk of.sink (record { input = source; source = (of.to_read.faults from, of.to_read.faults from'); target = (of.disk.faults old, of.disk.faults new); sink = (of.sink.faults out, of.sink.faults out') })
+      request.stamp request.number input from old new out out' status
+      → Performed names gives schools grants of source input words out out' (task.Amend from old request) (task.Amend from' new request) status
   loans : (old new : D) (status : ℕ)
       → RanRuled loan_ruling IsWithinLoans (table_texts code_of_loan numbers_of_loan loan_text) (table_rows loan_words key_slots loan_kinds) of.disk of.sink
       (counts_of of source out out' old new) (rule_command words) old new input out out' status

@@ -9,11 +9,11 @@ use audit::run_audit;
 use io_traits::{Disk, NoSyncPoint, Sink, Source};
 use law_funds::Rule;
 use loans::Loans;
+use run_builds::{amend, upgrade};
 use run_office::{run, run_desks};
 use run_rules::{run_ruled, run_ruled_desks};
 use run_server::run_web;
 use run_sheets::run_sheets;
-use run_upgrade::upgrade;
 use std::alloc::Global;
 use std::sync::Wait;
 use std::thread::Threads;
@@ -22,7 +22,7 @@ use work_rounds::run_work;
 
 /// Performs a task, and answers the status, and what was opened as it is then. `words` are those that the task's run reads, and
 /// `input` is the one input of a run that has no desks. Which status it is, what is written and what becomes of the journal is that
-/// which the task's own call says: `run`, `run_desks`, `run_web`, `upgrade`, `run_ruled`, `run_ruled_desks`, `run_work`, `run_sheets` or
+/// which the task's own call says: `run`, `run_desks`, `run_web`, `upgrade`, `amend`, `run_ruled`, `run_ruled_desks`, `run_work`, `run_sheets` or
 /// `run_audit`.
 pub fn perform<
     D: Disk + Send,
@@ -71,6 +71,15 @@ where
         Task::Upgrade { source, target } => {
             let (status, source, target) = upgrade(alloc, source, target, out);
             (status, Task::Upgrade { source, target })
+        }
+        Task::Amend {
+            source,
+            target,
+            request,
+        } => {
+            let under = request;
+            let (status, source, target) = amend(alloc, under, source, target, input, out);
+            (status, Task::of_amendment(source, target, request))
         }
         Task::Loans(disk) => {
             let (status, disk) = run_ruled::<D, S, K, Loans>(alloc, words, disk, input, out);

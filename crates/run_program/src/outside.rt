@@ -15,10 +15,11 @@ use law_funds::{Rule, level, quarter, standard};
 use log_journal::OpenError;
 use log_runs::{RunStop, end};
 use log_session::ReadStop;
+use run_builds::AmendRequest;
 use run_office::DeskInput;
 use run_plan::{JournalPlan, Opening, Plan, Program, desk_files, plan_of};
 use run_rules::RuleDeskInput;
-use run_words::{MainRow, upgrade_file};
+use run_words::{MainRow, amend_request, upgrade_file};
 use std::alloc::{AllocError, Global};
 use std::fs::{File, metadata};
 use std::io;
@@ -170,7 +171,7 @@ fn ports_of<'a, H: Clock>(
     Ok(ports)
 }
 
-// The task of a run of the aid office, or of its desks, or of an upgrade.
+// The task of a run of the aid office, or of its desks, or of a copy.
 fn office_task<'a, H>(
     rt: &HostRuntime,
     disk: HostDisk,
@@ -189,7 +190,24 @@ fn office_task<'a, H>(
                 target: disk,
             })
         }
+        MainRow::Amend => amend_task(rt, disk, words),
         MainRow::Run | MainRow::Serve { .. } => Ok(Task::Office(disk)),
+    }
+}
+
+// The task of an amendment.
+fn amend_task<'a, H>(
+    rt: &HostRuntime,
+    disk: HostDisk,
+    words: &[String],
+) -> Result<HostTask<'a, H>, NotOpened> {
+    match amend_request(words) {
+        Some((stamp, from, number)) => Ok(Task::Amend {
+            source: open_to_read(rt, from, from)?,
+            target: disk,
+            request: AmendRequest { stamp, number },
+        }),
+        None => Ok(Task::Office(disk)),
     }
 }
 
@@ -205,7 +223,8 @@ fn loan_task<'a, H>(
             disk,
             desks: open_loan_desks(rt, desk_files(words))?,
         }),
-        MainRow::Run | MainRow::Serve { .. } | MainRow::Upgrade => Ok(Task::Loans(disk)),
+        MainRow::Run | MainRow::Serve { .. } => Ok(Task::Loans(disk)),
+        MainRow::Upgrade | MainRow::Amend => Ok(Task::Loans(disk)),
     }
 }
 

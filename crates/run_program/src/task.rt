@@ -3,6 +3,7 @@ ghost use Rattle.std.specs.Prelude.{◌≡◌};
 
 use aid_stamps::Stamp;
 use law_funds::Policies;
+use run_builds::AmendRequest;
 use run_office::DeskInput;
 use run_rules::RuleDeskInput;
 use work_study::SchoolPolicies;
@@ -37,6 +38,12 @@ pub enum Task<D, B, F, P> {
         source: B,
         target: D,
     },
+    /// A journal is copied with corrections.
+    Amend {
+        source: B,
+        target: D,
+        request: AmendRequest,
+    },
     /// A run of the loan desk.
     Loans(D),
     /// A run of several loan desks.
@@ -69,6 +76,17 @@ impl<D, B, F, P> Task<D, B, F, P> {
             ports,
             sessions,
             stamp,
+        }
+    }
+
+    // An amendment, with its disks.
+    pub(crate) fn of_amendment(source: B, target: D, request: AmendRequest) -> Self
+        ensures { result ≡ Task.Amend source target request }
+    {
+        Task::Amend {
+            source,
+            target,
+            request,
         }
     }
 

@@ -20,6 +20,7 @@ usage: aid_office JOURNAL found
        aid_office JOURNAL check rows < ROWS.csv
        aid_office JOURNAL check book < BOOK.toml
        aid_office JOURNAL upgrade JOURNAL-OF-VERSION-1
+       aid_office JOURNAL at DAY CLERK amend OLD-JOURNAL NUMBER < CORRECTIONS.csv
        aid_office JOURNAL at DAY CLERK .. (any of these but upgrade, by this clerk on this day)
        aid_office loans JOURNAL .. (the Direct Loan desk)
        aid_office work JOURNAL .. (work-study)

@@ -6,3 +6,4 @@ pub mod ServeWords
 pub mod StampedWords
 pub mod ClapLemmas
 pub mod BehindLemmas
+pub mod AmendWords

@@ -1,11 +1,12 @@
 -- Rows of words behind a stamp. Own format.
-use Rattle.std.specs.Prelude.{◌≡◌, ◌≤◌, ℕ, Bool, false, List, [], ◌∷◌, codes, length}
+use Rattle.std.specs.Prelude.{◌≡◌, ◌≤◌, ℕ, Bool, false, IsTrue, List, [], ◌∷◌, codes, decimal, length}
 use Rattle.std.specs.Str.{bytes_eq}
 use Rattle.law_terms.specs.DayText.{IsDayText}
+use Rattle.aid_types.specs.Ranges.{IsBetween}
 use Rattle.aid_stamps.specs.Clerks.{IsClerk}
 use Rattle.aid_stamps.specs.Stamps.{plain_stamp}
 use Rattle.aid_stamps.specs.declared.stamp.Stamp.{Stamp}
-use Rattle.run_words.specs.Words.{AreDesks, AreServe, IsRow}
+use Rattle.run_words.specs.Words.{AreDesks, AreServe, IsRow, begins_with_hyphen}
 use Rattle.run_words.specs.declared.command.Command.{Command}
 
 -- the first word is `at`
@@ -30,3 +31,11 @@ AreStampedDesks words files stamp = (rest : List (List ℕ)) × IsStamped words 
 -- the words are those of a server behind a stamp
 abbrev pub AreStampedServe : List (List ℕ) → ℕ → ℕ → ℕ → Stamp → Type 0
 AreStampedServe words port workers sessions stamp = (rest : List (List ℕ)) × IsStamped words stamp rest × AreServe rest port workers sessions
+
+-- the words are `amend`, this file, which doesn't begin with a hyphen, and this number, 1 to 999,000,000,000
+abbrev pub IsAmendRow : List (List ℕ) → List ℕ → ℕ → Type 0
+IsAmendRow words file number = (words ≡ codes "amend" ∷ file ∷ decimal number ∷ []) × (begins_with_hyphen file ≡ false) × IsBetween 1 999000000000 number
+
+-- the words are this row behind the stamp that `at` says in front of them
+abbrev pub IsAmend : List (List ℕ) → Stamp → List ℕ → ℕ → Type 0
+IsAmend words stamp file number = IsTrue (begins_with_at words) × (rest : List (List ℕ)) × IsStamped words stamp rest × IsAmendRow rest file number

@@ -23,8 +23,8 @@ pub fn behind_at(words: &[String]) -> Option<(Stamp, &[String])>
     }
 }
 
-// Whether the first word is `at`.
-fn begins_with_at(words: &[String]) -> bool
+/// Whether the first word is `at`.
+pub(crate) fn begins_with_at(words: &[String]) -> bool
     ensures { result ≡ begins_so (map string_bytes words.now) }
 {
     match words.split_first() {

@@ -120,4 +120,6 @@ pub enum MainRow {
     },
     /// `upgrade FILE`: the journal of an older version in the file is copied. No stamp stands in front.
     Upgrade,
+    /// `at DAY CLERK amend FILE NUMBER`: the journal in the file is copied with corrections.
+    Amend,
 }

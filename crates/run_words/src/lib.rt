@@ -1,6 +1,7 @@
 //! The rows of words of the program: what stands behind the path of its journal.
 #![tactic(auto)]
 
+mod amend;
 mod at;
 mod behind;
 mod command;
@@ -11,6 +12,7 @@ mod stamped;
 mod upgrade;
 mod words;
 
+pub use amend::amend_request;
 pub use at::behind_at;
 pub use command::{
     BookNumber, Command, FundRequest, GenerateRequest, MainRow, QuoteRequest, ReportRequest,

@@ -1,11 +1,12 @@
 //! Which call of the program a row of words needs.
 ghost use Rattle.std.specs.Prelude.{◌≡◌, ◌≢◌, ◌↔◌, ◌⊎◌, ◌∷◌, [], ℕ, List, codes, false, map, string_bytes};
 ghost use Rattle.aid_stamps.specs.declared.stamp.Stamp.{Stamp as StampData};
-ghost use Rattle.run_words.specs.Stamped.{AreStampedDesks, AreStampedServe, IsStampedRow};
+ghost use Rattle.run_words.specs.Stamped.{AreStampedDesks, AreStampedServe, IsAmend, IsStampedRow};
 ghost use Rattle.run_words.specs.Words.{AreDesks, AreServe, IsRow, IsUpgrade, ReadsServe, words_of};
 ghost use Rattle.run_words.specs.declared.command.Command.{Command as CommandData};
 ghost use Rattle.run_words.specs.declared.command.Command.TheVariants.{CheckBook, CheckRows};
 
+use crate::amend::amend_request;
 use crate::at::behind_at;
 use crate::command::MainRow;
 use crate::hyphen::are_plain;
@@ -21,6 +22,7 @@ fn desks_row(stamp: &Stamp, first: &str, files: &[String]) -> MainRow
     ensures desks { (count : ℕ) (s : StampData) → (result ≡ MainRow.Desks count s) ↔ ((stamp.now ≡ s) × AreDesks (first.now ∷ map string_bytes files.now) count) }
     ensures other { (port workers sessions : ℕ) (s : StampData) → result ≢ MainRow.Serve port workers sessions s }
     ensures no_upgrade { result ≢ MainRow.Upgrade }
+    ensures no_amend { result ≢ MainRow.Amend }
 {
     if first == "desks" && !files.is_empty() && files.len() <= MOST_DESKS && are_plain(files) {
         MainRow::Desks {
@@ -83,6 +85,7 @@ fn row_behind(stamp: &Stamp, words: &[String]) -> MainRow
     ensures serve { (port workers sessions : ℕ) (s : StampData) → (result ≡ MainRow.Serve port workers sessions s)
         ↔ ((stamp.now ≡ s) × AreServe (map string_bytes words.now) port workers sessions) }
     ensures no_upgrade { result ≢ MainRow.Upgrade }
+    ensures no_amend { result ≢ MainRow.Amend }
 {
     if let Some(row) = serve_row(stamp, words) {
         return row;
@@ -99,6 +102,7 @@ fn stamped_row(words: &[String]) -> MainRow
     ensures serve { (port workers sessions : ℕ) (stamp : StampData) → (result ≡ MainRow.Serve port workers sessions stamp)
         ↔ AreStampedServe (map string_bytes words.now) port workers sessions stamp }
     ensures no_upgrade { result ≢ MainRow.Upgrade }
+    ensures no_amend { result ≢ MainRow.Amend }
 {
     match behind_at(words) {
         Some((stamp, rest)) => row_behind(&stamp, rest),
@@ -106,18 +110,25 @@ fn stamped_row(words: &[String]) -> MainRow
     }
 }
 
-/// The call that the words need. `upgrade FILE` has nothing in front, and its file doesn't begin with a hyphen. Behind
-/// `at DAY CLERK` may stand `desks FILE..` with 1 to 16 files, of which none begins with a hyphen, and `serve PORT WORKERS SESSIONS`
-/// with a port from 1, 1 to 16 workers and 1 to 1,000,000 sessions. All else is a run. It takes no memory.
+/// The call that the words need. `upgrade FILE` has nothing in front, and `amend FILE NUMBER` has
+/// `at DAY CLERK` in front, with a number of 1 to 999,000,000,000; the file of either doesn't begin with a
+/// hyphen. Behind `at DAY CLERK` may stand `desks FILE..` with 1 to 16 files, of which none begins with a
+/// hyphen, and `serve PORT WORKERS SESSIONS` with a port from 1, 1 to 16 workers and 1 to 1,000,000 sessions.
+/// All else is a run. It takes no memory.
 pub fn row_of(words: &[String]) -> MainRow
     ensures desks { (files : ℕ) (stamp : StampData) → (result ≡ MainRow.Desks files stamp) ↔ AreStampedDesks (map string_bytes words.now) files stamp }
     ensures serve { (port workers sessions : ℕ) (stamp : StampData) → (result ≡ MainRow.Serve port workers sessions stamp)
         ↔ AreStampedServe (map string_bytes words.now) port workers sessions stamp }
     ensures upgrade { (result ≡ MainRow.Upgrade) ↔ ((file : List ℕ) × IsUpgrade (map string_bytes words.now) file) }
+    ensures amend { (result ≡ MainRow.Amend) ↔ ((stamp : StampData) × (file : List ℕ) × (number : ℕ)
+        × IsAmend (map string_bytes words.now) stamp file number) }
 {
     match upgrade_file(words) {
         Some(_) => MainRow::Upgrade,
-        None => stamped_row(words),
+        None => match amend_request(words) {
+            Some(_) => MainRow::Amend,
+            None => stamped_row(words),
+        },
     }
 }
 

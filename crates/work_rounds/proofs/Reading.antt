@@ -8,23 +8,14 @@ use Rattle.aid_types.specs.Ranges.{IsBetween, IsIndex, IsWithin}
 use Rattle.aid_types.specs.Whole.{whole_between, whole_of}
 use Rattle.aid_types.specs.declared.text.Malformed.{Malformed}
 use Rattle.csv.specs.Records.{field_at}
-use Rattle.format_rows.specs.Numbers.{cause_of, refused}
+use Rattle.format_rows.specs.Numbers.{refused, whole_spelled}
+use Rattle.format_rows.proofs.WholeFields.{kept}
 use Rattle.format_rows.specs.declared.error.Cause.TheVariants.{WrongCount}
 use Rattle.format_rows.specs.declared.error.RowError.{RowError}
 use Rattle.format_table.specs.Walk.{and_then}
-use Rattle.work_rounds.specs.Rows.{number_spelled, round_row}
+use Rattle.work_rounds.specs.Rows.{round_row}
 use Rattle.work_rounds.specs.Words.{round_in}
 use Rattle.work_rounds.specs.declared.rows.RoundSaid.{RoundSaid}
-
--- a number of 64 bits is kept by a cast, and so is one between two
-pub kept : (z : ℤ) → SFits w64 z → to_z w64 (of_z w64 z) ≡ z
-kept z fits = to_z-of_z w64 z fits
-
-pub between : (low high y : ℤ) → SFits w64 low → SFits w64 high → to_z w64 (of_z w64 low) ≤ℤ y → y ≤ℤ to_z w64 (of_z w64 high) → (low ≤ℤ y) × (y ≤ℤ high)
-between low high y least most above below = (subst (λ (z : ℤ). z ≤ℤ y) (kept low least) above, subst (λ (z : ℤ). y ≤ℤ z) (kept high most) below)
-
-pub kept_between : (low high y : ℤ) → SFits w64 low → SFits w64 high → low ≤ℤ y → y ≤ℤ high → to_z w64 (of_z w64 y) ≡ y
-kept_between low high y least most above below = let fits : SFits w64 y = omega (arith, ints) in kept y fits
 
 -- a number that isn't negative stays between its bounds
 pub natural_between : (low high : ℕ) (from to y : ℤ) → from ≡ pos low → to ≡ pos high → high < 2 ^ 63 → from ≤ℤ y → y ≤ℤ to → IsBetween low high (nat_abs (to_z w64 (of_z w64 y)))
@@ -33,19 +24,11 @@ natural_between low high from to (pos m) is are h above below =
     let same : to_z w64 (of_z w64 (pos m)) ≡ pos m = to_z_pos w64 m (omega (arith, ints, are)) in
     subst (λ (z : ℤ). IsBetween low high (nat_abs z)) (sym same) (omega (arith, ints, is), omega (arith, ints, are))
 
--- what was read of the text that stands there
-pub number_read : (row field : ℕ) (low high from to : ℤ) (o : Option (List ℕ)) (text : List ℕ) (read : Result ℤ Malformed) → from ≡ low → to ≡ high → Some text ≡ o → read ≡ whole_between from to (whole_of text)
-    → result_map_both (λ z. z) (λ e. refused row field (cause_of e)) read ≡ number_spelled row field low high o
-number_read row field low high from to o text read first last at is =
-    ap (λ (x : Result ℤ Malformed). result_map_both (λ z. z) (λ e. refused row field (cause_of e)) x) is
-    ∙ ap (λ (p : Option (List ℕ)). number_spelled row field from to p) at
-    ∙ (λ i. number_spelled row field (first i) (last i) o)
-
 -- the four numbers of a row, by the places of their texts
 abbrev pub row_by_places : ℕ → List (List ℕ) → Result RoundSaid RowError
 row_by_places row texts =
-    and_then (number_spelled row 1 (pos 1) (pos 999999999999) (field_at texts 0)) (λ number. and_then (number_spelled row 2 (neg_ℤ (pos 1500)) (pos 999999) (field_at texts 1)) (λ index.
-    and_then (number_spelled row 3 (pos 0) (pos 999999) (field_at texts 2)) (λ dollars. and_then (number_spelled row 4 (pos 1) (pos 100) (field_at texts 3)) (λ percent.
+    and_then (whole_spelled row 1 (pos 1) (pos 999999999999) (field_at texts 0)) (λ number. and_then (whole_spelled row 2 (neg_ℤ (pos 1500)) (pos 999999) (field_at texts 1)) (λ index.
+    and_then (whole_spelled row 3 (pos 0) (pos 999999) (field_at texts 2)) (λ dollars. and_then (whole_spelled row 4 (pos 1) (pos 100) (field_at texts 3)) (λ percent.
     Ok (record { student = unsigned_abs number; sai = index; need = unsigned_abs dollars; intensity = unsigned_abs percent })))))
 
 pub row_of_four : (row : ℕ) (texts : List (List ℕ)) → length texts ≡ 4 → round_row row texts ≡ row_by_places row texts

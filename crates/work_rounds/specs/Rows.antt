@@ -2,26 +2,21 @@
 use Rattle.std.specs.Prelude.{ℕ, ◌+◌, ◌++◌, ◌==◌, ℤ, pos, neg_ℤ, unsigned_abs, Bool, false, if◌then◌else◌, List, [], ◌∷◌, length, codes, decimal, Option, Some, None, Result, Ok, Err}
 use Rattle.std.specs.List.{list_any}
 use Rattle.std.specs.Result.{result_map_both}
-use Rattle.aid_types.specs.Whole.{whole_between, whole_of}
 use Rattle.format_rows.specs.Lines.{error_line}
 use Rattle.format_rows.specs.Meanings.{meanings}
-use Rattle.format_rows.specs.Numbers.{cause_of, refused}
+use Rattle.format_rows.specs.Numbers.{refused, whole_field}
 use Rattle.format_rows.specs.declared.error.Cause.TheVariants.{WrongCount}
 use Rattle.format_rows.specs.declared.error.RowError.{RowError}
 use Rattle.format_table.specs.Walk.{and_then}
 use Rattle.law_funds.specs.declared.candidate.Candidate.{Candidate}
 use Rattle.work_rounds.specs.declared.rows.RoundSaid.{RoundSaid}
 
--- the number of a field within bounds, or why the row is none
-abbrev pub field_of : ℕ → ℕ → ℤ → ℤ → List ℕ → Result ℤ RowError
-field_of row field low high text = result_map_both (λ z. z) (λ e. refused row field (cause_of e)) (whole_between low high (whole_of text))
-
 -- what a row says, its number counting from 1: a student, an index, a need and an intensity. A wrong number of fields is told first,
 -- and then the first bad field.
 abbrev pub round_row : ℕ → List (List ℕ) → Result RoundSaid RowError
 round_row row (student ∷ sai ∷ need ∷ intensity ∷ []) =
-    and_then (field_of row 1 (pos 1) (pos 999999999999) student) (λ number. and_then (field_of row 2 (neg_ℤ (pos 1500)) (pos 999999) sai) (λ index.
-    and_then (field_of row 3 (pos 0) (pos 999999) need) (λ dollars. and_then (field_of row 4 (pos 1) (pos 100) intensity) (λ percent.
+    and_then (whole_field row 1 (pos 1) (pos 999999999999) student) (λ number. and_then (whole_field row 2 (neg_ℤ (pos 1500)) (pos 999999) sai) (λ index.
+    and_then (whole_field row 3 (pos 0) (pos 999999) need) (λ dollars. and_then (whole_field row 4 (pos 1) (pos 100) intensity) (λ percent.
     Ok (record { student = unsigned_abs number; sai = index; need = unsigned_abs dollars; intensity = unsigned_abs percent })))))
 round_row row _ = Err (refused row 0 WrongCount)
 
@@ -51,8 +46,3 @@ round_lines before (row ∷ rows) = round_line before row ++ round_lines (before
 -- what a candidate says as a row
 abbrev pub said_of_candidate : Candidate → RoundSaid
 said_of_candidate c = record { student = c.student; sai = c.sai; need = c.need; intensity = c.intensity }
-
--- ---- what the code reads first
-abbrev pub number_spelled : ℕ → ℕ → ℤ → ℤ → Option (List ℕ) → Result ℤ RowError
-number_spelled row field low high None = Err (refused row 0 WrongCount)
-number_spelled row field low high (Some text) = field_of row field low high text

@@ -6,30 +6,10 @@ ghost use Rattle.log_session.specs.Sessions.{IsUnread, is_disk_fault};
 ghost use Rattle.work_rounds.specs.Headed.{Headed, HeadedSession};
 
 use crate::{PlannedRound, RoundPlan};
-use io_traits::{Disk, ReadError, Sink, Source, read_to_limit, write_whole};
+use io_traits::{Disk, Sink, Source, write_whole};
 use log_machine::StateMachine;
-use log_session::{FileStop, INPUT_LIMIT, ReadStop, SessionStop, file_planned, open};
+use log_session::{FileStop, INPUT_LIMIT, ReadStop, SessionStop, file_planned, open, read_input};
 use std::alloc::Global;
-
-// Reads the whole input.
-fn read_text<S: Source>(alloc: Global, input: &mut S) -> Result<Vec<u8>, ReadStop>
-    ensures text { IfOk result (λ text. IsTrue (S.honest input.old) → text.items ≡ S.left input.old) }
-    ensures short { IfOk result (λ text. length text.items ≤ 16777216) }
-    ensures whole { OnOk result (IsReadWhole INPUT_LIMIT (record { honest = S.honest input.old; before = S.left input.old; after = S.left input.new })) }
-    ensures unread { IfErr result (λ stop. IsUnread stop INPUT_LIMIT (record { honest = S.honest input.old; before = S.left input.old; after = S.left input.new })) }
-    ensures cause { result ≡ Err ReadStop.Read → Rose (S.faults input.old) (S.faults input.new) }
-    ensures unmoved { OnOk result (S.faults input.new ≡ S.faults input.old) }
-    ensures unmoved_err { IfErr result (λ stop. stop ≢ ReadStop.Read → S.faults input.new ≡ S.faults input.old) }
-    ensures later { S.faults input.old ≤ S.faults input.new }
-    ensures honest { S.honest input.new ≡ S.honest input.old }
-{
-    match read_to_limit(alloc, input, INPUT_LIMIT) {
-        Ok(text) => Ok(text),
-        Err(ReadError::Failed) => Err(ReadStop::Read),
-        Err(ReadError::TooLong) => Err(ReadStop::TooLong),
-        Err(ReadError::NoMemory) => Err(ReadStop::NoMemory),
-    }
-}
 
 // Opens the list of the disk's file, plans a round on it from a text, and files the round.
 fn answer_headed<D: Disk, K: Sink, R: StateMachine, P: RoundPlan<R>>(
@@ -109,7 +89,7 @@ pub fn file_headed_round<D: Disk, S: Source, K: Sink, R: StateMachine, P: RoundP
     ensures sink_honest { K.honest out.new ≡ K.honest out.old }
     ensures disk_honest { (D.tells result.1).honest ≡ (D.tells disk).honest }
 {
-    match read_text::<S>(alloc, input) {
+    match read_input::<S>(alloc, input) {
         Ok(text) => answer_headed::<D, K, R, P>(alloc, disk, plan, text, out),
         Err(stop) => (Err(SessionStop::Reading(stop)), disk),
     }

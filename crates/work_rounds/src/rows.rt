@@ -3,13 +3,12 @@ ghost use Rattle.std.specs.Prelude.{◌≡◌, ◌≤◌, ◌++◌, ◌-◌, IfO
 ghost use Rattle.aid_types.specs.Ranges.{IsWithin};
 ghost use Rattle.csv.specs.Records.{field_at, fields_of as texts_of};
 ghost use Rattle.format_rows.specs.Meanings.{said_of};
-ghost use Rattle.format_rows.specs.Numbers.{cause_of as cause_of_text};
-ghost use Rattle.work_rounds.specs.Rows.{number_spelled, repeated_line, round_row, said_of_candidate};
+ghost use Rattle.work_rounds.specs.Rows.{repeated_line, round_row, said_of_candidate};
 
-use aid_types::{Malformed, Student, read_whole};
+use aid_types::Student;
 use arrayvec::ArrayString;
 use csv::ByteRecord;
-use format_rows::{Cause, RowError, RowReader, push_count};
+use format_rows::{Cause, RowError, RowReader, push_count, whole_at};
 use law_funds::Candidate;
 use std::alloc::{AllocError, Global};
 
@@ -34,8 +33,12 @@ impl RowReader for RoundForm {
 
     ghost said = { said_of_candidate };
 
-    fn read(_alloc: Global, row: u32, texts: &ByteRecord) -> Result<Candidate, RowError> {
-        candidate_of_row(row, texts)
+    fn read(
+        _alloc: Global,
+        row: u32,
+        texts: &ByteRecord,
+    ) -> Result<Result<Candidate, RowError>, AllocError> {
+        Ok(candidate_of_row(row, texts))
     }
 }
 
@@ -50,49 +53,16 @@ fn candidate_of_row(row: u32, texts: &ByteRecord) -> Result<Candidate, RowError>
             cause: Cause::WrongCount,
         });
     }
-    let student = number_at(row, texts, 1, 1, 999_999_999_999)?;
-    let sai = number_at(row, texts, 2, -1_500, 999_999)?;
-    let need = number_at(row, texts, 3, 0, 999_999)?;
-    let intensity = number_at(row, texts, 4, 1, 100)?;
+    let student = whole_at(row, texts, 1, 1, 999_999_999_999)?;
+    let sai = whole_at(row, texts, 2, -1_500, 999_999)?;
+    let need = whole_at(row, texts, 3, 0, 999_999)?;
+    let intensity = whole_at(row, texts, 4, 1, 100)?;
     Ok(Candidate {
         student: Student(student as u64),
         sai: sai as i32,
         need: need as u32,
         intensity: intensity as u8,
     })
-}
-
-// The number of a field, which counts from 1, within bounds.
-fn number_at(row: u32, texts: &ByteRecord, field: u16, low: i64, high: i64) -> Result<i64, RowError>
-    requires { 1 ≤ field }
-    ensures value { result ≡ number_spelled row field low high (field_at (texts_of texts.now) (field - 1)) }
-    ensures in_range { IfOk result (λ z. IsWithin low high z) }
-{
-    let Some(text) = texts.get(usize::from(field) - 1) else {
-        return Err(RowError {
-            row,
-            field: 0,
-            cause: Cause::WrongCount,
-        });
-    };
-    match read_whole(text, low, high) {
-        Ok(number) => Ok(number),
-        Err(malformed) => Err(RowError {
-            row,
-            field,
-            cause: cause_of(malformed),
-        }),
-    }
-}
-
-// The cause that a text is no number of its field.
-fn cause_of(malformed: Malformed) -> Cause
-    ensures { result ≡ cause_of_text malformed }
-{
-    match malformed {
-        Malformed::Spelling => Cause::Spelling,
-        Malformed::Range => Cause::Range,
-    }
 }
 
 /// Appends the line of a row whose student was read before.

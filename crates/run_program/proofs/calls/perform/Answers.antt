@@ -1,4 +1,4 @@
-use Rattle.run_program.specs.Performed.{audit, loan_desks, loans, office, office_desks, serve, sheet, upgrade, work}
+use Rattle.run_program.specs.Performed.{amend, audit, loan_desks, loans, office, office_desks, serve, sheet, upgrade, work}
 use Rattle.run_program.proofs.calls.perform.Goals as goal
 
 pub returns-in-Office : goal.returns-in-Office
@@ -18,6 +18,12 @@ pub returns-in-Upgrade : goal.returns-in-Upgrade
 returns-in-Upgrade g c =
     rw c.in-Upgrade.is
     (upgrade c.in-Upgrade.source c.upgrade-status.result.1 c.in-Upgrade.target c.upgrade-status.result.2 c.upgrade-status.result.0 c.upgrade-status.ensures.upgrades)
+
+pub returns-in-Amend : goal.returns-in-Amend
+returns-in-Amend g c =
+    rw c.in-Amend.is
+    (rw c.of_amendment.ensures
+    (amend c.in-Amend.source c.amend-status.result.1 c.in-Amend.target c.amend-status.result.2 c.in-Amend.request c.amend-status.result.0 c.amend-status.ensures.amending))
 
 pub returns-in-Loans : goal.returns-in-Loans
 returns-in-Loans g c = rw c.in-Loans.is (loans c.in-Loans.disk c.run_ruled-status.result.1 c.run_ruled-status.result.0 c.run_ruled-status.ensures.ran)

@@ -1,0 +1,5 @@
+pub mod Fields
+pub mod Gathering
+pub mod Planned
+pub mod Steps
+pub mod Whole

@@ -1,0 +1,13 @@
+use Rattle.std.proofs.Common.{ℕ, ◌≤◌, ◌+◌, List, ◌++◌, take}
+use Rattle.aid_filings.specs.declared.filing.Filing.{Filing}
+use Rattle.log_stamps.specs.declared.entry.StampedEntry.{StampedEntry}
+use Rattle.office_amends.specs.Amended.{records}
+use Rattle.office_amends.specs.Stood.{Makes}
+use Rattle.office_amends.specs.Texts.{no_line, told_put}
+use Rattle.office_amends.proofs.list.put_records.Given as goal
+
+abbrev pub invariant-loop-correction : goal.invariant-loop-correction
+invariant-loop-correction l =
+    (l.made.position ≤ l.fn.made.position + l.correction-index)
+    × ((list : List (StampedEntry Filing)) (text : List ℕ) → Makes list text l.fn.made
+    → Makes (records l.run (take l.correction-index l.corrections) ++ list) (text ++ told_put no_line list (records l.run (take l.correction-index l.corrections))) l.made)

@@ -1,0 +1,7 @@
+pub mod Amended
+pub mod Gathered
+pub mod Lines
+pub mod Plans
+pub mod Rows
+pub mod Stood
+pub mod Texts

@@ -1,0 +1,4 @@
+pub mod Amendments
+pub mod Ends
+pub mod Targets
+pub mod Upgrades

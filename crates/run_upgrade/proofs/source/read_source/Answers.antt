@@ -1,4 +1,0 @@
-use Rattle.run_upgrade.proofs.source.read_source.Goals as goal
-
-pub returns-in-Err-Damaged-default-clause-refuses : goal.returns-in-Err-Damaged-default-clause-refuses
-returns-in-Err-Damaged-default-clause-refuses g c honest = c.in-Err-Damaged-default.ensures.damaged honest c.in-Err-Damaged-default.place c.in-Err-Damaged-default.field-0-0-is
