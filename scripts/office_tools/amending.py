@@ -1,11 +1,16 @@
-"""Copies an office into a new one with corrections of what was filed wrong, and makes the row that corrects a year book."""
+"""Copies an office into a new one with corrections of what was filed wrong, tells what differs between the two, and makes the row that corrects
+a year book."""
 import os
 
 from . import copies, running
 from .office import Office
+from .program import SHEET
 from .say import AMENDED, refuse, say_known
 
 WANTS_STAMP = "amend wants the day and the clerk who corrects: office JOURNAL at DAY CLERK amend NEW NUMBER < CORRECTIONS.csv"
+
+# The line in front of a fault of the older journal.
+IN_OLD = b"in the old journal\n"
 
 
 def look_at_stamp(office):
@@ -58,6 +63,18 @@ def try_amend(office, new, number):
     look_at_stamp(office)
     office.refuse_hurt(office.journal)
     return told(office, made(office, number, copies.needs_scratch("amended")), new)
+
+
+def changes(office, old):
+    """Tells what differs between an older journal and the office. 1 where something does."""
+    if not os.path.isfile(old):
+        refuse(f"there is no file {old}: name an older journal, or a copy that backup made", 2)
+    office.desk, office.stamp = SHEET, []
+    status, text = copies.needs_copy(office, office.words)
+    if office.write(text):
+        return 4
+    office.say_status(status, old if text.startswith(IN_OLD) else office.journal)
+    return status or (0 if text.rstrip().endswith(b" differ 0") else 1)
 
 
 def book_row(words):

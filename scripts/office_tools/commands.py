@@ -151,6 +151,7 @@ ON_JOURNAL = [
     own("next", tables.next_number, (SCHOOL,), "the number of the school's next row", "next 110"),
     own("backup", copies.backup, (A_COPY,), "copies the office, and opens the copy", "backup copy.journal"),
     own("since", copies.since, (A_COPY,), "whether all that COPY holds still stands", "since copy.journal"),
+    own("changes", amending.changes, (path("OLD"),), "what differs between OLD and this office; 1 where something does", "changes old.journal"),
     own("salvage", copies.salvage, (A_NEW,), "makes an office of what stands before damage", "salvage saved.journal"),
 ]
 

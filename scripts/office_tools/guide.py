@@ -14,7 +14,8 @@ ON_A_COPY = [
     (("report standing", "report awards", "report returns", "report export", "report lifetime", "report stamps"), ""),
     (("csv standing", "csv awards", "csv returns", "csv lifetime", "csv stamps"), "as CSV"),
     (("list", "student", "need", "quotes", "payments"), ""), (("withdrawal", "letter", "due"), ""),
-    (("returns", "upto"), "sheets; each as it was then"), (("next", "ids"), "a school's next number; the file of ids and names"), "backup", "since", "salvage",
+    (("returns", "upto"), "sheets; each as it was then"), (("next", "ids"), "a school's next number; the file of ids and names"), "backup",
+    (("since", "changes"), "whether all of COPY still stands; what differs"), "salvage",
 ]
 ALONE = [
     "help", "check", "explain", "lint", "rows", (("show", "book-row"), ""), (("plot",), ""), "reconcile", (("pay-rows", "carry"), ""),

@@ -41,7 +41,7 @@ class Office:
         """The status of the program on these words, with the stamp in front, and on a copy where its path is said."""
         line = self.line(words, path)
         journal, command = len(line) - len(words) - len(self.stamp) - 1, len(line) - len(words)
-        files = range(command + 1, len(line)) if words[:1] in (["desks"], ["upgrade"]) else (command + 1,) if words[:1] == ["amend"] else ()
+        files = range(command + 1, len(line)) if words[:1] in (["desks"], ["upgrade"]) else (command + 1,) if words[:1] in (["amend"], ["changes"]) else ()
         return running.run(line, (journal, *files), given, out, take=take, keeps_on=keeps_on)
 
     def say_status(self, status, path=None):

@@ -1,22 +1,19 @@
 -- What corrections make of a list. A list is read newest first; the corrections come in the order of their rows.
-use Rattle.std.specs.Prelude.{◌==◌, ◌&&◌, Bool, false, if◌then◌else◌, List, [], ◌∷◌, ◌++◌, Option, Some, None}
+use Rattle.std.specs.Prelude.{Bool, false, if◌then◌else◌, List, [], ◌∷◌, ◌++◌, Option, Some, None}
 use Rattle.aid_types.specs.declared.number.Key.{Key}
 use Rattle.aid_filings.specs.declared.filing.Filing.{Filing}
 use Rattle.aid_stamps.specs.declared.stamp.Stamp.{Stamp}
 use Rattle.log_stamps.specs.Entries.{with_stamp}
 use Rattle.log_stamps.specs.declared.entry.StampedEntry.{StampedEntry}
+use Rattle.office_history.specs.Past.{same_key}
 use Rattle.office_amends.specs.declared.correction.Change.{Change}
 use Rattle.office_amends.specs.declared.correction.Change.TheVariants.{Replace, Void, Insert}
 use Rattle.office_amends.specs.declared.correction.Correction.{Correction}
 
--- two keys are one
-abbrev pub is_key : Key → Key → Bool
-is_key k l = k.school == l.school && k.number == l.number
-
 -- a correction names the filing with a key, in whose place it puts another, or the record that it was taken out
 abbrev pub names : Change → Key → Bool
-names (Replace f) key = is_key f.key key
-names (Void of) key = is_key of key
+names (Replace f) key = same_key f.key key
+names (Void of) key = same_key of key
 names (Insert f at) key = false
 
 abbrev pub put_of : Filing → Change → Filing
@@ -39,7 +36,7 @@ instead stamp cs e = in_place stamp e (named_at cs e.entry.key)
 
 -- what is put in front of the filing with a key, under the run's stamp
 abbrev pub inserted : Stamp → Change → Key → List (StampedEntry Filing)
-inserted stamp (Insert f at) key = if is_key at key then with_stamp stamp f ∷ [] else []
+inserted stamp (Insert f at) key = if same_key at key then with_stamp stamp f ∷ [] else []
 inserted stamp _ key = []
 
 -- what corrections bring one by one: that of the last row comes last, and is the newest

@@ -1,4 +1,5 @@
 pub mod Amended
+pub mod Changes
 pub mod Gathered
 pub mod Lines
 pub mod Plans

@@ -23,12 +23,13 @@ told_put front list [] = []
 told_put front list (e ∷ more) =
     told_put front list more ++ front (length (more ++ list) + 1) e.entry ++ told_behind (more ++ list) e.entry None
 
--- of a filing of the old list that nothing names, or of what is put in its place: the record that it was taken out has no outcome to compare
+-- of what is put in the place of a filing of the old list: the record that it was taken out has no outcome to compare
 abbrev pub told_change : List (StampedEntry Filing) → Filing → Outcome → Filing → Change → List ℕ
 told_change list old was mark (Replace f) = replaced_line (length list + 1) old f ++ told_behind list f (Some was)
 told_change list old was mark (Void of) = voided_line (length list + 1) old ++ told_behind list mark None
 told_change list old was mark (Insert f at) = told_behind list f None
 
+-- of what stands in its place: the filing itself, where no correction names it
 abbrev pub told_place : List (StampedEntry Filing) → Filing → Outcome → Option Correction → List ℕ
 told_place list old was None = told_behind list old (Some was)
 told_place list old was (Some c) = told_change list old was c.record c.change

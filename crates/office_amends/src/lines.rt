@@ -10,8 +10,8 @@ use format_filings::{outcome_line, put_row};
 use office_sheets::{put_bytes, put_number};
 use std::alloc::AllocError;
 
-// Appends the row of a filing, and a byte behind it.
-fn put_whole_row(filing: &Filing, end: u8, out: &mut Vec<u8>) -> Result<(), AllocError>
+/// Appends the row of a filing, and a byte behind it.
+pub(crate) fn put_whole_row(filing: &Filing, end: u8, out: &mut Vec<u8>) -> Result<(), AllocError>
     ensures { OnOk result (out.new.items ≡ out.old.items ++ row_text filing.now ++ end ∷ []) }
 {
     put_row(filing, out)?;

@@ -4,9 +4,10 @@ ghost use Rattle.std.specs.Option.{option_copied};
 ghost use Rattle.aid_filings.specs.declared.filing.Filing.{Filing as AnyFiling};
 ghost use Rattle.log_stamps.specs.Entries.{entries, stamped, with_stamp};
 ghost use Rattle.log_stamps.specs.declared.entry.StampedEntry.{StampedEntry as Entry};
-ghost use Rattle.office_amends.specs.Amended.{amended, before, corrected, in_place, inserted, is_key, named_at as named_at_of, names as names_of, put_of, recorded, records};
+ghost use Rattle.office_amends.specs.Amended.{amended, before, corrected, in_place, inserted, named_at as named_at_of, names as names_of, put_of, recorded, records};
 ghost use Rattle.office_amends.specs.Lines.{inserted_line};
 ghost use Rattle.office_amends.specs.Stood.{Makes};
+ghost use Rattle.office_history.specs.Past.{same_key};
 ghost use Rattle.office_amends.specs.Texts.{no_line, told, told_change, told_corrected, told_place, told_put};
 
 use crate::amending::Amended;
@@ -242,7 +243,7 @@ fn names(change: &Change, key: &Key) -> bool
 
 // Whether two keys are one.
 fn is_same_key(one: &Key, other: &Key) -> bool
-    ensures { result ≡ is_key one.now other.now }
+    ensures { result ≡ same_key one.now other.now }
 {
-    one.school == other.school && one.number == other.number
+    one == other
 }

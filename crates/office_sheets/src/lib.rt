@@ -22,6 +22,6 @@ pub use headed::headed_text;
 pub use laws::{rows_of_student, totals_of_payments};
 pub use ledger::student;
 pub use lists::list;
-pub use pieces::{none_text, put_bytes, put_day_column, put_dollars, put_number};
+pub use pieces::{clerk_or_hyphen, none_text, put_bytes, put_day_column, put_dollars, put_number};
 pub use term_payments::payments;
 pub use term_quotes::quotes;

@@ -65,7 +65,7 @@ pub(crate) fn put_outcome(outcome: &Outcome, out: &mut Vec<u8>) -> Result<(), Al
 }
 
 /// A clerk's name, or a hyphen in its place where there is none.
-pub(crate) fn clerk_or_hyphen(name: &[u8]) -> &[u8]
+pub fn clerk_or_hyphen(name: &[u8]) -> &[u8]
     ensures { result.now ≡ clerk_text name.now }
 {
     match name {

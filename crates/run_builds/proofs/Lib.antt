@@ -1,3 +1,4 @@
 pub mod Built
+pub mod Compared
 pub mod Ended
 pub mod Made

@@ -4,7 +4,7 @@ use Rattle.std.specs.Prelude.{◌==◌, IsTrue}
 use Rattle.aid_filings.specs.declared.filing.Filing.{Filing}
 use Rattle.aid_stamps.specs.declared.stamp.Stamp.{Stamp}
 use Rattle.io_traits.specs.Faults.{Rose}
-use Rattle.io_traits.specs.DiskState.{EachMoment, IsHonest, IsRead}
+use Rattle.io_traits.specs.DiskState.{DiskState, EachMoment, IsHonest, IsRead}
 use Rattle.io_traits.specs.declared.disk.Disk.{Ghosts}
 use Rattle.io_traits.specs.declared.sink.Sink.{Ghosts as SinkGhosts}
 use Rattle.io_traits.proofs.Moments.{weaken}
@@ -34,7 +34,7 @@ use Rattle.office_log.specs.Recovers.{Recovers}
 use Rattle.office_log.specs.Scheme.{office_header, office_scheme}
 use Rattle.run_builds.proofs.Ended.{build_not_four, builds_moments, builds_untouched, same_moments, same_untouched, some_build, some_source, source_not_four, target_done, text_moved}
 use Rattle.run_builds.specs.Amendments.{AmendCounts, Amends, HasAmendCause, IsAmended, IsNotAmended, MakesOf, NoneOrAmended, RefusesList, ended_amendment, legal, list, not_legal, read, rows, source_refused, starved, unread, wrong_rows}
-use Rattle.run_builds.specs.Ends.{amend_status, amend_text, build_status, is_input_stop, is_source_stop, is_target_stop, source_status}
+use Rattle.run_builds.specs.Ends.{amend_status, amend_text, build_status, is_disk_fault, is_input_stop, is_target_stop, source_status}
 use Rattle.run_builds.specs.Targets.{Builds, NoneOrAll, built, not_built, starved as no_room}
 use Rattle.run_builds.specs.declared.ending.AmendEnd.{AmendEnd}
 use Rattle.run_builds.specs.declared.ending.AmendEnd.TheVariants.{Input as Unread, Source, NoMemory, NotMade, Target, Made}
@@ -45,7 +45,7 @@ use Rattle.run_builds.specs.declared.ending.SourceFault.TheVariants as refusal
 use Rattle.log_journal.specs.declared.founding.FoundError.TheVariants as target
 
 -- a file has one list
-one_stamped : (file : List ℕ) (one other : List (StampedEntry Filing)) → Recovers file one → Recovers file other → one ≡ other
+pub one_stamped : (file : List ℕ) (one other : List (StampedEntry Filing)) → Recovers file one → Recovers file other → one ≡ other
 one_stamped = recovers_once office_scheme office_alone
 
 -- ---- which status an end has
@@ -82,6 +82,17 @@ build_not_one (fault.Target target.Exists) is = cc
 build_not_one (fault.Target target.NotJournal) is = cc
 build_not_one (fault.Target target.DiskFault) is = cc
 build_not_one fault.NoMemory is = cc
+
+-- an undamaged journal gives its list where no count rose, if there is memory
+pub list_done : (disk : DiskState) → IsOffice disk → (fault : SourceFault) → RefusesList disk.reads fault → (count : ℕ × ℕ) → (Rose count.0 count.1 → ⊥) → Moved (is_disk_fault fault) count
+    → source_status fault ≡ 9
+list_done disk office refusal.NoOffice is count still moved = absurd (not_unborn office_header disk.reads office.1 is)
+list_done disk office refusal.NotJournal is count still moved = absurd (is.not_born office.1)
+list_done disk office refusal.NewVersion is count still moved = absurd is
+list_done disk office refusal.OldVersion is count still moved = absurd (is.not_born office.1)
+list_done disk office (refusal.Damaged place) is count still moved = absurd (office.2 place is.1)
+list_done disk office refusal.DiskFault is count still moved = absurd (still (moved.rose refl))
+list_done disk office refusal.NoMemory is count still moved = refl
 
 -- the end of a list that is legal is never that nothing is made
 not_one : (ended : Result Unit BuildFault) → amend_status (ended_amendment ended) ≡ 1 → ⊥
@@ -209,20 +220,11 @@ module _ {A B : Type 0} (from : Ghosts A) (to : Ghosts B) (stamp : Stamp) (numbe
       input_done reading.TooLong why moved = absurd (omega (arith, why short.0, short.1))
       input_done reading.NoMemory why moved = inr (inr refl)
 
-      source_done : (fault : SourceFault) → RefusesList (from.tells source).reads fault → Moved (is_source_stop (Source fault)) counts.source → IsDone (source_status fault)
-      source_done refusal.NoOffice is moved = absurd (not_unborn office_header (from.tells source).reads office.1 is)
-      source_done refusal.NotJournal is moved = absurd (is.not_born office.1)
-      source_done refusal.NewVersion is moved = absurd is
-      source_done refusal.OldVersion is moved = absurd (is.not_born office.1)
-      source_done (refusal.Damaged place) is moved = absurd (office.2 place is.1)
-      source_done refusal.DiskFault is moved = absurd (no_source (moved.rose refl))
-      source_done refusal.NoMemory is moved = inr (inr refl)
-
       pub complete : (end : AmendEnd) (text : List ℕ) (status : ℕ) → Amends from to stamp number input source old new end text → HasAmendCause counts end status
           → EndsWith sink (amend_text end text) (amend_status end) out out' status → (Rose (sink.faults out) (sink.faults out') → ⊥) → IsDone status
       complete end text status amends cause (untold cut) no_sink = absurd (no_sink cut.rose)
       complete end text status (unread stop why same) cause (told put) no_sink = input_done stop why cause.input
-      complete end text status (source_refused fault why same) cause (told put) no_sink = source_done fault (why office.0) cause.source
+      complete end text status (source_refused fault why same) cause (told put) no_sink = inr (inr (list_done (from.tells source) office fault (why office.0) counts.source no_source cause.source))
       complete end text status (starved same) cause (told put) no_sink = inr (inr refl)
       complete end text status (read was bytes _ _ has whole are makes) cause (told put) no_sink =
           made_done to was stamp number bytes old new honest unborn counts.target no_target end text cause.target makes

@@ -1,4 +1,4 @@
--- How a run ends that builds one journal of another: its status and its last line. Own.
+-- How a run over two journals ends: its status and its last line. Own.
 use Rattle.std.specs.Prelude.{ℕ, Bool, true, false, List, ◌++◌, codes, decimal, Result, Err}
 use Rattle.log_journal.specs.declared.founding.FoundError.TheVariants as target
 use Rattle.log_runs.specs.Statuses.{read_line, read_status}
@@ -11,6 +11,8 @@ use Rattle.run_builds.specs.declared.ending.UpgradeEnd.{UpgradeEnd}
 use Rattle.run_builds.specs.declared.ending.UpgradeEnd.TheVariants as upgrade
 use Rattle.run_builds.specs.declared.ending.AmendEnd.{AmendEnd}
 use Rattle.run_builds.specs.declared.ending.AmendEnd.TheVariants as amend
+use Rattle.run_builds.specs.declared.ending.ChangesEnd.{ChangesEnd}
+use Rattle.run_builds.specs.declared.ending.ChangesEnd.TheVariants as changes
 
 -- ---- where the source gives no list
 abbrev pub source_status : SourceFault → ℕ
@@ -112,3 +114,36 @@ is_source_stop _ = false
 abbrev pub is_target_stop : AmendEnd → Bool
 is_target_stop (amend.Target fault) = is_build_fault (Err fault)
 is_target_stop _ = false
+
+-- ---- a comparison
+-- the line of a journal that gives no list
+abbrev pub list_line : SourceFault → List ℕ
+list_line source.DiskFault = codes "fault disk none\n"
+list_line fault = source_line fault
+
+abbrev pub changes_status : ChangesEnd → ℕ
+changes_status (changes.Old fault) = source_status fault
+changes_status (changes.New fault) = source_status fault
+changes_status changes.NoMemory = 9
+changes_status changes.Told = 0
+
+-- the lines of a fault: in front of that of the old journal stands a line that says so
+abbrev pub changes_line : ChangesEnd → List ℕ
+changes_line (changes.Old fault) = codes "in the old journal\n" ++ list_line fault
+changes_line (changes.New fault) = list_line fault
+changes_line changes.NoMemory = codes "fault memory\n"
+changes_line changes.Told = codes ""
+
+-- all that is written: the text that tells what differs, or the lines of a fault alone
+abbrev pub changes_shown : ChangesEnd → List ℕ → List ℕ
+changes_shown changes.Told text = text
+changes_shown end text = changes_line end
+
+-- which edge a comparison stopped by
+abbrev pub is_old_stop : ChangesEnd → Bool
+is_old_stop (changes.Old fault) = is_disk_fault fault
+is_old_stop _ = false
+
+abbrev pub is_new_stop : ChangesEnd → Bool
+is_new_stop (changes.New fault) = is_disk_fault fault
+is_new_stop _ = false

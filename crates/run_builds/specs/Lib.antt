@@ -1,4 +1,5 @@
 pub mod Amendments
+pub mod Comparisons
 pub mod Ends
 pub mod Targets
 pub mod Upgrades

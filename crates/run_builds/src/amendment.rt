@@ -15,15 +15,15 @@ ghost use Rattle.office_amends.specs.declared.correction.Correction.{Correction}
 ghost use Rattle.office_history.specs.Answer.{IsLegal};
 ghost use Rattle.office_log.specs.Openable.{IsOffice};
 ghost use Rattle.office_log.specs.Recovers.{Recovers};
-ghost use Rattle.run_builds.specs.Amendments.{Amending, Amends, IsAmended, IsNotAmended, MakesOf, NoneOrAmended, RefusesList, ended_amendment as ended_amendment_of};
+ghost use Rattle.run_builds.specs.Amendments.{Amending, Amends, IsAmended, IsNotAmended, MakesOf, NoneOrAmended, ended_amendment as ended_amendment_of};
 ghost use Rattle.run_builds.specs.Ends.{is_build_fault, is_input_stop, is_source_stop, is_target_stop};
 ghost use Rattle.run_builds.specs.Targets.{Builds};
 
-use crate::ending::{AmendEnd, BuildFault, SourceFault};
+use crate::ending::{AmendEnd, BuildFault};
+use crate::source::read_list;
 use crate::target::build_office;
 use aid_stamps::Stamp;
 use io_traits::{Disk, Sink, Source};
-use log_journal::OpenError;
 use log_machine::StateMachine;
 use log_session::read_input;
 use office_amends::{Amended, Amendment, plan_amendment};
@@ -36,33 +36,6 @@ pub struct AmendRequest {
     pub stamp: Stamp,
     pub number: u64,
     pub ghost in_range: { IsBetween 1 999000000000 number },
-}
-
-// Reads the whole list of a journal, each filing judged. It writes nothing.
-fn read_list<D: Disk>(alloc: Global, disk: D) -> Result<(StampedOfficeMachine, D), (SourceFault, D)>
-    ensures honest { IfOk result (λ r. (D.tells r.1).honest ≡ (D.tells disk).honest) }
-    ensures honest_err { IfErr result (λ e. (D.tells e.1).honest ≡ (D.tells disk).honest) }
-    ensures recovers { IsHonest (D.tells disk)
-        → IfOk result (λ r. Recovers (D.tells disk).reads (⟦<StampedOfficeMachine as StateMachine>⟧.history r.0)) }
-    ensures legal { IfOk result (λ r. IsLegal (entries (⟦<StampedOfficeMachine as StateMachine>⟧.history r.0))) }
-    ensures refuses { IsHonest (D.tells disk) → IfErr result (λ e. RefusesList (D.tells disk).reads e.0) }
-    ensures told { IsHonest (D.tells disk) → IfOk result (λ r. IsRead (D.tells disk) (D.tells r.1)) }
-    ensures told_err { IsHonest (D.tells disk) → IfErr result (λ e. IsRead (D.tells disk) (D.tells e.1)) }
-    ensures later { IfOk result (λ r. D.faults disk ≤ D.faults r.1) }
-    ensures later_err { IfErr result (λ e. D.faults disk ≤ D.faults e.1) }
-    ensures cause { IfErr result (λ e. e.0 ≡ SourceFault.DiskFault → Rose (D.faults disk) (D.faults e.1)) }
-    ensures unmoved { IfOk result (λ r. D.faults r.1 ≡ D.faults disk) }
-    ensures unmoved_err { IfErr result (λ e. (e.0 ≡ SourceFault.DiskFault) ⊎ (D.faults e.1 ≡ D.faults disk)) }
-{
-    match log_machine::read::<D, StampedOfficeMachine>(alloc, disk) {
-        Ok((machine, disk)) => Ok((machine, disk)),
-        Err((OpenError::NoOffice, disk)) => Err((SourceFault::NoOffice, disk)),
-        Err((OpenError::NotJournal, disk)) => Err((SourceFault::NotJournal, disk)),
-        Err((OpenError::OldVersion, disk)) => Err((SourceFault::OldVersion, disk)),
-        Err((OpenError::Damaged(place), disk)) => Err((SourceFault::Damaged(place), disk)),
-        Err((OpenError::DiskFault, disk)) => Err((SourceFault::DiskFault, disk)),
-        Err((OpenError::NoMemory, disk)) => Err((SourceFault::NoMemory, disk)),
-    }
 }
 
 // What the rows of an input make of the list of an office.
@@ -165,16 +138,18 @@ fn read_and_amend<A: Disk, B: Disk, S: Source>(
     }
 }
 
-/// Copies a journal, the source, into one that is built in the target, with the corrections of an input: filings replaced, taken out or
-/// put in under the stamp of the request, and a record of each; the first record with a number of its own has the request's. Every other filing keeps its
-/// place and its stamp. The new list is built exactly where every row is a correction that fits and the list is legal; else nothing is
-/// made, and the text names each row that is none, or each filing that doesn't stand. The whole input and the whole source are read
-/// before any call on the target, and the source is never written.
+/// Copies a journal, the source, into one that is built in the target, with the corrections of an input: filings replaced, taken out
+/// or put in under the stamp of the request, and a record of each; the first record with a number of its own has the request's.
+/// Every other filing stays in its order, under its stamp.
 ///
-/// The status is 0 where the new list was made; 1 where it isn't: the target had no call; 3 where a read failed, 4 where the text couldn't
-/// be written, 5 where a disk failed, 6 where the source is no office of version 2 or the target isn't unborn, 7 where the source is
-/// damaged or its list isn't legal, 8 where the input is too long, and 9 where there is no memory. At each but 0, 1 and 4 the text is the
-/// line of the fault alone.
+/// The new list is built exactly where every row is a correction that fits and the list is legal. Else nothing is made, and the text
+/// names each row that is none, or each filing that doesn't stand. The whole input and the whole source are read before any call on
+/// the target, and the source is never written.
+///
+/// The status is 0 where the new list was made, and 1 where it wasn't: then the target had no call. It is 3 where a read failed, 4
+/// where the text couldn't be written, and then the list may be made; 5 where a disk failed, 6 where the source is no office of
+/// version 2 or the target isn't unborn, 7 where the source is damaged or its list isn't legal, 8 where the input is too long, and 9
+/// where there is no memory. At each but 0, 1 and 4 the text is the line of the fault alone.
 pub fn amend<A: Disk, B: Disk, S: Source, K: Sink>(
     alloc: Global,
     request: AmendRequest,

@@ -1,9 +1,9 @@
-// How a run ends that builds one journal of another: its status and its last line.
-ghost use Rattle.std.specs.Prelude.{◌≡◌, ◌≤◌, length};
+// How a run over two journals ends: its status and its last line.
+ghost use Rattle.std.specs.Prelude.{◌≡◌, ◌≤◌, ◌++◌, length};
 ghost use Rattle.arrayvec.specs.ArrayString.{array_string_len};
 ghost use Rattle.log_runs.specs.Ends.{EndsWith};
 ghost use Rattle.log_runs.specs.Statuses.{read_line as read_line_of, read_status as read_status_of};
-ghost use Rattle.run_builds.specs.Ends.{amend_text, build_line as build_line_of, build_status as build_status_of, source_line as source_line_of, source_status as source_status_of};
+ghost use Rattle.run_builds.specs.Ends.{amend_text, build_line as build_line_of, build_status as build_status_of, changes_shown, list_line as list_line_of, source_line as source_line_of, source_status as source_status_of};
 
 use arrayvec::ArrayString;
 use io_traits::Sink;
@@ -65,6 +65,19 @@ pub enum AmendEnd {
     Target(BuildFault),
     /// The new list was built.
     Made,
+}
+
+/// How a comparison ended, before its text was written.
+#[derive(Clone, Copy, PartialEq, Eq)]
+pub enum ChangesEnd {
+    /// The old journal gave no list. The new one had no call.
+    Old(SourceFault),
+    /// The new journal gave no list.
+    New(SourceFault),
+    /// There is no memory for the text.
+    NoMemory,
+    /// The text was made.
+    Told,
 }
 
 impl UpgradeEnd {
@@ -145,6 +158,44 @@ impl AmendEnd {
     }
 }
 
+impl ChangesEnd {
+    ghost use Rattle.run_builds.specs.Ends.{changes_line, changes_status};
+
+    /// The status of the program.
+    pub fn status(self) -> u8
+        ensures { result ≡ changes_status self }
+    {
+        match self {
+            ChangesEnd::Old(fault) | ChangesEnd::New(fault) => source_status(fault),
+            ChangesEnd::NoMemory => 9,
+            ChangesEnd::Told => 0,
+        }
+    }
+
+    /// The lines of a fault.
+    pub fn line(self) -> ArrayString<64>
+        ensures { result.bytes ≡ changes_line self }
+    {
+        match self {
+            ChangesEnd::Old(fault) => fault_line("in the old journal\n", fault),
+            ChangesEnd::New(fault) => fault_line("", fault),
+            ChangesEnd::NoMemory => long_line("fault memory\n"),
+            ChangesEnd::Told => long_line(""),
+        }
+    }
+
+    /// Writes the text that tells what differs, or the lines of a fault, and gives the status: that of a failed write where it can't
+    /// be written whole.
+    pub fn tell<K: Sink>(self, text: &[u8], out: &mut K) -> u8
+        ensures { EndsWith K.Sink (changes_shown self text.now) (changes_status self) out.old out.new result }
+    {
+        match self {
+            ChangesEnd::Told => put_last(text, self.status(), out),
+            _ => put_last(self.line().as_bytes(), self.status(), out),
+        }
+    }
+}
+
 // Writes the last text of a run, and gives its status: that of a failed write where it can't be written whole.
 fn put_last<K: Sink>(text: &[u8], status: u8, out: &mut K) -> u8
     ensures { EndsWith K.Sink text.now status out.old out.new result }
@@ -214,6 +265,36 @@ fn source_line(fault: SourceFault) -> ArrayString<40>
         SourceFault::DiskFault => text_line("fault disk source\n"),
         SourceFault::NoMemory => text_line("fault memory\n"),
     }
+}
+
+// The line of a journal that gives no list, behind a line.
+fn fault_line(front: &str, fault: SourceFault) -> ArrayString<64>
+    requires { length front.now ≤ 20 }
+    ensures { result.bytes ≡ front.now ++ list_line_of fault }
+{
+    let mut line = long_line(front);
+    line.push_str(list_line(fault).as_str());
+    line
+}
+
+// The line of a journal that gives no list.
+fn list_line(fault: SourceFault) -> ArrayString<40>
+    ensures { result.bytes ≡ list_line_of fault }
+{
+    match fault {
+        SourceFault::DiskFault => text_line("fault disk none\n"),
+        _ => source_line(fault),
+    }
+}
+
+// A line without a number, with room behind it.
+fn long_line(text: &str) -> ArrayString<64>
+    requires { length text.now ≤ 20 }
+    ensures { result.bytes ≡ text.now }
+{
+    let mut line = ArrayString::<64>::new();
+    line.push_str(text);
+    line
 }
 
 // The last line where the target wasn't built.

@@ -4,8 +4,8 @@ use Rattle.aid_stamps.specs.Stamps.{plain_stamp}
 use Rattle.aid_stamps.specs.declared.stamp.Stamp.{Stamp}
 use Rattle.run_words.specs.declared.command.MainRow.{MainRow}
 use Rattle.run_words.specs.Stamped.{AreStampedServe, IsAmend}
-use Rattle.run_words.specs.Words.{IsUpgrade}
-use Rattle.run_words.specs.declared.command.MainRow.TheVariants.{Amend, Desks, Serve, Upgrade}
+use Rattle.run_words.specs.Words.{IsChanges, IsUpgrade}
+use Rattle.run_words.specs.declared.command.MainRow.TheVariants.{Amend, Changes, Desks, Serve, Upgrade}
 use Rattle.run_plan.specs.Plans.{AreDesksOf, IsFounding, IsUnheld, Suits}
 use Rattle.run_plan.specs.declared.plan.Opening.{Opening}
 use Rattle.run_plan.specs.declared.plan.Opening.TheVariants as opening
@@ -45,13 +45,15 @@ pub suits_of : {S : Type 0} (text : S → List ℕ) (program : Program) (one oth
     → ((port workers sessions : ℕ) (stamp : Stamp) → (call ≡ Serve port workers sessions stamp) ↔ ((program ≡ Office) × AreStampedServe (map text one) port workers sessions stamp))
     → (call ≡ Upgrade) ↔ ((program ≡ Office) × ((file : List ℕ) × IsUpgrade (map text one) file))
     → (call ≡ Amend) ↔ ((program ≡ Office) × (stamp : Stamp) × (file : List ℕ) × (number : ℕ) × IsAmend (map text one) stamp file number)
+    → (call ≡ Changes) ↔ ((program ≡ Sheet) × ((file : List ℕ) × IsChanges (map text one) file))
     → (how ≡ opening.Read) ↔ (program ≡ Sheet) → (how ≡ opening.Open → (program ≡ Office) × IsUnheld call (map text other)) → (how ≡ opening.Found) ↔ IsFounding program (map text other)
     → Suits program (map text words) call how
-suits_of {S} text program one other words call how is also desks serve upgrade amend read unheld founds = record {
+suits_of {S} text program one other words call how is also desks serve upgrade amend changes read unheld founds = record {
   desks = subst (λ (ws : List S). (files : ℕ) (stamp : Stamp) → (call ≡ Desks files stamp) ↔ AreDesksOf program (map text ws) files stamp) is desks;
   serve = subst (λ (ws : List S). (port workers sessions : ℕ) (stamp : Stamp) → (call ≡ Serve port workers sessions stamp) ↔ ((program ≡ Office) × AreStampedServe (map text ws) port workers sessions stamp)) is serve;
   upgrade = subst (λ (ws : List S). (call ≡ Upgrade) ↔ ((program ≡ Office) × ((file : List ℕ) × IsUpgrade (map text ws) file))) is upgrade;
   amend = subst (λ (ws : List S). (call ≡ Amend) ↔ ((program ≡ Office) × (stamp : Stamp) × (file : List ℕ) × (number : ℕ) × IsAmend (map text ws) stamp file number)) is amend;
+  changes = subst (λ (ws : List S). (call ≡ Changes) ↔ ((program ≡ Sheet) × ((file : List ℕ) × IsChanges (map text ws) file))) is changes;
   read = read;
   unheld = subst (λ (ws : List S). how ≡ opening.Open → (program ≡ Office) × IsUnheld call (map text ws)) also unheld;
   founds = subst (λ (ws : List S). (how ≡ opening.Found) ↔ IsFounding program (map text ws)) also founds;

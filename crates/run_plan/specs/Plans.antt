@@ -5,7 +5,7 @@ use Rattle.aid_types.specs.Ranges.{IsBetween}
 use Rattle.aid_stamps.specs.Stamps.{plain_stamp}
 use Rattle.aid_stamps.specs.declared.stamp.Stamp.{Stamp}
 use Rattle.run_words.specs.Stamped.{AreStampedDesks, AreStampedServe, IsAmend, IsStamped, IsStampedRow}
-use Rattle.run_words.specs.Words.{IsUpgrade}
+use Rattle.run_words.specs.Words.{IsChanges, IsUpgrade}
 use Rattle.run_words.specs.declared.command.Command.{Command}
 use Rattle.run_words.specs.declared.command.Command.TheVariants.{CheckBook, CheckRows}
 use Rattle.run_words.specs.declared.command.MainRow.{MainRow}
@@ -74,6 +74,7 @@ pub record Suits (program : Program) (words : List (List ℕ)) (call : MainRow) 
   pub serve : (port workers sessions : ℕ) (stamp : Stamp) → (call ≡ row.Serve port workers sessions stamp) ↔ ((program ≡ Office) × AreStampedServe words port workers sessions stamp)
   pub upgrade : (call ≡ row.Upgrade) ↔ ((program ≡ Office) × ((file : List ℕ) × IsUpgrade words file))
   pub amend : (call ≡ row.Amend) ↔ ((program ≡ Office) × (stamp : Stamp) × (file : List ℕ) × (number : ℕ) × IsAmend words stamp file number)
+  pub changes : (call ≡ row.Changes) ↔ ((program ≡ Sheet) × ((file : List ℕ) × IsChanges words file))
   -- only a sheet's journal is opened for reading alone
   pub read : (how ≡ opening.Read) ↔ (program ≡ Sheet)
   -- only a journal that nothing is done with isn't held

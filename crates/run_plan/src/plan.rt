@@ -2,11 +2,11 @@
 ghost use Rattle.std.specs.Prelude.{◌≡◌, ◌≢◌, ◌↔◌, ◌⊎◌, ◌∷◌, [], ℕ, List, None, IfSome, IsTrue, bytes_eq, codes, map, string_bytes};
 ghost use Rattle.aid_stamps.specs.declared.stamp.Stamp.{Stamp as StampData};
 ghost use Rattle.run_words.specs.Stamped.{AreStampedServe, IsAmend};
-ghost use Rattle.run_words.specs.Words.{IsUpgrade};
+ghost use Rattle.run_words.specs.Words.{IsChanges, IsUpgrade};
 ghost use Rattle.run_plan.specs.Plans.{AreDesksOf, IsFounding, IsPlan, IsPlanFromPath, IsUnheld, Suits, from_path, is_audit as is_audit_in, program_in as program_of_words, program_of as program_of_word};
 
 use aid_stamps::Stamp;
-use run_words::{MOST_DESKS, MainRow, is_found, needs_journal, row_of};
+use run_words::{MOST_DESKS, MainRow, changes_file, is_found, needs_journal, row_of};
 
 /// Whose words they are that work on a journal.
 #[derive(Clone, Copy)]
@@ -132,6 +132,7 @@ fn loan_row(words: &[String]) -> MainRow
     ensures other { (port workers sessions : ℕ) (stamp : StampData) → result ≢ MainRow.Serve port workers sessions stamp }
     ensures no_upgrade { result ≢ MainRow.Upgrade }
     ensures no_amend { result ≢ MainRow.Amend }
+    ensures no_changes { result ≢ MainRow.Changes }
 {
     match words.split_first() {
         Some((first, files)) => loan_row_of(first.as_str(), files),
@@ -145,6 +146,7 @@ fn loan_row_of(first: &str, files: &[String]) -> MainRow
     ensures other { (port workers sessions : ℕ) (stamp : StampData) → result ≢ MainRow.Serve port workers sessions stamp }
     ensures no_upgrade { result ≢ MainRow.Upgrade }
     ensures no_amend { result ≢ MainRow.Amend }
+    ensures no_changes { result ≢ MainRow.Changes }
 {
     if is_word(first, "desks") && !files.is_empty() && files.len() <= MOST_DESKS {
         MainRow::Desks {
@@ -156,6 +158,20 @@ fn loan_row_of(first: &str, files: &[String]) -> MainRow
     }
 }
 
+// The call that the words of a sheet need.
+fn sheet_row(words: &[String]) -> MainRow
+    ensures changes { (result ≡ MainRow.Changes) ↔ ((file : List ℕ) × IsChanges (map string_bytes words.now) file) }
+    ensures no_desks { (files : ℕ) (stamp : StampData) → result ≢ MainRow.Desks files stamp }
+    ensures no_serve { (port workers sessions : ℕ) (stamp : StampData) → result ≢ MainRow.Serve port workers sessions stamp }
+    ensures no_upgrade { result ≢ MainRow.Upgrade }
+    ensures no_amend { result ≢ MainRow.Amend }
+{
+    match changes_file(words) {
+        Some(_) => MainRow::Changes,
+        None => MainRow::Run,
+    }
+}
+
 // The call that the words behind the path need.
 fn row_for(program: Program, words: &[String]) -> MainRow
     ensures desks { (files : ℕ) (stamp : StampData) → (result ≡ MainRow.Desks files stamp) ↔ AreDesksOf program (map string_bytes words.now) files stamp }
@@ -164,11 +180,13 @@ fn row_for(program: Program, words: &[String]) -> MainRow
     ensures upgrade { (result ≡ MainRow.Upgrade) ↔ ((program ≡ Program.Office) × ((file : List ℕ) × IsUpgrade (map string_bytes words.now) file)) }
     ensures amend { (result ≡ MainRow.Amend) ↔ ((program ≡ Program.Office) × (stamp : StampData) × (file : List ℕ) × (number : ℕ)
         × IsAmend (map string_bytes words.now) stamp file number) }
+    ensures changes { (result ≡ MainRow.Changes) ↔ ((program ≡ Program.Sheet) × ((file : List ℕ) × IsChanges (map string_bytes words.now) file)) }
 {
     match program {
         Program::Office => row_of(words),
         Program::Loans => loan_row(words),
-        Program::Work | Program::Sheet => MainRow::Run,
+        Program::Work => MainRow::Run,
+        Program::Sheet => sheet_row(words),
     }
 }
 
@@ -196,7 +214,7 @@ fn office_opening(row: &MainRow, words: &[String]) -> Opening
     }
     match *row {
         MainRow::Upgrade | MainRow::Amend => Opening::Found,
-        MainRow::Desks { .. } | MainRow::Serve { .. } => Opening::Hold,
+        MainRow::Desks { .. } | MainRow::Serve { .. } | MainRow::Changes => Opening::Hold,
         MainRow::Run => run_opening(words),
     }
 }

@@ -31,6 +31,7 @@ use Rattle.run_server.specs.RanWeb.{RanWeb}
 use Rattle.run_sheets.specs.Runs.{RanSheets}
 use Rattle.run_sheets.specs.Runs as sheets
 use Rattle.run_builds.specs.Amendments.{Amending}
+use Rattle.run_builds.specs.Comparisons.{Comparing}
 use Rattle.run_builds.specs.Upgrades.{Upgrades}
 use Rattle.run_builds.specs.declared.amendment.AmendRequest.{AmendRequest}
 use Rattle.web_session.specs.Ports.{AcceptorState}
@@ -83,5 +84,9 @@ pub data Performed {D B F P K Policy : Type 0} (names : List (List ℕ)) (gives 
   sheet : (old new : B) (status : ℕ)
       → RanSheets of.to_read of.sink (sheets.edges (of.sink.faults out, of.sink.faults out') (of.to_read.faults old, of.to_read.faults new)) words old new out out' status
       → Performed names gives schools grants of source input words out out' (task.Sheet old) (task.Sheet new) status
+  changes : (one one' other other' : B) (status : ℕ)
+      → Comparing of.to_read of.to_read of.sink
+      (record { old = (of.to_read.faults one, of.to_read.faults one'); new = (of.to_read.faults other, of.to_read.faults other'); sink = (of.sink.faults out, of.sink.faults out') }) one other out out' status
+      → Performed names gives schools grants of source input words out out' (task.Changes one other) (task.Changes one' other') status
   audit : (status : ℕ) → RanAudit of.sink (audits.edges source (of.sink.faults out, of.sink.faults out')) input out out' (audit_command words) status
       → Performed names gives schools grants of source input words out out' task.Audit task.Audit status

@@ -9,7 +9,7 @@ use audit::run_audit;
 use io_traits::{Disk, NoSyncPoint, Sink, Source};
 use law_funds::Rule;
 use loans::Loans;
-use run_builds::{amend, upgrade};
+use run_builds::{amend, changes, upgrade};
 use run_office::{run, run_desks};
 use run_rules::{run_ruled, run_ruled_desks};
 use run_server::run_web;
@@ -22,8 +22,8 @@ use work_rounds::run_work;
 
 /// Performs a task, and answers the status, and what was opened as it is then. `words` are those that the task's run reads, and
 /// `input` is the one input of a run that has no desks. Which status it is, what is written and what becomes of the journal is that
-/// which the task's own call says: `run`, `run_desks`, `run_web`, `upgrade`, `amend`, `run_ruled`, `run_ruled_desks`, `run_work`, `run_sheets` or
-/// `run_audit`.
+/// which the task's own call says: `run`, `run_desks`, `run_web`, `upgrade`, `amend`, `run_ruled`, `run_ruled_desks`, `run_work`,
+/// `run_sheets`, `changes` or `run_audit`.
 pub fn perform<
     D: Disk + Send,
     B: Disk,
@@ -103,6 +103,10 @@ where
         Task::Sheet(disk) => {
             let (status, disk) = run_sheets(alloc, words, disk, out);
             (status, Task::Sheet(disk))
+        }
+        Task::Changes { old, new } => {
+            let (status, old, new) = changes(alloc, old, new, out);
+            (status, Task::Changes { old, new })
         }
         Task::Audit => (run_audit(alloc, words, input, out), Task::Audit),
     }

@@ -1,5 +1,6 @@
 //! What a plan names is opened, its task is performed, and the program ends. Of the real outside nothing is promised here.
-ghost use Rattle.std.specs.Prelude.{◌≡◌, IfOk, length};
+ghost use Rattle.std.specs.Prelude.{◌≡◌, IfOk, length, map, string_bytes};
+ghost use Rattle.run_program.specs.Requests.{TakesRequest};
 
 use crate::calls::perform;
 use crate::task::{KnownPolicies, Task};
@@ -19,7 +20,7 @@ use run_builds::AmendRequest;
 use run_office::DeskInput;
 use run_plan::{JournalPlan, Opening, Plan, Program, desk_files, plan_of};
 use run_rules::RuleDeskInput;
-use run_words::{MainRow, amend_request, upgrade_file};
+use run_words::{MainRow, amend_request, changes_file, upgrade_file};
 use std::alloc::{AllocError, Global};
 use std::fs::{File, metadata};
 use std::io;
@@ -191,16 +192,18 @@ fn office_task<'a, H>(
             })
         }
         MainRow::Amend => amend_task(rt, disk, words),
-        MainRow::Run | MainRow::Serve { .. } => Ok(Task::Office(disk)),
+        MainRow::Run | MainRow::Serve { .. } | MainRow::Changes => Ok(Task::Office(disk)),
     }
 }
 
-// The task of an amendment.
+// The task of an amendment: its stamp and its number are those that the words say.
 fn amend_task<'a, H>(
     rt: &HostRuntime,
     disk: HostDisk,
     words: &[String],
-) -> Result<HostTask<'a, H>, NotOpened> {
+) -> Result<HostTask<'a, H>, NotOpened>
+    ensures { IfOk result (TakesRequest (map string_bytes words.now)) }
+{
     match amend_request(words) {
         Some((stamp, from, number)) => Ok(Task::Amend {
             source: open_to_read(rt, from, from)?,
@@ -208,6 +211,22 @@ fn amend_task<'a, H>(
             request: AmendRequest { stamp, number },
         }),
         None => Ok(Task::Office(disk)),
+    }
+}
+
+// The task of a sheet, or of a comparison with the journal that the words name.
+fn sheet_task<'a, H>(
+    rt: &HostRuntime,
+    path: &str,
+    words: &[String],
+) -> Result<HostTask<'a, H>, NotOpened> {
+    let new = open_to_read(rt, "the journal", path)?;
+    match changes_file(words) {
+        Some(from) => Ok(Task::Changes {
+            old: open_to_read(rt, from, from)?,
+            new,
+        }),
+        None => Ok(Task::Sheet(new)),
     }
 }
 
@@ -224,7 +243,7 @@ fn loan_task<'a, H>(
             desks: open_loan_desks(rt, desk_files(words))?,
         }),
         MainRow::Run | MainRow::Serve { .. } => Ok(Task::Loans(disk)),
-        MainRow::Upgrade | MainRow::Amend => Ok(Task::Loans(disk)),
+        MainRow::Upgrade | MainRow::Amend | MainRow::Changes => Ok(Task::Loans(disk)),
     }
 }
 
@@ -241,7 +260,7 @@ fn run_plan<
         opening,
     } = plan;
     if let Opening::Read = opening {
-        let task = Task::Sheet(open_to_read(rt, "the journal", path.as_str())?);
+        let task = sheet_task(rt, path.as_str(), &words)?;
         return Ok(perform_host(rt, host, task, &words, out));
     }
     let disk = open_disk(rt, path, opening)?;

@@ -55,6 +55,11 @@ pub enum Task<D, B, F, P> {
     Work(D),
     /// A sheet of the aid office.
     Sheet(B),
+    /// Two journals are compared.
+    Changes {
+        old: B,
+        new: B,
+    },
     /// A run of the auditor.
     Audit,
 }

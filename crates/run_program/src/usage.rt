@@ -50,8 +50,9 @@ usage: aid_office sheet JOURNAL list
        aid_office sheet JOURNAL withdrawal SCHOOL STUDENT YEAR TERM
        aid_office sheet JOURNAL due DAY SCHOOL
        aid_office sheet JOURNAL returns SCHOOL YEAR
+       aid_office sheet JOURNAL changes OLD-JOURNAL
        aid_office sheet JOURNAL report .. (the reports of aid_office)
-       aid_office sheet JOURNAL upto POSITION .. (any of these, of the first so many filings)";
+       aid_office sheet JOURNAL upto POSITION .. (any but changes, of the first so many filings)";
 
 /// How the auditor's words go.
 pub(crate) const AUDIT: &str = "\

@@ -14,7 +14,8 @@ abbrev pub begins_with_at : List (List ℕ) → Bool
 begins_with_at [] = false
 begins_with_at (first ∷ behind) = bytes_eq first (codes "at")
 
--- the words are these behind their stamp: that which `at`, a day and a clerk say in front of them, or the plain one where they don't begin so
+-- the words are these behind their stamp: that which `at`, a day and a clerk say in front of them, or the plain one where
+-- they don't begin so
 pub data IsStamped (words : List (List ℕ)) : Stamp → List (List ℕ) → Type 0 where
   plain : begins_with_at words ≡ false → IsStamped words plain_stamp words
   said : (stamp : Stamp) (day : List ℕ) (rest : List (List ℕ)) → IsDayText day stamp.day → IsClerk stamp.clerk → 1 ≤ length stamp.clerk

@@ -108,9 +108,16 @@ abbrev pub AreDesks : List (List ℕ) → ℕ → Type 0
 AreDesks [] files = ⊥
 AreDesks (first ∷ paths) files = (first ≡ codes "desks") × (files ≡ length paths) × IsBetween 1 16 files × ArePlain paths
 
--- the words are `upgrade` and this file, which doesn't begin with a hyphen
+-- the words are this name and this file, which doesn't begin with a hyphen
+abbrev pub IsFileRow : List ℕ → List (List ℕ) → List ℕ → Type 0
+IsFileRow name words file = (words ≡ name ∷ file ∷ []) × (begins_with_hyphen file ≡ false)
+
+-- the words are `upgrade` and a file; and `changes` and a file
 abbrev pub IsUpgrade : List (List ℕ) → List ℕ → Type 0
-IsUpgrade words file = (words ≡ codes "upgrade" ∷ file ∷ []) × (begins_with_hyphen file ≡ false)
+IsUpgrade words file = IsFileRow (codes "upgrade") words file
+
+abbrev pub IsChanges : List (List ℕ) → List ℕ → Type 0
+IsChanges words file = IsFileRow (codes "changes") words file
 
 -- the words of a server: PORT WORKERS SESSIONS
 abbrev pub serve_words : ℕ → ℕ → ℕ → List (List ℕ)

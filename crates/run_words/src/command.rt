@@ -80,8 +80,8 @@ pub enum Command {
     Book(BookNumber),
     /// `quote SCHOOL STUDENT YEAR TERM`: to say the greatest Pell payment that the office would take.
     Quote(QuoteRequest),
-    /// `report standing YEAR`, `report awards YEAR`, `report returns YEAR`, `report lifetime`, `report stamps`, `report export YEAR`: to write a
-    /// report on the office.
+    /// `report standing YEAR`, `report awards YEAR`, `report returns YEAR`, `report lifetime`, `report stamps`,
+    /// `report export YEAR`: to write a report on the office.
     Report(ReportRequest),
     /// `fund SCHOOL YEAR TERM AMOUNT POLICY NUMBER`: to file the awards of a round.
     Fund(FundRequest),
@@ -122,4 +122,6 @@ pub enum MainRow {
     Upgrade,
     /// `at DAY CLERK amend FILE NUMBER`: the journal in the file is copied with corrections.
     Amend,
+    /// `changes FILE`, of a sheet: what differs between the journal in the file and this one is told.
+    Changes,
 }

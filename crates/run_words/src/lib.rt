@@ -5,11 +5,11 @@ mod amend;
 mod at;
 mod behind;
 mod command;
+mod file_row;
 mod hyphen;
 mod main_row;
 mod number;
 mod stamped;
-mod upgrade;
 mod words;
 
 pub use amend::amend_request;
@@ -18,8 +18,8 @@ pub use command::{
     BookNumber, Command, FundRequest, GenerateRequest, MainRow, QuoteRequest, ReportRequest,
     ReportYear, StampedCommand,
 };
+pub use file_row::{changes_file, upgrade_file};
 pub use main_row::{MOST_DESKS, needs_journal, row_of};
 pub use number::number_in;
 pub use stamped::{command_of, is_found};
-pub use upgrade::upgrade_file;
 pub use words::report_request;

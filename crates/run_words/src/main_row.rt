@@ -9,9 +9,9 @@ ghost use Rattle.run_words.specs.declared.command.Command.TheVariants.{CheckBook
 use crate::amend::amend_request;
 use crate::at::behind_at;
 use crate::command::MainRow;
+use crate::file_row::upgrade_file;
 use crate::hyphen::are_plain;
 use crate::number::number_in;
-use crate::upgrade::upgrade_file;
 use aid_stamps::Stamp;
 
 /// At most so many desks file at once.
@@ -23,6 +23,7 @@ fn desks_row(stamp: &Stamp, first: &str, files: &[String]) -> MainRow
     ensures other { (port workers sessions : ℕ) (s : StampData) → result ≢ MainRow.Serve port workers sessions s }
     ensures no_upgrade { result ≢ MainRow.Upgrade }
     ensures no_amend { result ≢ MainRow.Amend }
+    ensures no_changes { result ≢ MainRow.Changes }
 {
     if first == "desks" && !files.is_empty() && files.len() <= MOST_DESKS && are_plain(files) {
         MainRow::Desks {
@@ -86,6 +87,7 @@ fn row_behind(stamp: &Stamp, words: &[String]) -> MainRow
         ↔ ((stamp.now ≡ s) × AreServe (map string_bytes words.now) port workers sessions) }
     ensures no_upgrade { result ≢ MainRow.Upgrade }
     ensures no_amend { result ≢ MainRow.Amend }
+    ensures no_changes { result ≢ MainRow.Changes }
 {
     if let Some(row) = serve_row(stamp, words) {
         return row;
@@ -103,6 +105,7 @@ fn stamped_row(words: &[String]) -> MainRow
         ↔ AreStampedServe (map string_bytes words.now) port workers sessions stamp }
     ensures no_upgrade { result ≢ MainRow.Upgrade }
     ensures no_amend { result ≢ MainRow.Amend }
+    ensures no_changes { result ≢ MainRow.Changes }
 {
     match behind_at(words) {
         Some((stamp, rest)) => row_behind(&stamp, rest),
@@ -122,6 +125,7 @@ pub fn row_of(words: &[String]) -> MainRow
     ensures upgrade { (result ≡ MainRow.Upgrade) ↔ ((file : List ℕ) × IsUpgrade (map string_bytes words.now) file) }
     ensures amend { (result ≡ MainRow.Amend) ↔ ((stamp : StampData) × (file : List ℕ) × (number : ℕ)
         × IsAmend (map string_bytes words.now) stamp file number) }
+    ensures no_changes { result ≢ MainRow.Changes }
 {
     match upgrade_file(words) {
         Some(_) => MainRow::Upgrade,

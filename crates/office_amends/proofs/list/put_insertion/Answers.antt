@@ -4,7 +4,8 @@ use Rattle.std.proofs.lemmas.Result.{on_ok_weaker}
 use Rattle.aid_filings.specs.declared.filing.Filing.{Filing}
 use Rattle.log_stamps.specs.Entries.{with_stamp}
 use Rattle.log_stamps.specs.declared.entry.StampedEntry.{StampedEntry}
-use Rattle.office_amends.specs.Amended.{inserted, is_key}
+use Rattle.office_history.specs.Past.{same_key}
+use Rattle.office_amends.specs.Amended.{inserted}
 use Rattle.office_amends.specs.Lines.{inserted_line}
 use Rattle.office_amends.specs.Stood.{Makes}
 use Rattle.office_amends.specs.Texts.{told_behind, told_put}
@@ -19,7 +20,7 @@ returns-clause-makes c list text made =
     let f = c.in-Insert.filing in
     let e = with_stamp run f in
     let line = inserted_line (length list + 1) f in
-    let same : is_key c.in-Insert.before key ≡ true = sym c.is_same_key.ensures ∙ c.if-not-is_same_key.false in
+    let same : same_key c.in-Insert.before key ≡ true = sym c.is_same_key.ensures ∙ c.if-not-is_same_key.false in
     let is : inserted run c.args.change.now key ≡ e ∷ [] =
     ap (λ (change : Change). inserted run change key) c.in-Insert.is ∙ ap (λ (b : Bool). if b then e ∷ [] else []) same in
     on_ok_weaker c.file.result

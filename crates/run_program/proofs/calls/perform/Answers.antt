@@ -1,4 +1,4 @@
-use Rattle.run_program.specs.Performed.{amend, audit, loan_desks, loans, office, office_desks, serve, sheet, upgrade, work}
+use Rattle.run_program.specs.Performed.{amend, audit, changes, loan_desks, loans, office, office_desks, serve, sheet, upgrade, work}
 use Rattle.run_program.proofs.calls.perform.Goals as goal
 
 pub returns-in-Office : goal.returns-in-Office
@@ -40,3 +40,8 @@ returns-in-Sheet g c = rw c.in-Sheet.is (sheet c.in-Sheet.disk c.run_sheets-stat
 
 pub returns-in-Audit : goal.returns-in-Audit
 returns-in-Audit g c = rw c.in-Audit.is (audit c.run_audit.result c.run_audit.ensures.ran)
+
+pub returns-in-Changes : goal.returns-in-Changes
+returns-in-Changes g c =
+    rw c.in-Changes.is
+    (changes c.in-Changes.old c.changes-status.result.1 c.in-Changes.new c.changes-status.result.2 c.changes-status.result.0 c.changes-status.ensures.comparing)
