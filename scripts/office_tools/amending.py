@@ -66,15 +66,26 @@ def try_amend(office, new, number):
 
 
 def changes(office, old):
-    """Tells what differs between an older journal and the office. 1 where something does."""
+    """Tells what differs between an older journal and the office, of copies of both. 1 where something does."""
     if not os.path.isfile(old):
-        refuse(f"there is no file {old}: name an older journal, or a copy that backup made", 2)
+        refuse(f"{old} is no file that can be read: name an older journal, or a copy that backup made", 2)
+    for path in (old, office.journal):
+        office.refuse_hurt(path)
+    one, other, text = (copies.needs_scratch(name) for name in ("old", "copy", "text"))
     office.desk, office.stamp = SHEET, []
-    status, text = copies.needs_copy(office, office.words)
-    if office.write(text):
+
+    def once():
+        for path, copy in ((old, one), (office.journal, other)):
+            if not copies.copy_to(path, copy):
+                copies.refuse_copy(path)
+        with open(text, "wb") as out:
+            return office.run(["changes", one], other, out=out)
+
+    status, said = copies.tries(once), copies.text_of(text)
+    if office.write(said):
         return 4
-    office.say_status(status, old if text.startswith(IN_OLD) else office.journal)
-    return status or (0 if text.rstrip().endswith(b" differ 0") else 1)
+    office.say_status(status, old if said.startswith(IN_OLD) else office.journal)
+    return status or (0 if said.endswith(b" differ 0\n") else 1)
 
 
 def book_row(words):

@@ -50,6 +50,7 @@ def quote(office, *place):
 
 def why(office, *place):
     """A quote, and the answer to a payment of one dollar more on a copy, in words."""
+    office.refuse_hurt(office.journal)
     status, text = copies.needs_copy(office, ["quote", *place])
     office.write(text)
     if status:

@@ -150,10 +150,11 @@ def needs_copy(office, words, path=None):
 
 
 def try_on_copy(office):
-    """A copy on which something is tried."""
+    """A copy on which something is tried. What is refused of a journal with a gate that was harmed isn't tried either."""
     copy = needs_scratch("copy")
     if not os.path.isfile(office.journal):
         refuse(f"{office.journal} is no file that can be copied", 5)
+    office.refuse_hurt(office.journal)
     if not copy_to(office.journal, copy):
         refuse_copy(office.journal)
     return copy

@@ -117,12 +117,12 @@ class Office:
 
     def read_only(self, take=None):
         """Runs a command that only reads on a copy, and prints its text. Without room for a copy or the text it runs on the journal, and `take`
-        gets each line as it comes."""
+        gets each line as it comes. Of a journal with a gate that was harmed it would tell a shorter office: it is refused."""
+        self.refuse_hurt(self.journal)
         status, text = copies.NO_COPY, None
         if os.path.isfile(self.journal) and copies.scratch("copy"):
             status, text = copies.run_on_copy(self, self.journal, self.words)
         if status == copies.NO_COPY:
-            self.refuse_hurt(self.journal)
             status = self.run(self.words, take=take)
         elif status == 4:
             status = self.run(self.words, copies.scratch("copy"), take=take)
@@ -145,7 +145,8 @@ class Office:
         return 1 if behind[0] == "due" and is_late(text) else 0
 
     def needs(self, words, desk=None):
-        """The text of a command on a copy, whose status has to be 0."""
+        """The text of a command on a copy, whose status has to be 0. A journal with a gate that was harmed is refused."""
+        self.refuse_hurt(self.journal)
         if desk:
             self.desk, self.stamp = desk, []
         status, text = copies.needs_copy(self, words)
