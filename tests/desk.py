@@ -104,7 +104,7 @@ KINDS = {
 COMMANDS = [
     (["found"], []), (["file"], []), (["book"], KEY[1:]), (["quote"], [KEY[0], STUDENT, YEAR, TERM]),
     (["report", "standing"], [YEAR]), (["report", "awards"], [YEAR]), (["report", "returns"], [YEAR]), (["report", "lifetime"], []),
-    (["report", "stamps"], []), (["report", "export"], [YEAR]),
+    (["report", "stamps"], []), (["report", "seal"], []), (["report", "seals"], []), (["report", "export"], [YEAR]),
     (["fund"], [KEY[0], YEAR, TERM, whole(1, 99_999_999), policy, whole(1, 999_999_000_000)]),
     (["generate"], [whole(0, 10**12 - 1), whole(1, 20_000)]), (["check", "rows"], []), (["check", "book"], []),
 ]
@@ -334,11 +334,15 @@ class Desk:
         return four_lines(totals)
 
     def report(self, which, year=None):
-        """What `report standing YEAR`, `report awards YEAR`, `report returns YEAR`, `report export YEAR`, `report lifetime` and `report
-        stamps` print."""
+        """What `report standing YEAR`, `report awards YEAR`, `report returns YEAR`, `report export YEAR`, `report lifetime`, `report
+        stamps`, `report seal` and `report seals` print."""
         if which == "export":
             import audit_model  # which stands on this module
             return audit_model.export(self.history, year)
+        if which in ("seal", "seals"):
+            import records  # which stands on this module
+            lines = records.seal_lines(records.payloads_of_office(self.history, self.stamps))
+            return f"{lines[-1]}\n" if which == "seal" else "".join(f"{line}\n" for line in lines) + f"rows {len(lines)}\n"
         read = [self.stamps] if which == "stamps" else [] if year is None else [year]
         lines = REPORTS[which](self.history, *read)
         return "".join(f"{line}\n" for line in lines) + f"rows {len(lines)}\n"

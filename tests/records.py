@@ -1,5 +1,6 @@
 """The payload of a filing as its record keeps it, behind the stamp, and the file of an office, written apart from the proved code. All
 numbers are little-endian; a day is counted from 1970-01-01, and below 0 before it."""
+import hashlib
 import os
 import sys
 from dataclasses import fields, is_dataclass
@@ -93,4 +94,28 @@ def file_of(payloads):
 
 def file_of_office(history, stamps):
     """The file of an office with these filings, the last of which may have no stamp noted."""
-    return file_of([stamp_bytes(stamp) + payload_of_filing(filing) for filing, stamp in zip(history, model.stamped(history, stamps))])
+    return file_of(payloads_of_office(history, stamps))
+
+
+def payloads_of_office(history, stamps):
+    """The payloads of an office with these filings, each behind its stamp."""
+    return [stamp_bytes(stamp) + payload_of_filing(filing) for filing, stamp in zip(history, model.stamped(history, stamps))]
+
+
+def payloads_in(data):
+    """The payloads that stand in a file."""
+    payloads, at = [], len(HEADER)
+    while data[at] == 1:
+        end = at + 5 + int.from_bytes(data[at + 1 : at + 5], "little")
+        payloads.append(data[at + 5 : end])
+        at = end
+    return payloads
+
+
+def seal_lines(payloads):
+    """The line of the seal of each front of some payloads, from that of none on: each seal is the sha256 of the one before it, and of what
+    stands in the file behind the gate."""
+    seals = [hashlib.sha256(b"dalthyrm seal 1 AIDPELL1").digest()]
+    for payload in payloads:
+        seals.append(hashlib.sha256(seals[-1] + len(payload).to_bytes(4, "little") + payload).digest())
+    return [f"sealed {count} {seal.hex()}" for count, seal in enumerate(seals)]

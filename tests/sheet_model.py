@@ -1,6 +1,6 @@
 """The sheets of an office in plain Python, on its history and the stamps of its filings: what `aid_office sheet` writes, apart from the
-proved code."""
-from dataclasses import dataclass
+proved code. Behind those of `SEALED` stands the seal (`sealed`)."""
+from dataclasses import dataclass, fields
 from datetime import date, timedelta
 
 import desk
@@ -12,6 +12,9 @@ KINDS = {
     model.Origination: "originate", model.Payment: "pay", model.Withdrawal: "withdraw", model.Repayment: "repay", model.Adjustment: "adjust",
     model.ChangedCost: "cost", model.Sending: "sent", model.Amendment: "amend",
 }
+
+# The sheets behind which the seal of the filings stands.
+SEALED = ("list", "student", "need", "withdrawal", "book")
 
 
 def outcomes(history):
@@ -55,6 +58,45 @@ def clerk(stamp):
 def table(lines):
     """Lines, and how many there are."""
     return "".join(f"{line}\n" for line in lines) + f"rows {len(lines)}\n"
+
+
+def sealed(text, history, stamps):
+    """A sheet with the line of the seal behind it."""
+    return text + records.seal_lines(records.payloads_of_office(history, stamps))[-1] + "\n"
+
+
+# The sections of a book and their keys, in the order of its fields; and the keys behind which a list of so many numbers stands.
+SECTIONS = {
+    "pell": "maximum minimum",
+    "percent": "maximum_single maximum_other minimum_dependent_single minimum_dependent_other minimum_single_parent minimum_parent minimum_no_dependents",
+    "poverty": "contiguous contiguous_extra alaska alaska_extra hawaii hawaii_extra",
+    "payroll": "oasdi_cap oasdi_rate medicare_rate medicare_high threshold_single threshold_married",
+    "protection": "parents parents_extra dependent_student single_student married_student single_parent single_parent_extra married_parent married_parent_extra",
+    "employment": "cap rate", "assets": "parents_rate dependent_rate no_dependents_rate with_dependents_rate",
+    "business": "over base rate", "age": "from single married",
+    "schedule": "low_at low first_rate student_rate lowest_student", "bracket": "over base rate", "ceiling": "percent",
+}
+LISTS = {**dict.fromkeys(("contiguous", "alaska", "hawaii"), 8), **dict.fromkeys(("parents", "single_parent", "married_parent"), 5)}
+TABLES = ("business", "age", "bracket")
+
+
+def book_sheet(history, stamps, year):
+    """What `book show` prints of the year's book, up to the comment of its seal."""
+    found = next(((at, filing) for at, filing in enumerate(history) if isinstance(filing, model.Book) and filing.book.year == year), None)
+    if not found:
+        return "none\n# "
+    at, filing = found
+    figures = [(field.name, getattr(filing.book, field.name)) for field in fields(filing.book)]
+    numbers = iter([number for name, value in figures for number in ([len(value)] if name in TABLES else []) + records.flat(value)])
+    lines = [f"form = {2 if filing.book.ceiling else 1}", f"year = {next(numbers)}"]
+    for section, keys in SECTIONS.items():
+        if section == "ceiling" and not filing.book.ceiling:
+            continue
+        for _ in range(next(numbers) if section in TABLES else 1):
+            lines += ["", f"[[{section}]]" if section in TABLES else f"[{section}]"]
+            lines += [f"{key} = {[next(numbers) for _ in range(LISTS[key])] if key in LISTS else next(numbers)}" for key in keys.split()]
+    lines += ["", f"# book at {at + 1}, {stamps[at].day.isoformat()} {clerk(stamps[at])}"]
+    return "".join(f"{line}\n" for line in lines) + "# "
 
 
 def list_sheet(history, stamps):

@@ -1,7 +1,7 @@
 """The table of commands: the words of each, what it is for, and what runs it. Help, completion, the man page and the judging of words go by it."""
 from dataclasses import dataclass
 
-from . import amending, approval, asking, before, copies, explain, guide, ids, installing, letter, lint, plot, program, reconcile, rows, serving, settings, show, tables
+from . import amending, approval, asking, before, copies, explain, guide, ids, installing, letter, lint, plot, program, reconcile, rows, seals, serving, settings, show, tables
 from .program import AID, AUDIT, CLOCK, LOANS, SHEET, WORK
 from .words import CLERK, DAY, NUMBER, ROUND_NUMBER, SCHOOL, SOME_SCHOOL, STUDENT, TERM, YEAR, Argument, choice, number, optional, path, rest
 
@@ -69,7 +69,7 @@ AGAIN = ("--again", "files also what is on file under another number"),
 TABLE = ("--table", "prints the table of who gets what alone"), ("--csv", "prints it as comma-separated values"), *NAMES
 ROWS, FILES, BOOK = path("ROWS.csv"), path("ROWS.csv", most=16), path("BOOK.toml")
 A_WORD = lambda word: ""        # nothing is wrong with any
-A_COPY, A_NEW = Argument("COPY", "a file", A_WORD), Argument("NEW", "a new file", A_WORD)
+A_COPY, A_NEW, A_COPY_OR_NOTES = Argument("COPY", "a file", A_WORD), Argument("NEW", "a new file", A_WORD), Argument("COPY|NOTES", "a file", A_WORD)
 PLACE, OF_TERM = (SCHOOL, STUDENT, YEAR, TERM), (SOME_SCHOOL, YEAR, TERM)
 FUND = SCHOOL, YEAR, TERM, number("AMOUNT", 1, 99_999_999), choice("level", "quarter"), ROUND_NUMBER
 MADE_UP = number("SEED", 0, 999_999_999_999), number("STUDENTS", 1, 20_000)
@@ -81,6 +81,7 @@ REPORTS = {
     "standing": "where each student with an application in the year stands", "awards": "what each student has of each program in each term",
     "returns": "what withdrawals return", "lifetime": "the lifetime use of each student", "stamps": "when each filing was filed, and by whom",
 }
+SEALS = {"seal": "the seal that names all filings, to be noted elsewhere", "seals": "the seal of each front of them"}
 YEARLY = ("standing", "awards", "returns", "export")
 
 
@@ -130,6 +131,7 @@ ON_JOURNAL = [
     reading("quote", PLACE, "the greatest Pell payment in whole dollars", "quote 110 5001 2025 1", asking.quote),
     own("why", asking.why, PLACE, "that quote, and why not one dollar more", "why 120 5001 2025 1", desk=AID),
     *(report(which, purpose) for which, purpose in REPORTS.items()),
+    *(report(which, purpose, ()) for which, purpose in SEALS.items()),
     report("export", "all filings, for an auditor", NO_NAMES),
     *(report_as_csv(which, purpose) for which, purpose in REPORTS.items()),
     reading("list", (), "what was filed, each filing as a row", "list", sheet),
@@ -140,6 +142,7 @@ ON_JOURNAL = [
     reading("withdrawal", (SOME_SCHOOL, STUDENT, YEAR, TERM), "the worksheet of a withdrawal", "withdrawal 120 5001 2025 2", sheet),
     reading("due", (DAY, SOME_SCHOOL), "what is to be sent back; 1 where it is late", "due 2026-03-23 120", sheet),
     reading("returns", (SOME_SCHOOL, YEAR), "what came of the returns of a year", "returns 120 2025", sheet),
+    reading("book show", (YEAR,), "the year's book on file, as the text that files it", "book show 2025", sheet, ()),
     reading("upto", THEN, "a sheet as it was then (docs/SHEETS.md)", "upto 10 quotes 110 2025 1", sheet),
     own("letter", letter.letter, (SOME_SCHOOL, STUDENT, YEAR, TERM), "a letter to a student who withdrew", "letter 120 5001 2025 2"),
     own("lint", lint.lint_office, (), "names filings that look wrong, or are paid twice", "lint < examples/year.csv", input="ROWS.csv"),
@@ -150,7 +153,7 @@ ON_JOURNAL = [
     own("ids", ids.check, (), "checks the ids and names in JOURNAL.ids.csv", "ids", copy=False),
     own("next", tables.next_number, (SCHOOL,), "the number of the school's next row", "next 110"),
     own("backup", copies.backup, (A_COPY,), "copies the office, and opens the copy", "backup copy.journal"),
-    own("since", copies.since, (A_COPY,), "whether all that COPY holds still stands", "since copy.journal"),
+    own("since", seals.since, (A_COPY_OR_NOTES,), "whether all that a copy or notes of seals name stands", "since copy.journal"),
     own("changes", amending.changes, (path("OLD"),), "what differs between OLD and this office; 1 where something does", "changes old.journal"),
     own("salvage", copies.salvage, (A_NEW,), "makes an office of what stands before damage", "salvage saved.journal"),
 ]

@@ -185,7 +185,7 @@ def name_new(part, path):
 
 
 def backup(office, path):
-    """A copy that was opened: each filing of it was judged."""
+    """A copy that was opened, each filing of which was judged, and its seal."""
     if is_there(path):
         refuse(f"{path} is there already, and no copy is written over: name another file", 2)
     part = part_of(path, "a copy")
@@ -200,7 +200,7 @@ def backup(office, path):
         hurt = None if office.cut else journal.hurt_gate(part, office.journal)
         with open(text, "wb") as file:
             if hurt is None:
-                return office.run(["file"], part, out=file)
+                return office.run(["report", "seal"], part, out=file)
             file.write(b"fault damaged %d\n" % hurt)
             return 7
 
@@ -213,7 +213,7 @@ def backup(office, path):
     sync(part)
     name_new(part, path)
     sync(folder_of(path))
-    print(f"{os.path.getsize(path)} bytes, sha256 {sum_of(path)}")
+    print(f"{os.path.getsize(path)} bytes, sha256 {sum_of(path)}, {text_of(text).decode().strip()}")
     return 0
 
 
@@ -232,13 +232,13 @@ def first_difference(path, copy, size):
 
 
 def since(office, path):
-    """Whether the bytes of a copy, up to its closed gate, stand at the front of the journal."""
+    """Whether the bytes of a copy, up to its closed gate, stand at the front of the journal, and the seal of the copy."""
     if not os.path.isfile(path):
-        refuse(f"there is no file {path}: name a copy that backup made", 2)
+        refuse(f"there is no file {path}: name a copy that backup made, or notes of seals", 2)
     if not os.path.isfile(office.journal):
         refuse(f"{office.journal} is no file that can be read", 5)
     office.refuse_hurt(path)
-    status, text = needs_copy(office, ["file"], path)
+    status, text = needs_copy(office, ["report", "seal"], path)
     if status:
         office.write(text)
         office.say_status(status, path)
@@ -247,10 +247,11 @@ def since(office, path):
     found = first_difference(office.journal, scratch("copy"), size)
     if found is None:
         print(f"the {size} bytes of {path} stand in {office.journal}")
-        return 0
-    place, is_end = found
-    print(f"{office.journal} has other bytes than {path}: " + (f"it ends behind byte {place}" if is_end else f"the first is byte {place}"))
-    return 1
+    else:
+        place, is_end = found
+        print(f"{office.journal} has other bytes than {path}: " + (f"it ends behind byte {place}" if is_end else f"the first is byte {place}"))
+    print(text.decode(), end="")
+    return 0 if found is None else 1
 
 
 def salvage(office, path):

@@ -11,11 +11,11 @@ ON_JOURNAL = [
 ]
 ON_A_COPY = [
     (("quote", "why"), "what may be paid, and why no more"),
-    (("report standing", "report awards", "report returns", "report export", "report lifetime", "report stamps"), ""),
+    (("report standing", "report awards", "report returns", "report export", "report lifetime", "report stamps", "report seal", "report seals"), ""),
     (("csv standing", "csv awards", "csv returns", "csv lifetime", "csv stamps"), "as CSV"),
-    (("list", "student", "need", "quotes", "payments"), ""), (("withdrawal", "letter", "due"), ""),
+    (("list", "student", "need", "quotes", "payments"), ""), (("withdrawal", "letter", "due", "book show"), ""),
     (("returns", "upto"), "sheets; each as it was then"), (("next", "ids"), "a school's next number; the file of ids and names"), "backup",
-    (("since", "changes"), "whether all of COPY still stands; what differs"), "salvage",
+    (("since", "changes"), "whether all of it still stands; what differs"), "salvage",
 ]
 ALONE = [
     "help", "check", "explain", "lint", "rows", (("show", "book-row"), ""), (("plot",), ""), "reconcile", (("pay-rows", "carry"), ""),

@@ -9,7 +9,7 @@ from . import TOP, guide, program
 from .say import refuse, say
 
 # What goes along from the top of the checkout.
-ALONG = ["LICENSE", "README.md", "docs", "examples", "office", os.path.join("scripts", "nightly"), os.path.join("scripts", "office_tools")]
+ALONG = ["LICENSE", "README.md", "docs", "examples", "office", os.path.join("scripts", "nightly"), os.path.join("scripts", "seal.py"), os.path.join("scripts", "office_tools")]
 LINK = os.path.join("..", "lib", "office", "office")
 # What is printed into a file, and the file's place below the prefix.
 TEXTS = [

@@ -6,7 +6,7 @@ import os
 import re
 import textwrap
 
-from . import ids
+from . import ids, seals
 from .say import refuse
 
 NAMES = {
@@ -167,7 +167,7 @@ def page(sheet, known, school, student, year, term):
 def letter(office, school, student, year, term):
     """Prints the letter on a withdrawal."""
     known = ids.read(office.journal) if os.path.isfile(ids.path_of(office.journal)) else ids.Known()
-    sheet = Worksheet(ids.text_of(office, ["withdrawal", school, student, year, term]).splitlines())
+    sheet = Worksheet(seals.without(ids.text_of(office, ["withdrawal", school, student, year, term]).splitlines()))
     if len(sheet.owes) > 1:
         refuse(
             f"student {student} owes of more than one grant: only box U of the Department's worksheet may be asked then, so write by hand",

@@ -1,7 +1,7 @@
 """The sheet `list` of an office: each filing with its position, its stamp, the row that files it, and with what it was admitted."""
 from dataclasses import dataclass
 
-from . import copies
+from . import copies, seals
 from .office import Office
 from .program import SHEET
 
@@ -31,18 +31,16 @@ def entry(line):
 
 
 def entries(lines):
-    """The filings of a list, one after the other; at its end it is known to be whole."""
-    count, ended = 0, False
+    """The filings of a list, one after the other; at its end it is known to be whole: behind the count stands the seal."""
+    count, last = 0, []
     for line in lines:
         line = line.rstrip("\n")
-        if ended:
-            raise NotListed(1)
-        if line.startswith("rows "):
-            ended = line == f"rows {count}"
+        if last or line.startswith(("rows ", "sealed ")):
+            last.append(line)
         else:
             count += 1
             yield entry(line)
-    if not ended:
+    if len(last) != 2 or last[0] != f"rows {count}" or not seals.is_line(last[1]) or not last[1].startswith(f"sealed {count} "):
         raise NotListed(1)
 
 

@@ -2,6 +2,7 @@
 import re
 import sys
 
+from . import seals
 from .program import SHEET
 from .say import refuse
 
@@ -38,7 +39,7 @@ def is_number(word, most, least=0):
 
 def next_number(office, school):
     """One more than the greatest number of a school's rows."""
-    lines = whole_lines(office.needs(["list"], SHEET))
+    lines = whole_lines("".join(seals.without(office.needs(["list"], SHEET).splitlines(True))))
     if lines is None:
         refuse(f"the list of {office.journal} was cut short: run it again")
     keys = (line[3].split(",")[1:3] for line in lines)

@@ -8,7 +8,7 @@ import io
 import re
 import sys
 
-from . import copies, explain, listing, sheet, tables
+from . import copies, explain, listing, seals, sheet, tables
 from .amounts import cents, money
 from .office import Office
 from .program import SHEET
@@ -45,13 +45,13 @@ def answers(office, rows, copy=None):
 
 
 def sheet_of_copy(*words):
-    """The lines of a sheet of the copy at hand."""
+    """The lines of a sheet of the copy at hand, but for its seal."""
     text = copies.needs_scratch("sheet")
     with open(text, "wb") as out:
         status = Office(copies.scratch("copy"), list(words), SHEET).run(list(words), out=out)
     if status:
         refuse("the sheet of the copy can't be had", status)
-    lines = copies.text_of(text).decode("ascii", "replace").splitlines()
+    lines = seals.without(copies.text_of(text).decode("ascii", "replace").splitlines())
     return [] if lines == ["none"] else lines
 
 

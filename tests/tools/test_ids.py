@@ -49,8 +49,8 @@ class Lines(unittest.TestCase):
         self.assertEqual(self.named(["report", "stamps"], "5 2025-01-01 brown", "rows 1"), ["5 2025-01-01 brown", "rows 1"])
 
     def test_lists(self):
-        lines = ["1 1970-01-01 - book,0,1,5 noted", "2 1970-01-01 - school,0,2,5,2,12 noted", "3 1970-01-01 - prior,0,3,5,100 noted", "rows 3"]
-        self.assertEqual(self.named(["list"], *lines), [*lines[:2], lines[2] + "  A5 Ann, the first", "rows 3"])
+        lines = ["1 1970-01-01 - book,0,1,5 noted", "2 1970-01-01 - school,0,2,5,2,12 noted", "3 1970-01-01 - prior,0,3,5,100 noted", "rows 3", "sealed 3 " + "5" * 64]
+        self.assertEqual(self.named(["list"], *lines), [*lines[:2], lines[2] + "  A5 Ann, the first", *lines[3:]])
 
     def test_values(self):
         self.assertEqual(self.named(["csv", "awards", "2025"], "year,school,student", "2025,110,5", "2025,110,9"), ["year,school,student,id,name", '2025,110,5,A5,"Ann, the first"', "2025,110,9,,"])

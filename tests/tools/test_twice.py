@@ -127,10 +127,11 @@ class Many(unittest.TestCase):
 
 class Lists(unittest.TestCase):
     def test_entries(self):
-        lines = ["1 1970-01-01 - book,0,1,2025 noted\n", "2 2025-09-01 brown pay,110,6,5001,2025,1,pell,1145.00 paid 1145.00 50000\n", "rows 2\n"]
+        lines = ["1 1970-01-01 - book,0,1,2025 noted\n", "2 2025-09-01 brown pay,110,6,5001,2025,1,pell,1145.00 paid 1145.00 50000\n", "rows 2\n", "sealed 2 " + "0f" * 32 + "\n"]
         book, payment = listing.entries(lines)
         self.assertEqual((book.row, payment.position, payment.clerk, payment.outcome[0]), (("book", "0", "1", "2025"), 2, "brown", "paid"))
-        for cut in [lines[:2], lines[1:], [*lines[:2], "rows 3\n"], []]:
+        for cut in [lines[:2], lines[:3], lines[1:], [*lines[:2], "rows 3\n", lines[3]], [*lines[:3], lines[3][:-5]], [*lines[:3], lines[3].replace("2", "3", 1)],
+                    [*lines, lines[3]], [*lines[:2], *lines[3:]], []]:
             with self.assertRaises(listing.NotListed):
                 list(listing.entries(cut))
 

@@ -3,3 +3,4 @@ pub mod Columns
 pub mod Lines
 pub mod Reports
 pub mod Rows
+pub mod Seals

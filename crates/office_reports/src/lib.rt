@@ -1,4 +1,4 @@
-//! Reports on an office: standings, awards, returns, lifetime units and stamps; and their laws, each as the contract of a function that
+//! Reports on an office: standings, awards, returns, lifetime units, stamps and seals; and their laws, each as the contract of a function that
 //! computes nothing.
 #![tactic(auto)]
 
@@ -12,6 +12,7 @@ mod listed;
 mod priors;
 mod reports;
 mod rows;
+mod sealed;
 mod table;
 
 pub use columns::{
@@ -21,4 +22,5 @@ pub use exported::export;
 pub use gathered::{push_told, sort_students};
 pub use laws::{places_of_awards, returns_in_order, students_of_reports};
 pub use reports::{awards, lifetimes, returns, stamp_lines, standings};
+pub use sealed::{seal_line, seal_lines, seal_of_filings};
 pub use table::{ReportLine, put_count, table_of};

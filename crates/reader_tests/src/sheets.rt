@@ -32,7 +32,7 @@ pub(crate) fn office_with(
 }
 
 // Asserts the status and the text of a run over a file with these bytes.
-pub(crate) fn assert_sheet(
+fn assert_sheet(
     rt: &impl Abort,
     alloc: Global,
     image: &[u8],
@@ -48,15 +48,31 @@ pub(crate) fn assert_sheet(
     Ok(())
 }
 
+// Asserts that a run that is done writes this text, and behind it this line of a seal.
+pub(crate) fn assert_sealed(
+    rt: &impl Abort,
+    alloc: Global,
+    image: &[u8],
+    line: &str,
+    text: &str,
+    seal: &str,
+) -> Result<(), Fail> {
+    let mut whole = String::from_str(alloc, text)?;
+    whole.push_str(seal)?;
+    assert_sheet(rt, alloc, image, line, 0, whole.as_str())
+}
+
 #[test]
 fn a_worked_year(rt: HostRuntime) -> Result<(), Fail> {
     let alloc = rt.alloc();
     let year = office(&rt, alloc, &[(YEAR_ROWS, YEAR_LINES)])?;
     let image = year.image();
-    assert_sheet(&rt, alloc, image, "list", 0, LIST)?;
-    assert_sheet(&rt, alloc, image, "student 5001", 0, LEDGER)?;
-    assert_sheet(&rt, alloc, image, "need 5001 2025", 0, DEPENDENT)?;
-    assert_sheet(&rt, alloc, image, "upto 18 student 5001", 0, LEDGER)?;
+    assert_sealed(&rt, alloc, image, "list", LIST, SEAL_18)?;
+    assert_sealed(&rt, alloc, image, "student 5001", LEDGER, SEAL_18)?;
+    assert_sealed(&rt, alloc, image, "need 5001 2025", DEPENDENT, SEAL_18)?;
+    assert_sealed(&rt, alloc, image, "upto 18 student 5001", LEDGER, SEAL_18)?;
+    assert_sheet(&rt, alloc, image, "report seal", 0, SEAL_18)?;
+    assert_sheet(&rt, alloc, image, "upto 17 report seal", 0, SEAL_17)?;
     assert_sheet(
         &rt,
         alloc,
@@ -66,7 +82,33 @@ fn a_worked_year(rt: HostRuntime) -> Result<(), Fail> {
         FIRST_QUOTES,
     )?;
     assert_sheet(&rt, alloc, image, "payments 120 2025 2", 0, PAYMENTS)?;
-    assert_sheet(&rt, alloc, image, "withdrawal 120 5001 2025 2", 0, RETURN)
+    assert_sealed(
+        &rt,
+        alloc,
+        image,
+        "withdrawal 120 5001 2025 2",
+        RETURN,
+        SEAL_18,
+    )
+}
+
+// The text of a book on file files the same bytes again.
+#[test]
+fn a_book_on_file(rt: HostRuntime) -> Result<(), Fail> {
+    let alloc = rt.alloc();
+    let ceiling = BOOK_TEXT.replace(alloc, "form = 1\n", "form = 2\nceiling.percent = 200\n")?;
+    for book in [BOOK_TEXT, ceiling.as_str()] {
+        let filed = office_with(&rt, alloc, book, "file", &[])?;
+        let words = words_of(alloc, "book show 2025")?;
+        let mut sink = MemorySink::new(alloc, Vec::new(alloc));
+        let kept = disk(alloc, filed.image(), &[], None)?;
+        let (ended, _disk) = run_sheets(alloc, &words, kept, &mut sink);
+        assert_eq!(rt; ended, 0);
+        let empty = disk(alloc, EMPTY, &[], None)?;
+        let (_, _, again) = ran(alloc, "book 1", sink.text(), empty, &[])?;
+        assert_eq!(rt; again.image(), filed.image());
+    }
+    Ok(())
 }
 
 // A term in which money of each kind moves, and what is still owed before a student repays.
@@ -76,13 +118,13 @@ fn a_term_of_every_kind(rt: HostRuntime) -> Result<(), Fail> {
     let year = office(&rt, alloc, &[(YEAR_ROWS, YEAR_LINES), (ADJUSTED, NOTED)])?;
     let image = year.image();
     assert_sheet(&rt, alloc, image, "payments 110 2025 1", 0, FIRST_PAYMENTS)?;
-    assert_sheet(
+    assert_sealed(
         &rt,
         alloc,
         image,
         "upto 17 withdrawal 120 5001 2025 2",
-        0,
         OWED_RETURN,
+        SEAL_17,
     )
 }
 
@@ -92,22 +134,22 @@ fn a_return_that_was_sent_back(rt: HostRuntime) -> Result<(), Fail> {
     let alloc = rt.alloc();
     let year = office(&rt, alloc, &[(YEAR_ROWS, YEAR_LINES), (SENT, ALL_NOTED)])?;
     let image = year.image();
-    assert_sheet(&rt, alloc, image, "student 5001", 0, SENT_LEDGER)?;
-    assert_sheet(
+    assert_sealed(&rt, alloc, image, "student 5001", SENT_LEDGER, SENT_SEAL_21)?;
+    assert_sealed(
         &rt,
         alloc,
         image,
         "upto 19 withdrawal 120 5001 2025 2",
-        0,
         SENT_RETURN,
+        SENT_SEAL_19,
     )?;
-    assert_sheet(
+    assert_sealed(
         &rt,
         alloc,
         image,
         "upto 18 withdrawal 120 5001 2025 2",
-        0,
         RETURN,
+        SEAL_18,
     )?;
     assert_sheet(&rt, alloc, image, "upto 19 due 2026-03-22 120", 0, DUE)?;
     assert_sheet(&rt, alloc, image, "upto 19 due 2026-03-23 120", 0, LATE)?;
@@ -119,8 +161,9 @@ fn a_return_that_was_sent_back(rt: HostRuntime) -> Result<(), Fail> {
 fn other_formulas(rt: HostRuntime) -> Result<(), Fail> {
     let alloc = rt.alloc();
     let year = office(&rt, alloc, &[(YEAR_ROWS, YEAR_LINES), (APPLIED, ANSWERED)])?;
-    assert_sheet(&rt, alloc, year.image(), "need 5002 2025", 0, SINGLE)?;
-    assert_sheet(&rt, alloc, year.image(), "need 5003 2025", 0, FAMILY)
+    let image = year.image();
+    assert_sealed(&rt, alloc, image, "need 5002 2025", SINGLE, APPLIED_SEAL)?;
+    assert_sealed(&rt, alloc, image, "need 5003 2025", FAMILY, APPLIED_SEAL)
 }
 
 #[test]
@@ -128,27 +171,42 @@ fn names_that_are_on_no_file(rt: HostRuntime) -> Result<(), Fail> {
     let alloc = rt.alloc();
     let year = office(&rt, alloc, &[(YEAR_ROWS, YEAR_LINES)])?;
     for line in [
-        "student 77",
-        "need 77 2025",
-        "need 5001 2026",
         "quotes 110 2025 3",
         "payments 110 2025 2",
         "payments 120 2026 2",
         "upto 15 payments 120 2025 2",
-        "withdrawal 110 5001 2025 1",
-        "withdrawal 120 5001 2025 1",
-        "upto 16 withdrawal 120 5001 2025 2",
-        "upto 7 need 5001 2025",
         "due 2026-03-23 110",
         "upto 16 due 2026-03-23 120",
         "returns 110 2025",
         "returns 120 2026",
         "upto 19 list",
+        "upto 19 report seal",
+        "upto 19 book show 2025",
         "upto 4294967295 list",
     ] {
         assert_sheet(&rt, alloc, year.image(), line, 0, "none\n")?;
     }
-    assert_sheet(&rt, alloc, EMPTY, "list", 0, "rows 0\n")
+    for (line, seal) in [
+        ("student 77", SEAL_18),
+        ("need 77 2025", SEAL_18),
+        ("need 5001 2026", SEAL_18),
+        ("withdrawal 110 5001 2025 1", SEAL_18),
+        ("withdrawal 120 5001 2025 1", SEAL_18),
+        ("upto 16 withdrawal 120 5001 2025 2", SEAL_16),
+        ("upto 7 need 5001 2025", SEAL_7),
+    ] {
+        assert_sealed(&rt, alloc, year.image(), line, "none\n", seal)?;
+    }
+    assert_sealed(
+        &rt,
+        alloc,
+        year.image(),
+        "book show 2026",
+        "none\n# ",
+        SEAL_18,
+    )?;
+    assert_sealed(&rt, alloc, EMPTY, "list", "rows 0\n", SEAL_0)?;
+    assert_sealed(&rt, alloc, EMPTY, "report seals", SEAL_0, "rows 1\n")
 }
 
 #[test]
@@ -176,12 +234,42 @@ fn words_and_files_that_are_none(rt: HostRuntime) -> Result<(), Fail> {
         "due 2026-03-23 0",
         "returns 120",
         "returns 2025 120",
+        "book 2025",
+        "book show",
+        "book show 1999",
+        "book shown 2025",
+        "report seal 2025",
+        "report seals 2025",
         "found",
     ] {
         assert_sheet(&rt, alloc, EMPTY, line, 2, "fault usage\n")?;
     }
     assert_sheet(&rt, alloc, b"", "list", 6, "fault no office\n")
 }
+
+// The seals of the worked year and of its fronts, by Python's hashlib over the records of the journal.
+const SEAL_0: &str = "sealed 0 092a3fdaeae11550f37fdfa66bd29ffd4929e9e0bd89325534e400ffeb7ac1c0\n";
+
+const SEAL_7: &str = "sealed 7 6bbd205ebbd33084e9737cf4df681aeb5c22b8f253be9d47425e855397d14adf\n";
+
+const SEAL_16: &str =
+    "sealed 16 1da258f2d6c92b89154763495608ed563c4179bacc8d3490bf1ed5b90cb10139\n";
+
+const SEAL_17: &str =
+    "sealed 17 5b2ce25bd673b0a50c89acc913e0e2d6b1a94d2f57d33109008eaa05d560a740\n";
+
+const SEAL_18: &str =
+    "sealed 18 d35f528348bad3e0a53647fb2b439ef3cc00f1ff4cc9a8ec584b01e6313d9ba9\n";
+
+// Those of the year with what was sent back, and with two more applications.
+const SENT_SEAL_19: &str =
+    "sealed 19 1b652754d21df13a3a349c25db85ab04ccb53a1896998e2afdf814896dbdb49c\n";
+
+const SENT_SEAL_21: &str =
+    "sealed 21 e4ea41d05e952802465c62c704fa922246f510814fb66acb11d6e82b763a3ade\n";
+
+const APPLIED_SEAL: &str =
+    "sealed 20 85eb2f930b35cfeb2e0fc09cea29a5959320ac8291f3e82ebd42d07bf6aadbc0\n";
 
 // Applications of a student without dependents, and of one with a dependent.
 const APPLIED: &str = "\

@@ -1,13 +1,13 @@
 // Texts of which no clause tells that they succeed, over offices in memory: each kind of report, of line and of figure once.
-use crate::sheets::{assert_sheet, office_with};
+use crate::sheets::{assert_sealed, office_with};
 use io_memory::MemoryDisk;
 use specimen::{BOOK_TEXT, YEAR_LINES, YEAR_ROWS};
 use std::alloc::Global;
 use std::process::Abort;
 use std::test::Fail;
 
-// The words of a run that is done, and its text.
-type Text = (&'static str, &'static str);
+// The words of a run that is done, its text, and the line of a seal behind it, if there is one.
+type Text = (&'static str, &'static str, &'static str);
 
 fn assert_texts(
     rt: &impl Abort,
@@ -15,8 +15,8 @@ fn assert_texts(
     office: &MemoryDisk,
     texts: &[Text],
 ) -> Result<(), Fail> {
-    for &(words, text) in texts {
-        assert_sheet(rt, alloc, office.image(), words, 0, text)?;
+    for &(words, text, seal) in texts {
+        assert_sealed(rt, alloc, office.image(), words, text, seal)?;
     }
     Ok(())
 }
@@ -59,24 +59,37 @@ fn two_grants(rt: HostRuntime) -> Result<(), Fail> {
 }
 
 const OF_A_YEAR: [Text; 7] = [
-    ("report standing 2025", STANDING),
-    ("report awards 2025", AWARDS),
-    ("report returns 2025", RETURNS),
-    ("report lifetime", LIFETIME),
-    ("report stamps", STAMPS),
-    ("report export 2025", EXPORT),
-    ("student 5001", LEDGER),
+    ("report standing 2025", STANDING, ""),
+    ("report awards 2025", AWARDS, ""),
+    ("report returns 2025", RETURNS, ""),
+    ("report lifetime", LIFETIME, ""),
+    ("report stamps", STAMPS, ""),
+    ("report export 2025", EXPORT, ""),
+    ("student 5001", LEDGER, ADJUSTED_SEAL),
 ];
 
 const OF_A_CLERK: [Text; 3] = [
-    ("list", LIST),
-    ("student 5001", PRIOR_LEDGER),
-    ("report stamps", CLERKS),
+    ("list", LIST, CLERK_SEAL),
+    ("student 5001", PRIOR_LEDGER, CLERK_SEAL),
+    ("report stamps", CLERKS, ""),
 ];
 
-const OF_A_CEILING: [Text; 1] = [("need 5004 2025", NEED)];
+const OF_A_CEILING: [Text; 1] = [("need 5004 2025", NEED, CEILING_SEAL)];
 
-const OF_TWO_GRANTS: [Text; 1] = [("withdrawal 110 5001 2025 1", RETURN)];
+const OF_TWO_GRANTS: [Text; 1] = [("withdrawal 110 5001 2025 1", RETURN, GRANTS_SEAL)];
+
+// Their seals, by Python's hashlib over the records of the journals.
+const ADJUSTED_SEAL: &str =
+    "sealed 19 130f593cb196d7532b4b0cb5d55812744131abd7dd1574a4697529f6cd0b9e30\n";
+
+const CLERK_SEAL: &str =
+    "sealed 3 212ac82642f1bf311c770dfa642a832e4ef4b6ea391c0454fb221d7b6fff12ee\n";
+
+const CEILING_SEAL: &str =
+    "sealed 3 0bcf60605cf632f971409f01cfda9c2f587f1951963fcef3cd9bd1c7b95ff9f2\n";
+
+const GRANTS_SEAL: &str =
+    "sealed 9 1857cc2ad971fd4d611d7810e8e1a4198fe28f7869b2de54a7b09307f5f629c0\n";
 
 // An adjustment of a loan.
 const ADJUSTED: &str = "\

@@ -13,7 +13,7 @@ use Rattle.run_builds.specs.declared.ending.ChangesEnd.{ChangesEnd}
 use Rattle.run_builds.specs.declared.ending.ChangesEnd.TheVariants.{Old, New, NoMemory, Told}
 use Rattle.run_builds.specs.declared.ending.SourceFault.{SourceFault}
 
--- A comparison up to what it writes: how it ended, and the text that tells what differs. Each journal is read whole, the old one first.
+-- A comparison up to what it writes: how it ended, and the text that tells what differs. Where it is told, each journal was read whole.
 pub data Compares {A B : Type 0} (one : Ghosts A) (other : Ghosts B) (old : A) (new : B) : ChangesEnd → List ℕ → Type 0 where
   old_refused : (fault : SourceFault) → (IsHonest (one.tells old) → RefusesList (one.tells old).reads fault) → Compares one other old new (Old fault) []
   new_refused : (past : List (StampedEntry Filing)) (fault : SourceFault) → HasStamped one past old → (IsHonest (other.tells new) → RefusesList (other.tells new).reads fault)

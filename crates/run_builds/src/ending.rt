@@ -70,7 +70,7 @@ pub enum AmendEnd {
 /// How a comparison ended, before its text was written.
 #[derive(Clone, Copy, PartialEq, Eq)]
 pub enum ChangesEnd {
-    /// The old journal gave no list. The new one had no call.
+    /// The old journal gave no list.
     Old(SourceFault),
     /// The new journal gave no list.
     New(SourceFault),

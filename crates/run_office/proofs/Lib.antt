@@ -1,12 +1,13 @@
 pub mod Admitting
 pub mod AtOnce
-pub mod Copying
-pub mod Replies
 pub mod Awarding
 pub mod Checking
 pub mod Complete
+pub mod Copying
 pub mod Headline
 pub mod Images
 pub mod Keeps
-pub mod Shown
+pub mod Replies
 pub mod RowWords
+pub mod SealedReports
+pub mod Shown

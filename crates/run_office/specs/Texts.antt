@@ -3,6 +3,7 @@ use Rattle.std.specs.Prelude.{ℕ, List, reverse}
 use Rattle.aid_filings.specs.declared.filing.Filing.{Filing}
 use Rattle.office_export.specs.Exports.{export_text}
 use Rattle.office_reports.specs.Reports.{award_report, lifetime_report, return_report, stamp_report, standing_report}
+use Rattle.office_reports.specs.Seals.{seal_report, seals_report}
 use Rattle.run_generate.specs.declared.tally.YearTally.{YearTally}
 use Rattle.run_words.specs.declared.command.ReportRequest.{ReportRequest}
 use Rattle.run_words.specs.declared.command.ReportRequest.TheVariants as reports
@@ -16,6 +17,8 @@ report_text (reports.Awards of) past = award_report (entries past) of.year
 report_text (reports.Returns of) past = return_report (entries past) of.year
 report_text reports.Lifetime past = lifetime_report (entries past)
 report_text reports.Stamps past = stamp_report (reverse (stamps_of past))
+report_text reports.Seal past = seal_report (entries past) (stamps_of past)
+report_text reports.Seals past = seals_report (entries past) (stamps_of past)
 report_text (reports.Export of) past = export_text (entries past) of.year
 
 -- the tally of no verdicts

@@ -1,7 +1,9 @@
 // A report that is asked for.
 use log_session::Report;
 use office_log::StampedOfficeMachine;
-use office_reports::{awards, export, lifetimes, returns, stamp_lines, standings};
+use office_reports::{
+    awards, export, lifetimes, returns, seal_line, seal_lines, stamp_lines, standings,
+};
 use run_words::ReportRequest;
 use std::alloc::{AllocError, Global};
 
@@ -24,6 +26,8 @@ impl Report<StampedOfficeMachine> for OfficeReport {
             ReportRequest::Returns(of) => returns(alloc, office, of.year),
             ReportRequest::Lifetime => lifetimes(alloc, office),
             ReportRequest::Stamps => stamp_lines(alloc, machine.stamps()),
+            ReportRequest::Seal => seal_line(alloc, office.filings(), machine.stamps()),
+            ReportRequest::Seals => seal_lines(alloc, office.filings(), machine.stamps()),
             ReportRequest::Export(of) => export(alloc, office, of.year),
         }
     }

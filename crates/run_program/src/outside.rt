@@ -1,6 +1,6 @@
 //! What a plan names is opened, its task is performed, and the program ends. Of the real outside nothing is promised here.
 ghost use Rattle.std.specs.Prelude.{◌≡◌, IfOk, length, map, string_bytes};
-ghost use Rattle.run_program.specs.Requests.{TakesRequest};
+ghost use Rattle.run_program.specs.Requests.{IsOfSheet, TakesRequest};
 
 use crate::calls::perform;
 use crate::task::{KnownPolicies, Task};
@@ -196,7 +196,7 @@ fn office_task<'a, H>(
     }
 }
 
-// The task of an amendment: its stamp and its number are those that the words say.
+// The task of an amendment: its stamp and its number are those that the words say. Other words have none.
 fn amend_task<'a, H>(
     rt: &HostRuntime,
     disk: HostDisk,
@@ -219,7 +219,9 @@ fn sheet_task<'a, H>(
     rt: &HostRuntime,
     path: &str,
     words: &[String],
-) -> Result<HostTask<'a, H>, NotOpened> {
+) -> Result<HostTask<'a, H>, NotOpened>
+    ensures { IfOk result (IsOfSheet (map string_bytes words.now)) }
+{
     let new = open_to_read(rt, "the journal", path)?;
     match changes_file(words) {
         Some(from) => Ok(Task::Changes {

@@ -14,6 +14,8 @@ usage: aid_office JOURNAL found
        aid_office JOURNAL report returns YEAR
        aid_office JOURNAL report lifetime
        aid_office JOURNAL report stamps
+       aid_office JOURNAL report seal
+       aid_office JOURNAL report seals
        aid_office JOURNAL report export YEAR
        aid_office JOURNAL fund SCHOOL YEAR TERM AMOUNT POLICY NUMBER
        aid_office JOURNAL generate SEED STUDENTS < BOOK.toml
@@ -50,6 +52,7 @@ usage: aid_office sheet JOURNAL list
        aid_office sheet JOURNAL withdrawal SCHOOL STUDENT YEAR TERM
        aid_office sheet JOURNAL due DAY SCHOOL
        aid_office sheet JOURNAL returns SCHOOL YEAR
+       aid_office sheet JOURNAL book show YEAR
        aid_office sheet JOURNAL changes OLD-JOURNAL
        aid_office sheet JOURNAL report .. (the reports of aid_office)
        aid_office sheet JOURNAL upto POSITION .. (any but changes, of the first so many filings)";

@@ -1,4 +1,5 @@
 mod Firsts
+mod Noted
 mod Ran
 mod RowLemmas
 mod RunningTotals

@@ -13,6 +13,7 @@ use Rattle.run_words.specs.Words.{ReadsReport}
 use Rattle.run_words.specs.declared.command.ReportRequest.{ReportRequest}
 use Rattle.run_words.proofs.WordsLemmas.{same_report}
 use Rattle.run_sheets.specs.Words.{ReadsDay, ReadsPosition, ReadsRequest, ReadsRow, ReadsTerm, request_words, sheet_words, term_words, upto_words}
+use Rattle.run_sheets.specs.declared.request.BookRequest.{BookRequest}
 use Rattle.run_sheets.specs.declared.request.DueRequest.{DueRequest}
 use Rattle.run_sheets.specs.declared.request.NeedRequest.{NeedRequest}
 use Rattle.run_sheets.specs.declared.request.Position.{Position}
@@ -82,6 +83,12 @@ same_returns x y school year =
     let years = same_number x.year y.year (omega (arith, x.in_range)) (omega (arith, y.in_range)) year in
     same_with_fact P make (λ b. hlevel (le_prop)) (x.school, x.year) (y.school, y.year) x.in_range y.in_range (λ i. (schools i, years i))
 
+same_book : (x y : BookRequest) → decimal x.year ≡ decimal y.year → x ≡ y
+same_book x y e =
+    let P : ℕ → Type 0 = λ n. IsBetween 2000 2099 n in
+    let make : (n : ℕ) → P n → BookRequest = λ n p. record { year = n; in_range = p } in
+    same_with_fact P make (λ n. hlevel (le_prop)) x.year y.year x.in_range y.in_range (same_number x.year y.year (omega (arith, x.in_range)) (omega (arith, y.in_range)) e)
+
 -- words that begin with other letters are others
 abbrev first_letter : List (List ℕ) → ℕ
 first_letter words = get_or (get_or words 0 []) 0 0
@@ -128,6 +135,7 @@ same_request (sheets.Returns x) (sheets.Returns y) e =
     let school : decimal x.school ≡ decimal y.school = cc in
     let year : decimal x.year ≡ decimal y.year = cc in
     ap sheets.Returns (same_returns x y school year)
+same_request (sheets.Book x) (sheets.Book y) e = let year : decimal x.year ≡ decimal y.year = cc in ap sheets.Book (same_book x y year)
 same_request (sheets.Report x) (sheets.Report y) e = ap sheets.Report (same_report x y cc)
 same_request sheets.List (sheets.Student y) e = apart (request_words sheets.List) (request_words (sheets.Student y)) e (λ is. omega (arith, is))
 same_request sheets.List (sheets.Need y) e = apart (request_words sheets.List) (request_words (sheets.Need y)) e (λ is. omega (arith, is))
@@ -201,6 +209,24 @@ same_request (sheets.Report x) (sheets.Payments y) e = apart (request_words (she
 same_request (sheets.Report x) (sheets.Withdrawal y) e = apart (request_words (sheets.Report x)) (request_words (sheets.Withdrawal y)) e (λ is. omega (arith, is))
 same_request (sheets.Report x) (sheets.Due y) e = apart (request_words (sheets.Report x)) (request_words (sheets.Due y)) e (λ is. omega (arith, is))
 same_request (sheets.Report x) (sheets.Returns y) e = apart_third (request_words (sheets.Report x)) (request_words (sheets.Returns y)) e (λ is. omega (arith, is))
+same_request sheets.List (sheets.Book y) e = apart (request_words sheets.List) (request_words (sheets.Book y)) e (λ is. omega (arith, is))
+same_request (sheets.Student x) (sheets.Book y) e = apart (request_words (sheets.Student x)) (request_words (sheets.Book y)) e (λ is. omega (arith, is))
+same_request (sheets.Need x) (sheets.Book y) e = apart (request_words (sheets.Need x)) (request_words (sheets.Book y)) e (λ is. omega (arith, is))
+same_request (sheets.Quotes x) (sheets.Book y) e = apart (request_words (sheets.Quotes x)) (request_words (sheets.Book y)) e (λ is. omega (arith, is))
+same_request (sheets.Payments x) (sheets.Book y) e = apart (request_words (sheets.Payments x)) (request_words (sheets.Book y)) e (λ is. omega (arith, is))
+same_request (sheets.Withdrawal x) (sheets.Book y) e = apart (request_words (sheets.Withdrawal x)) (request_words (sheets.Book y)) e (λ is. omega (arith, is))
+same_request (sheets.Due x) (sheets.Book y) e = apart (request_words (sheets.Due x)) (request_words (sheets.Book y)) e (λ is. omega (arith, is))
+same_request (sheets.Returns x) (sheets.Book y) e = apart (request_words (sheets.Returns x)) (request_words (sheets.Book y)) e (λ is. omega (arith, is))
+same_request (sheets.Report x) (sheets.Book y) e = apart (request_words (sheets.Report x)) (request_words (sheets.Book y)) e (λ is. omega (arith, is))
+same_request (sheets.Book x) sheets.List e = apart (request_words (sheets.Book x)) (request_words sheets.List) e (λ is. omega (arith, is))
+same_request (sheets.Book x) (sheets.Student y) e = apart (request_words (sheets.Book x)) (request_words (sheets.Student y)) e (λ is. omega (arith, is))
+same_request (sheets.Book x) (sheets.Need y) e = apart (request_words (sheets.Book x)) (request_words (sheets.Need y)) e (λ is. omega (arith, is))
+same_request (sheets.Book x) (sheets.Quotes y) e = apart (request_words (sheets.Book x)) (request_words (sheets.Quotes y)) e (λ is. omega (arith, is))
+same_request (sheets.Book x) (sheets.Payments y) e = apart (request_words (sheets.Book x)) (request_words (sheets.Payments y)) e (λ is. omega (arith, is))
+same_request (sheets.Book x) (sheets.Withdrawal y) e = apart (request_words (sheets.Book x)) (request_words (sheets.Withdrawal y)) e (λ is. omega (arith, is))
+same_request (sheets.Book x) (sheets.Due y) e = apart (request_words (sheets.Book x)) (request_words (sheets.Due y)) e (λ is. omega (arith, is))
+same_request (sheets.Book x) (sheets.Returns y) e = apart (request_words (sheets.Book x)) (request_words (sheets.Returns y)) e (λ is. omega (arith, is))
+same_request (sheets.Book x) (sheets.Report y) e = apart (request_words (sheets.Book x)) (request_words (sheets.Report y)) e (λ is. omega (arith, is))
 
 -- the words of a request are read as it
 pub reads_request : (words : List (List ℕ)) (r : SheetRequest) → words ≡ request_words r → ReadsRequest words (Some r)
@@ -226,6 +252,7 @@ reads_no_quotes words reads r = (λ same. absurd cc, λ told. absurd (none r tol
     none (sheets.Withdrawal of) told = apart (codes "quotes" ∷ words) (request_words (sheets.Withdrawal of)) told (λ is. omega (arith, is))
     none (sheets.Due of) told = apart (codes "quotes" ∷ words) (request_words (sheets.Due of)) told (λ is. omega (arith, is))
     none (sheets.Returns of) told = apart (codes "quotes" ∷ words) (request_words (sheets.Returns of)) told (λ is. omega (arith, is))
+    none (sheets.Book of) told = apart (codes "quotes" ∷ words) (request_words (sheets.Book of)) told (λ is. omega (arith, is))
     none (sheets.Report of) told = apart (codes "quotes" ∷ words) (request_words (sheets.Report of)) told (λ is. omega (arith, is))
 
 -- payments behind theirs
@@ -244,6 +271,7 @@ reads_no_payments words reads r = (λ same. absurd cc, λ told. absurd (none r t
     none (sheets.Withdrawal of) told = apart (codes "payments" ∷ words) (request_words (sheets.Withdrawal of)) told (λ is. omega (arith, is))
     none (sheets.Due of) told = apart (codes "payments" ∷ words) (request_words (sheets.Due of)) told (λ is. omega (arith, is))
     none (sheets.Returns of) told = apart (codes "payments" ∷ words) (request_words (sheets.Returns of)) told (λ is. omega (arith, is))
+    none (sheets.Book of) told = apart (codes "payments" ∷ words) (request_words (sheets.Book of)) told (λ is. omega (arith, is))
     none (sheets.Report of) told = apart (codes "payments" ∷ words) (request_words (sheets.Report of)) told (λ is. omega (arith, is))
 
 -- a report behind its name
@@ -262,6 +290,7 @@ reads_no_report words reads r = (λ same. absurd cc, λ told. absurd (none r tol
     none (sheets.Withdrawal of) told = apart (codes "report" ∷ words) (request_words (sheets.Withdrawal of)) told (λ is. omega (arith, is))
     none (sheets.Due of) told = apart (codes "report" ∷ words) (request_words (sheets.Due of)) told (λ is. omega (arith, is))
     none (sheets.Returns of) told = apart_third (codes "report" ∷ words) (request_words (sheets.Returns of)) told (λ is. omega (arith, is))
+    none (sheets.Book of) told = apart (codes "report" ∷ words) (request_words (sheets.Book of)) told (λ is. omega (arith, is))
     none (sheets.Report of) told = let bad : None ≡ Some of = (reads of).1 cc in cc
 
 -- a text that is read as a day, and one that is read as none
@@ -292,6 +321,7 @@ not_upto r rest e = letters r (ap (λ (words : List (List ℕ)). get_or (get_or 
     letters (sheets.Withdrawal of) is = omega (arith, is)
     letters (sheets.Due of) is = omega (arith, is)
     letters (sheets.Returns of) is = omega (arith, is)
+    letters (sheets.Book of) is = omega (arith, is)
     letters (sheets.Report report) is = omega (arith, is)
 
 -- words are those of one position at most
@@ -343,6 +373,7 @@ no_words = no_row [] none
     none None (sheets.Withdrawal of) told = cc
     none None (sheets.Due of) told = cc
     none None (sheets.Returns of) told = cc
+    none None (sheets.Book of) told = cc
     none None (sheets.Report report) told = cc
     none (Some n) r told = cc
 

@@ -1,4 +1,5 @@
 pub mod Runs
+pub mod SealLaws
 pub mod Texts
 pub mod Totals
 pub mod Words

@@ -1,7 +1,8 @@
 -- The text of a sheet. Own.
-use Rattle.std.specs.Prelude.{ℕ, ◌-◌, nat_le, List, Option, Some, None, codes, drop, if◌then◌else◌, length, reverse}
+use Rattle.std.specs.Prelude.{ℕ, ◌-◌, ◌++◌, nat_le, List, Option, Some, None, codes, drop, if◌then◌else◌, length, reverse}
 use Rattle.aid_filings.specs.declared.filing.Filing.{Filing}
 use Rattle.office_reports.specs.Reports.{award_report, lifetime_report, return_report, stamp_report, standing_report}
+use Rattle.office_reports.specs.Seals.{seal_report, seals_report}
 use Rattle.office_sheets.specs.Ledgers.{student_sheet}
 use Rattle.office_sheets.specs.Lists.{list_sheet}
 use Rattle.sheet_need.specs.Need.{need_sheet}
@@ -11,6 +12,7 @@ use Rattle.office_export.specs.Exports.{export_text}
 use Rattle.sheet_r2t4.specs.ReturnSheet.{return_sheet}
 use Rattle.sheet_returns.specs.Due.{due_sheet}
 use Rattle.sheet_returns.specs.Returns.{returns_sheet}
+use Rattle.sheet_review.specs.BookSheet.{book_sheet}
 use Rattle.run_words.specs.declared.command.ReportRequest.{ReportRequest}
 use Rattle.run_words.specs.declared.command.ReportRequest.TheVariants as reports
 use Rattle.log_stamps.specs.Entries.{entries, stamps_of}
@@ -28,18 +30,22 @@ report_on (reports.Awards of) past stamps = award_report past of.year
 report_on (reports.Returns of) past stamps = return_report past of.year
 report_on reports.Lifetime past stamps = lifetime_report past
 report_on reports.Stamps past stamps = stamp_report (reverse stamps)
+report_on reports.Seal past stamps = seal_report past stamps
+report_on reports.Seals past stamps = seals_report past stamps
 report_on (reports.Export of) past stamps = export_text past of.year
 
--- the text of a request on them
+-- the text of a request on them; the line of the seal stands behind what is shown to people, of a book as a comment, and not behind
+-- CSV and reports, which scripts read
 abbrev pub sheet_on : SheetRequest → List Filing → List Stamp → List ℕ
-sheet_on sheets.List past stamps = list_sheet past stamps
-sheet_on (sheets.Student of) past stamps = student_sheet of.student past stamps
-sheet_on (sheets.Need of) past stamps = need_sheet past of.student of.year
+sheet_on sheets.List past stamps = list_sheet past stamps ++ seal_report past stamps
+sheet_on (sheets.Student of) past stamps = student_sheet of.student past stamps ++ seal_report past stamps
+sheet_on (sheets.Need of) past stamps = need_sheet past of.student of.year ++ seal_report past stamps
 sheet_on (sheets.Quotes of) past stamps = quotes_sheet past of.school of.year of.term
 sheet_on (sheets.Payments of) past stamps = payments_sheet of.school of.year of.term past stamps
-sheet_on (sheets.Withdrawal of) past stamps = return_sheet past of.school of.student of.year of.term
+sheet_on (sheets.Withdrawal of) past stamps = return_sheet past of.school of.student of.year of.term ++ seal_report past stamps
 sheet_on (sheets.Due of) past stamps = due_sheet of.day of.school past
 sheet_on (sheets.Returns of) past stamps = returns_sheet of.school of.year past
+sheet_on (sheets.Book of) past stamps = book_sheet past (reverse stamps) of.year ++ codes "# " ++ seal_report past stamps
 sheet_on (sheets.Report report) past stamps = report_on report past stamps
 
 -- the text of a request on a list

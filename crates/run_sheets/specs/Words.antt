@@ -13,7 +13,7 @@ abbrev pub term_words : TermRequest → List (List ℕ)
 term_words of = decimal of.school ∷ decimal of.year ∷ decimal of.term ∷ []
 
 -- the words of a request: `list`, `student STUDENT`, `need STUDENT YEAR`, `quotes SCHOOL YEAR TERM`, `payments SCHOOL YEAR TERM`,
--- `withdrawal SCHOOL STUDENT YEAR TERM`, `due DAY SCHOOL`, `returns SCHOOL YEAR`, or a report as the aid office has it
+-- `withdrawal SCHOOL STUDENT YEAR TERM`, `due DAY SCHOOL`, `returns SCHOOL YEAR`, `book show YEAR`, or a report as the aid office has it
 abbrev pub request_words : SheetRequest → List (List ℕ)
 request_words sheets.List = codes "list" ∷ []
 request_words (sheets.Student of) = codes "student" ∷ decimal of.student ∷ []
@@ -23,6 +23,7 @@ request_words (sheets.Payments of) = codes "payments" ∷ term_words of
 request_words (sheets.Withdrawal of) = codes "withdrawal" ∷ decimal of.school ∷ decimal of.student ∷ decimal of.year ∷ decimal of.term ∷ []
 request_words (sheets.Due of) = codes "due" ∷ day_text of.day ∷ decimal of.school ∷ []
 request_words (sheets.Returns of) = codes "returns" ∷ decimal of.school ∷ decimal of.year ∷ []
+request_words (sheets.Book of) = codes "book" ∷ codes "show" ∷ decimal of.year ∷ []
 request_words (sheets.Report report) = codes "report" ∷ report_words report
 
 -- the words in front of it, where the list is taken up to a position: `upto POSITION`

@@ -7,7 +7,7 @@ mod run;
 mod sheet;
 mod words;
 
-pub use laws::payments_add_up;
-pub use request::{NeedRequest, Position, SheetRequest, SheetRow, StudentRequest};
+pub use laws::{a_noted_front_stands, one_seal_one_list, payments_add_up, seal_of_the_journal};
+pub use request::{BookRequest, NeedRequest, Position, SheetRequest, SheetRow, StudentRequest};
 pub use run::run_sheets;
 pub use words::row_of;

@@ -55,6 +55,13 @@ pub struct ReturnsRequest {
     pub ghost in_range: { IsBetween 1 999999 school × IsBetween 2000 2099 year },
 }
 
+/// The award year whose book is asked for: 2000 to 2099.
+#[derive(Clone, Copy)]
+pub struct BookRequest {
+    pub year: Year,
+    pub ghost in_range: { IsBetween 2000 2099 year },
+}
+
 /// The sheet that is asked for.
 #[derive(Clone, Copy)]
 pub enum SheetRequest {
@@ -74,6 +81,8 @@ pub enum SheetRequest {
     Due(DueRequest),
     /// `returns SCHOOL YEAR`: what came of the returns of a school's year.
     Returns(ReturnsRequest),
+    /// `book show YEAR`: the year's book on file, as the text that files it.
+    Book(BookRequest),
     /// `report standing YEAR`, and the other reports of the aid office.
     Report(ReportRequest),
 }

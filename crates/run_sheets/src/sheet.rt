@@ -1,5 +1,6 @@
 //! A sheet that is asked for, as a text of the office.
-ghost use Rattle.std.specs.Prelude.{◌≡◌, ◌-◌, ◌≤◌, IfOk, drop, length, reverse};
+ghost use Rattle.std.specs.Prelude.{◌≡◌, ◌-◌, ◌++◌, ◌≤◌, IfOk, drop, length, reverse};
+ghost use Rattle.office_reports.specs.Seals.{seal_report};
 ghost use Rattle.run_sheets.specs.Texts.{report_on, sheet_on};
 
 use crate::request::{SheetRequest, SheetRow};
@@ -7,12 +8,15 @@ use aid_stamps::Stamp;
 use log_session::Report;
 use office_index::Office;
 use office_log::StampedOfficeMachine;
-use office_reports::{awards, export, lifetimes, returns, stamp_lines, standings};
+use office_reports::{
+    awards, export, lifetimes, returns, seal_line, seal_lines, stamp_lines, standings,
+};
 use office_sheets::{front_of, list, none_text, payments, quotes, student};
 use run_words::ReportRequest;
 use sheet_need::need;
 use sheet_r2t4::withdrawal;
 use sheet_returns::due;
+use sheet_review::book;
 use std::alloc::{AllocError, Global};
 
 /// The sheet of a row, as a text of the office.
@@ -70,18 +74,45 @@ fn sheet(
     ensures { IfOk result (λ text. text.items ≡ sheet_on request office.now.history (reverse stamps.now)) }
 {
     match request {
-        SheetRequest::List => list(alloc, office, stamps),
-        SheetRequest::Student(of) => student(alloc, office, stamps, of.student),
-        SheetRequest::Need(of) => need(alloc, office, of.student, of.year),
+        SheetRequest::List => sealed(list(alloc, office, stamps)?, alloc, office, stamps),
+        SheetRequest::Student(of) => {
+            let text = student(alloc, office, stamps, of.student)?;
+            sealed(text, alloc, office, stamps)
+        }
+        SheetRequest::Need(of) => {
+            let text = need(alloc, office, of.student, of.year)?;
+            sealed(text, alloc, office, stamps)
+        }
         SheetRequest::Quotes(of) => quotes(alloc, office, of.school, of.year, of.term),
         SheetRequest::Payments(of) => payments(alloc, office, stamps, of.school, of.year, of.term),
         SheetRequest::Withdrawal(of) => {
-            withdrawal(alloc, office, of.school, of.student, of.year, of.term)
+            let text = withdrawal(alloc, office, of.school, of.student, of.year, of.term)?;
+            sealed(text, alloc, office, stamps)
         }
         SheetRequest::Due(of) => due(alloc, office, of.day, of.school),
         SheetRequest::Returns(of) => sheet_returns::returns(alloc, office, of.school, of.year),
+        SheetRequest::Book(of) => {
+            let mut text = book(alloc, office, stamps, of.year)?;
+            text.extend_from_slice(b"# ")?;
+            sealed(text, alloc, office, stamps)
+        }
         SheetRequest::Report(request) => report(alloc, request, office, stamps),
     }
+}
+
+// A text, and behind it the line of the seal of the list that it shows.
+fn sealed(
+    mut text: Vec<u8>,
+    alloc: Global,
+    office: &Office,
+    stamps: &[Stamp],
+) -> Result<Vec<u8>, AllocError>
+    requires { length stamps.now ≡ length office.now.history }
+    ensures { IfOk result (λ sheet. sheet.items ≡ text.items ++ seal_report office.now.history (reverse stamps.now)) }
+{
+    let line = seal_line(alloc, office.filings(), stamps)?;
+    text.extend_from_slice(line.as_slice())?;
+    Ok(text)
 }
 
 // A report on an office.
@@ -91,6 +122,7 @@ fn report(
     office: &Office,
     stamps: &[Stamp],
 ) -> Result<Vec<u8>, AllocError>
+    requires { length stamps.now ≡ length office.now.history }
     ensures { IfOk result (λ text. text.items ≡ report_on request office.now.history (reverse stamps.now)) }
 {
     match request {
@@ -99,6 +131,8 @@ fn report(
         ReportRequest::Returns(of) => returns(alloc, office, of.year),
         ReportRequest::Lifetime => lifetimes(alloc, office),
         ReportRequest::Stamps => stamp_lines(alloc, stamps),
+        ReportRequest::Seal => seal_line(alloc, office.filings(), stamps),
+        ReportRequest::Seals => seal_lines(alloc, office.filings(), stamps),
         ReportRequest::Export(of) => export(alloc, office, of.year),
     }
 }

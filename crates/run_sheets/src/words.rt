@@ -4,8 +4,8 @@ ghost use Rattle.run_words.specs.Words.{ReadsReport};
 ghost use Rattle.run_sheets.specs.Words.{ReadsDay, ReadsPosition, ReadsRequest, ReadsRow, ReadsTerm};
 
 use crate::request::{
-    DueRequest, NeedRequest, Position, ReturnsRequest, SheetRequest, SheetRow, StudentRequest,
-    TermRequest, WithdrawalRequest,
+    BookRequest, DueRequest, NeedRequest, Position, ReturnsRequest, SheetRequest, SheetRow,
+    StudentRequest, TermRequest, WithdrawalRequest,
 };
 use aid_types::{Day, School, Student, Year};
 use law_terms::read_day;
@@ -147,7 +147,7 @@ fn last_request(name: &str, behind: &[String]) -> Option<SheetRequest>
     }
 }
 
-// And of those of returns, which are left at last.
+// And of those of returns.
 fn request_of_returns(name: &str, behind: &[String]) -> Option<SheetRequest>
     requires not_list { name.now ≢ codes "list" }
     requires not_student { name.now ≢ codes "student" }
@@ -162,6 +162,26 @@ fn request_of_returns(name: &str, behind: &[String]) -> Option<SheetRequest>
         read_due(behind)
     } else if is_same_word(name, "returns") {
         read_returns(behind)
+    } else {
+        request_of_book(name, behind)
+    }
+}
+
+// And of that of the book, which is left at last.
+fn request_of_book(name: &str, behind: &[String]) -> Option<SheetRequest>
+    requires not_list { name.now ≢ codes "list" }
+    requires not_student { name.now ≢ codes "student" }
+    requires not_need { name.now ≢ codes "need" }
+    requires not_quotes { name.now ≢ codes "quotes" }
+    requires not_payments { name.now ≢ codes "payments" }
+    requires not_withdrawal { name.now ≢ codes "withdrawal" }
+    requires not_report { name.now ≢ codes "report" }
+    requires not_due { name.now ≢ codes "due" }
+    requires not_returns { name.now ≢ codes "returns" }
+    ensures { ReadsRequest (name.now ∷ map string_bytes behind.now) result }
+{
+    if is_same_word(name, "book") {
+        read_book(behind)
     } else {
         None
     }
@@ -361,6 +381,32 @@ fn returns_request(school: &str, year: &str) -> Option<SheetRequest>
     }))
 }
 
+// The year's book.
+fn read_book(behind: &[String]) -> Option<SheetRequest>
+    ensures { ReadsRequest (codes "book" ∷ map string_bytes behind.now) result }
+{
+    let (word, year) = two_words(behind)?;
+    book_request(word, year)
+}
+
+fn book_request(word: &str, year: &str) -> Option<SheetRequest>
+    ensures { ReadsRequest (codes "book" ∷ word.now ∷ year.now ∷ []) result }
+{
+    if is_same_word(word, "show") {
+        show_request(year)
+    } else {
+        None
+    }
+}
+
+fn show_request(year: &str) -> Option<SheetRequest>
+    ensures { ReadsRequest (codes "book" ∷ codes "show" ∷ year.now ∷ []) result }
+{
+    Some(SheetRequest::Book(BookRequest {
+        year: Year(number_in(year, 2000, 2099)? as u16),
+    }))
+}
+
 // A report of the aid office.
 fn read_report(behind: &[String]) -> Option<SheetRequest>
     ensures { ReadsRequest (codes "report" ∷ map string_bytes behind.now) result }
@@ -398,6 +444,10 @@ fn report_alone(report: &str) -> Option<ReportRequest>
         Some(ReportRequest::Lifetime)
     } else if is_same_word(report, "stamps") {
         Some(ReportRequest::Stamps)
+    } else if is_same_word(report, "seal") {
+        Some(ReportRequest::Seal)
+    } else if is_same_word(report, "seals") {
+        Some(ReportRequest::Seals)
     } else {
         None
     }

@@ -14,7 +14,7 @@ use Rattle.run_words.specs.declared.command.Command.TheVariants.{Found, File, Bo
 use Rattle.run_words.specs.declared.command.GenerateRequest.{GenerateRequest}
 use Rattle.run_words.specs.declared.command.QuoteRequest.{QuoteRequest}
 use Rattle.run_words.specs.declared.command.ReportRequest.{ReportRequest}
-use Rattle.run_words.specs.declared.command.ReportRequest.TheVariants.{Standing, Awards, Returns, Lifetime, Stamps, Export}
+use Rattle.run_words.specs.declared.command.ReportRequest.TheVariants.{Standing, Awards, Returns, Lifetime, Stamps, Seal, Seals, Export}
 use Rattle.run_words.specs.declared.command.ReportYear.{ReportYear}
 use Rattle.run_words.proofs.ClapLemmas.{plain_tail}
 use Rattle.run_words.proofs.DeskWords.{all_map}
@@ -81,9 +81,21 @@ same_report (Awards x) (Awards y) e = let year : decimal x.year ≡ decimal y.ye
 same_report (Returns x) (Returns y) e = let year : decimal x.year ≡ decimal y.year = cc in ap Returns (same_year x y year)
 same_report Lifetime Lifetime e = refl
 same_report Stamps Stamps e = refl
+same_report Seal Seal e = refl
+same_report Seals Seals e = refl
 same_report (Export x) (Export y) e = let year : decimal x.year ≡ decimal y.year = cc in ap Export (same_year x y year)
 same_report (Standing x) Stamps e = absurd cc
+same_report (Standing x) Seal e = absurd cc
+same_report (Standing x) Seals e = absurd cc
 same_report Stamps (Standing y) e = absurd cc
+same_report Stamps Seal e = absurd cc
+same_report Stamps Seals e = absurd cc
+same_report Seal (Standing y) e = absurd cc
+same_report Seal Stamps e = absurd cc
+same_report Seal Seals e = absurd cc
+same_report Seals (Standing y) e = absurd cc
+same_report Seals Stamps e = absurd cc
+same_report Seals Seal e = absurd cc
 same_report x y e = first_letters (report_words x) (report_words y) e (λ is. omega (arith, is))
 
 rows_book : {A : Type 0} (names : List (List ℕ)) → words_of names CheckRows ≡ words_of names CheckBook → A

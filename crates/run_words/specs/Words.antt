@@ -10,7 +10,7 @@ use Rattle.run_words.specs.declared.command.FundRequest.{FundRequest}
 use Rattle.run_words.specs.declared.command.GenerateRequest.{GenerateRequest}
 use Rattle.run_words.specs.declared.command.QuoteRequest.{QuoteRequest}
 use Rattle.run_words.specs.declared.command.ReportRequest.{ReportRequest}
-use Rattle.run_words.specs.declared.command.ReportRequest.TheVariants.{Standing, Awards, Returns, Lifetime, Stamps, Export}
+use Rattle.run_words.specs.declared.command.ReportRequest.TheVariants.{Standing, Awards, Returns, Lifetime, Stamps, Seal, Seals, Export}
 use Rattle.run_words.specs.declared.command.ReportYear.{ReportYear}
 use Rattle.run_words.specs.declared.command.MainRow.{MainRow}
 use Rattle.run_words.specs.declared.command.MainRow.TheVariants.{Serve}
@@ -26,6 +26,8 @@ report_words (Awards of) = codes "awards" ∷ decimal of.year ∷ []
 report_words (Returns of) = codes "returns" ∷ decimal of.year ∷ []
 report_words Lifetime = codes "lifetime" ∷ []
 report_words Stamps = codes "stamps" ∷ []
+report_words Seal = codes "seal" ∷ []
+report_words Seals = codes "seals" ∷ []
 report_words (Export of) = codes "export" ∷ decimal of.year ∷ []
 
 -- the numbers of a generated year: SEED STUDENTS

@@ -41,8 +41,12 @@ pub enum ReportRequest {
     Returns(ReportYear),
     /// `lifetime`: the lifetime units of each student who used some.
     Lifetime,
-    /// `aid_stamps`: the stamp of each filing.
+    /// `stamps`: the stamp of each filing.
     Stamps,
+    /// `seal`: the seal of all filings and stamps.
+    Seal,
+    /// `seals`: the seal of each front of the list.
+    Seals,
     /// `export YEAR`: all filings, and where each student with an application in the year stands.
     Export(ReportYear),
 }
@@ -81,7 +85,7 @@ pub enum Command {
     /// `quote SCHOOL STUDENT YEAR TERM`: to say the greatest Pell payment that the office would take.
     Quote(QuoteRequest),
     /// `report standing YEAR`, `report awards YEAR`, `report returns YEAR`, `report lifetime`, `report stamps`,
-    /// `report export YEAR`: to write a report on the office.
+    /// `report seal`, `report seals`, `report export YEAR`: to write a report on the office.
     Report(ReportRequest),
     /// `fund SCHOOL YEAR TERM AMOUNT POLICY NUMBER`: to file the awards of a round.
     Fund(FundRequest),

@@ -221,6 +221,26 @@ fn read_report_of(
     } else if is_same_word(report, "stamps") {
         read_stamps(alloc, behind)
     } else {
+        read_seal_or_yearly(alloc, report, behind)
+    }
+}
+
+// The same of the names that are left.
+fn read_seal_or_yearly(
+    alloc: Global,
+    report: &str,
+    behind: &[String],
+) -> Result<Option<ReportRequest>, AllocError>
+    requires plain { ArePlain (map string_bytes behind.now) }
+    requires not_lifetime { report.now ≢ codes "lifetime" }
+    requires not_stamps { report.now ≢ codes "stamps" }
+    ensures { IfOk result (ReadsReport (report.now ∷ map string_bytes behind.now)) }
+{
+    if is_same_word(report, "seal") {
+        read_seal(alloc, behind)
+    } else if is_same_word(report, "seals") {
+        read_seals(alloc, behind)
+    } else {
         read_yearly(alloc, report, behind)
     }
 }
@@ -249,6 +269,30 @@ fn read_stamps(alloc: Global, behind: &[String]) -> Result<Option<ReportRequest>
     }
 }
 
+// The report of the seal.
+fn read_seal(alloc: Global, behind: &[String]) -> Result<Option<ReportRequest>, AllocError>
+    requires { ArePlain (map string_bytes behind.now) }
+    ensures { IfOk result (ReadsReport (codes "seal" ∷ map string_bytes behind.now)) }
+{
+    if is_alone(alloc, "seal", behind)? {
+        Ok(Some(ReportRequest::Seal))
+    } else {
+        Ok(None)
+    }
+}
+
+// The report of the seals of all fronts.
+fn read_seals(alloc: Global, behind: &[String]) -> Result<Option<ReportRequest>, AllocError>
+    requires { ArePlain (map string_bytes behind.now) }
+    ensures { IfOk result (ReadsReport (codes "seals" ∷ map string_bytes behind.now)) }
+{
+    if is_alone(alloc, "seals", behind)? {
+        Ok(Some(ReportRequest::Seals))
+    } else {
+        Ok(None)
+    }
+}
+
 // A report of a year.
 fn read_yearly(
     alloc: Global,
@@ -258,6 +302,8 @@ fn read_yearly(
     requires plain { ArePlain (map string_bytes behind.now) }
     requires not_lifetime { report.now ≢ codes "lifetime" }
     requires not_stamps { report.now ≢ codes "stamps" }
+    requires not_seal { report.now ≢ codes "seal" }
+    requires not_seals { report.now ≢ codes "seals" }
     ensures { IfOk result (ReadsReport (report.now ∷ map string_bytes behind.now)) }
 {
     match number_behind(alloc, report, behind)? {

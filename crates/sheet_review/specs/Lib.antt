@@ -1,0 +1,2 @@
+pub mod BookText
+pub mod BookSheet
