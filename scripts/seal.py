@@ -12,11 +12,11 @@ import hashlib
 import re
 import sys
 
-HEAD = 16
+HEAD, VERSION = 16, (2).to_bytes(4, "little")
 
 
 class Cut(Exception):
-    """A gate behind which no whole record stands: its place."""
+    """A gate that is neither open nor closed, or behind which no whole record stands: its place."""
 
 
 def seals(data):
@@ -29,7 +29,7 @@ def seals(data):
             raise Cut(at)
         seal, at = hashlib.sha256(seal + length + record).digest(), at + 5 + len(record)
         yield seal
-    if at >= len(data):
+    if at >= len(data) or data[at] != 0:
         raise Cut(at)
 
 
@@ -50,6 +50,8 @@ def run(words):
         refuse(f"{ascii(words[0])} can't be read: {error.strerror}", 5)
     if len(data) <= HEAD or data[0] != 1:
         refuse(f"{ascii(words[0])} is no journal", 6)
+    if data[9:13] != VERSION:
+        refuse(f"{ascii(words[0])} is of another version than 2, and seals cover stamps, which only that one has", 6)
     lines = []
     try:
         for count, seal in enumerate(seals(data)):
