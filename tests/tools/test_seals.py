@@ -17,7 +17,7 @@ class Lines(unittest.TestCase):
     def test_lines(self):
         for line in [LINE, LINE.replace("18", "0"), LINE.replace("18", "1000000")]:
             self.assertTrue(seals.is_line(line), line)
-        for line in ["", "sealed 18", LINE[:-1], f"{LINE}0", f"{LINE}\n", f" {LINE}", LINE.replace("18", "018"), LINE.replace("18", "+1"), LINE.replace("18", ""), LINE.replace("d3", "D3"), LINE.replace("18", "\u0661")]:
+        for line in ["", "sealed 18", LINE[:-1], f"{LINE}0", f"{LINE}\n", f" {LINE}", LINE.replace("18", "018"), LINE.replace("18", "+1"), LINE.replace("18", ""), LINE.replace("f5", "F5"), LINE.replace("18", "\u0661")]:
             self.assertFalse(seals.is_line(line), line)
 
     def test_without(self):
