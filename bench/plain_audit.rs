@@ -1,8 +1,8 @@
 // An auditor in plain Rust: it judges each filing of an export on the list of those before it, which it reads afresh, and
-// compares each standing and the end line. Breaks, repayments and what else the office over maps leaves out are none, and the
-// figures of a book aren't judged.
+// compares each standing and the counts of the end line. Breaks, repayments and what else the office over maps leaves out are none,
+// and the figures of a book aren't judged. A stamp's day and name, and the seal, which std has no hash for, are taken as they stand.
 //
-// usage: plain_audit < EXPORT      prints `yes FILINGS STANDINGS`, or `no LINE` with the first bad line
+// usage: plain_audit < EXPORT      prints `yes FILINGS STANDINGS SEAL`, or `no LINE` with the first bad line
 
 mod plain;
 
@@ -13,6 +13,8 @@ use plain::spelling;
 use std::io::{self, Read};
 
 const MOST_FILINGS: usize = 20_000;
+// The bytes of a stamp's day, behind which the length of its name stands.
+const DAY: usize = 4;
 const MOST_CENTS: u64 = 99_999_999;
 const MOST_DOLLARS: i32 = 99_999_999;
 const MOST_NUMBER: u64 = 999_999_999_999;
@@ -27,6 +29,7 @@ struct Auditor {
     filings: Vec<Filing>,
     standings: usize,
     last: u64,
+    seal: String,
     ended: bool,
 }
 
@@ -42,7 +45,10 @@ impl Auditor {
         if line.starts_with(b"standing ") {
             return self.take_standing(line).is_some();
         }
-        self.ended = line == format!("end {} {}\n", self.filings.len(), self.standings).as_bytes();
+        let counts = format!("end {} {} ", self.filings.len(), self.standings);
+        let seal = line.strip_prefix(counts.as_bytes()).and_then(|rest| rest.strip_suffix(b"\n"));
+        self.ended = seal.is_some_and(|seal| seal.len() == 64 && seal.iter().all(|sign| digit(*sign).is_some()));
+        self.seal = String::from_utf8_lossy(seal.unwrap_or_default()).into_owned();
         self.ended
     }
 
@@ -50,7 +56,9 @@ impl Auditor {
         if self.standings > 0 || self.filings.len() == MOST_FILINGS {
             return None;
         }
-        let filing = spelling::take(&bytes_of(digits.strip_suffix(b"\n")?)?)?;
+        let payload = bytes_of(digits.strip_suffix(b"\n")?)?;
+        let name = usize::from(*payload.get(DAY)?);
+        let filing = spelling::take(payload.get(DAY + 1 + name..)?)?;
         if !is_in_range(&filing) || !Past(&self.filings).admits(&filing) {
             return None;
         }
@@ -184,9 +192,9 @@ fn main() -> io::Result<()> {
     io::stdin().read_to_end(&mut text)?;
     let mut auditor = Auditor::default();
     let all_good = text.split_inclusive(|byte| *byte == b'\n').all(|line| auditor.take(line));
-    let Auditor { filings, standings, ended, .. } = auditor;
+    let Auditor { filings, standings, ended, seal, .. } = auditor;
     if all_good && ended {
-        println!("yes {} {standings}", filings.len());
+        println!("yes {} {standings} {seal}", filings.len());
     } else {
         println!("no {}", filings.len() + standings + usize::from(ended) + 1);
     }

@@ -29,7 +29,7 @@ LAYERS = [
     ("Any log", "log_"),
     ("Connections", "web_"),
     ("Commands", "run_"),
-    ("Other desks, and the auditor", "loans work_ clock_hours audit"),
+    ("Other desks, and the auditor", "loans work_ clock_hours desk_sheets audit"),
     ("The program", PROGRAM),
     ("Tests, planted bugs and benches", TESTS),
 ]

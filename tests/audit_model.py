@@ -1,5 +1,6 @@
-"""An auditor in plain Python: what the lines of an export say, what is found in a text, and the answers to rows of clock-hour
-programs, written apart from the proved code. The law is that of tests/model.py."""
+"""An auditor in plain Python: what the lines of an export say, what is found in a text, by itself or held against a note of a seal, and the
+answers to rows of clock-hour programs, written apart from the proved code. The law is that of tests/model.py, the seal is hashlib's."""
+import hashlib
 import os
 import re
 import sys
@@ -12,7 +13,9 @@ import desk
 import model
 import records
 
-MOST_FILINGS = 20_000
+# How many filings are judged, without the index of an office and by it; and how many bytes of an input are read.
+MOST_FILINGS, MOST_OF_WHOLE = 20_000, 1_000_000
+MOST_BYTES, MOST_BYTES_OF_WHOLE = 2**24, 2**30
 WHOLE = rb"0|-?[1-9][0-9]*"
 AMOUNT = rb"(0|[1-9][0-9]*)\.[0-9][0-9]"
 FILING = re.compile(rb"filing ((?:[0-9a-f][0-9a-f])*)\n")
@@ -20,7 +23,9 @@ STANDING = re.compile(
     rb"standing (%b) (%b) (%b) [ABC] (%b) (maximum|calculated|minimum|nothing) (%b) (%b) (%b)\n"
     % tuple(b"(?:%b)" % form for form in [WHOLE, WHOLE, WHOLE, WHOLE, WHOLE, AMOUNT, WHOLE])
 )
-END = re.compile(rb"end (?:%b) (?:%b)\n" % (WHOLE, WHOLE))
+END = re.compile(rb"end (?:%b) (?:%b) [0-9a-f]{64}\n" % (WHOLE, WHOLE))
+CLERK = re.compile(rb"(?:[A-Za-z0-9._][A-Za-z0-9._-]*)?")
+FIRST_DAY, LAST_DAY = date(1900, 1, 1), date(9999, 12, 31)
 CODES = {code: kind for kind, (code, _) in records.KINDS.items()}
 NAMES = {
     model.School: "school", model.Calendar: "calendar", model.PriorUse: "prior", model.Application: "apply", model.Enrolment: "enrol",
@@ -31,8 +36,38 @@ NAMES = {
 
 # The export
 
-def filing_line(filing):
-    return f"filing {records.payload_of_filing(filing).hex()}\n"
+def payload_of(filing, stamp=model.Stamp()):
+    """The bytes of a filing behind those of its stamp, as the journal has them."""
+    return records.stamp_bytes(stamp) + records.payload_of_filing(filing)
+
+
+def payload_line(payload):
+    return f"filing {payload.hex()}\n"
+
+
+def filing_line(filing, stamp=model.Stamp()):
+    return payload_line(payload_of(filing, stamp))
+
+
+class Chain:
+    """The seals of a list that grows, by the bytes of its records: the front one is that of none."""
+
+    def __init__(self, payloads=()):
+        self.seals = [hashlib.sha256(b"dalthyrm seal 1 AIDPELL1").digest()]
+        for payload in payloads:
+            self.take(payload)
+
+    def take(self, payload):
+        self.seals.append(hashlib.sha256(self.seals[-1] + len(payload).to_bytes(4, "little") + payload).digest())
+
+    def digits(self, count=-1):
+        """The digits of the seal of so many, or of all."""
+        return self.seals[count].hex()
+
+
+def seal_of(payloads):
+    """The digits of the seal of all of these records."""
+    return Chain(payloads).digits()
 
 
 def standing_line(history, student, year):
@@ -42,15 +77,20 @@ def standing_line(history, student, year):
     )
 
 
-def end_line(filings, standings):
-    return f"end {filings} {standings}\n"
+def end_line(filings, standings, seal):
+    return f"end {filings} {standings} {seal}\n"
 
 
-def export(history, year):
-    """What `report export YEAR` prints of a history."""
+def export(history, year, stamps=()):
+    """What `report export YEAR` prints of a history; the last filings may have no stamp noted."""
     students = [student for student, _ in model.standing_report(history, year)]
-    lines = [filing_line(filing) for filing in history] + [standing_line(history, student, year) for student in students]
-    return "".join(lines) + end_line(len(history), len(students))
+    payloads = records.payloads_of_office(history, stamps)
+    lines = [payload_line(payload) for payload in payloads] + [standing_line(history, student, year) for student in students]
+    return "".join(lines) + end_line(len(history), len(students), seal_of(payloads))
+
+
+def line_of_yes(filings, standings, seal):
+    return f"yes {filings} {standings} {seal}\n"
 
 
 # A filing's bytes
@@ -99,6 +139,18 @@ def filing_of_payload(data):
     row = [NAMES[kind], *map(text_of, desk.KEY + readers, numbers)]
     filing = desk.filing_of(row)
     return None if isinstance(filing, desk.RowError) else filing
+
+
+def stamped_of_payload(data):
+    """The stamp and the filing whose one payload this is, if there are such."""
+    if len(data) < 5 or len(data) < 5 + data[4] or data[4] > 32 or not CLERK.fullmatch(data[5:5 + data[4]]):
+        return None
+    try:
+        day = date(1970, 1, 1) + timedelta(int.from_bytes(data[:4], "little", signed=True))
+    except OverflowError:
+        return None
+    filing = filing_of_payload(data[5 + data[4]:]) if FIRST_DAY <= day <= LAST_DAY else None
+    return (model.Stamp(day, data[5:5 + data[4]].decode()), filing) if filing else None
 
 
 class Short(Exception):
@@ -186,12 +238,15 @@ def fault_of(read, number):
 # The audit
 
 class Auditor:
-    """The good lines so far: the filings, the students whose standing was told, and whether the end line was there."""
+    """The good lines so far: the filings, the seals of their fronts, the students whose standing was told, and whether the end line was
+    there. Some filings may be known to be good."""
 
-    def __init__(self, history=()):
-        self.history = list(history)
+    def __init__(self, known=(), most=MOST_FILINGS):
+        self.history = [filing for _, filing in known]
+        self.chain = Chain(bytes.fromhex(line.split()[1].decode()) for line, _ in known)
         self.students = []
         self.ended = False
+        self.most = most
 
     def cause_of(self, line):
         """Takes a line, or tells the first cause that it is bad."""
@@ -207,17 +262,17 @@ class Auditor:
             if line.decode() != standing_line(self.history, student, year) or self.students and student <= self.students[-1]:
                 return 5
             self.students.append(student)
-        elif line.decode() != end_line(len(self.history), len(self.students)):
+        elif line.decode() != end_line(len(self.history), len(self.students), self.chain.digits()):
             return 6
         else:
             self.ended = True
         return 0
 
     def cause_of_filing(self, data):
-        """The same of a filing's bytes."""
-        if len(self.history) == MOST_FILINGS:
+        """The same of the bytes of a filing under its stamp."""
+        if len(self.history) == self.most:
             return 8
-        filing = filing_of_payload(data)
+        _, filing = stamped_of_payload(data) or (None, None)
         if filing is None:
             return 2
         if any((earlier.school, earlier.number) == (filing.school, filing.number) for earlier in self.history):
@@ -225,7 +280,17 @@ class Auditor:
         if model.first_broken(self.history, filing):
             return 4
         self.history.append(filing)
+        self.chain.take(data)
         return 0
+
+    def cause_of_note(self, note):
+        """What is told of a text that is good to its end, by a note: a count and the digits of a seal, or none."""
+        if note is None:
+            return 0
+        count, digits = note
+        if count > len(self.history):
+            return 10
+        return 9 if self.chain.digits(count) != digits else 0
 
 
 def lines_of(text):
@@ -233,18 +298,22 @@ def lines_of(text):
     return re.findall(rb"[^\n]*\n|[^\n]+", text)
 
 
-def audit(text, known=()):
-    """What `audit` prints of a text. `known` are filings of which it is known that the first lines have them, and that they are legal."""
+def audit(text, known=(), note=None, most=MOST_FILINGS):
+    """What `audit` prints of a text, which is held against a note where there is one; with the other limit, what `audit whole` does. `known`
+    are the lines of filings, each with its filing, of which it is known that they are good in this order."""
     lines = lines_of(text)
     same = 0
     while same < min(len(known), len(lines)) and lines[same] == known[same][0]:
         same += 1
-    auditor = Auditor(filing for _, filing in known[:same])
+    auditor = Auditor(known[:same], most)
     for number, line in enumerate(lines[same:], same + 1):
         cause = auditor.cause_of(line)
         if cause:
             return f"no {number} {cause}\n"
-    return f"yes {len(auditor.history)} {len(auditor.students)}\n" if auditor.ended else f"no {len(lines) + 1} 7\n"
+    if not auditor.ended:
+        return f"no {len(lines) + 1} 7\n"
+    cause = auditor.cause_of_note(note)
+    return f"no {len(lines)} {cause}\n" if cause else line_of_yes(len(auditor.history), len(auditor.students), auditor.chain.digits())
 
 
 # Clock hours

@@ -338,7 +338,7 @@ class Desk:
         stamps`, `report seal` and `report seals` print."""
         if which == "export":
             import audit_model  # which stands on this module
-            return audit_model.export(self.history, year)
+            return audit_model.export(self.history, year, self.stamps)
         if which in ("seal", "seals"):
             import records  # which stands on this module
             lines = records.seal_lines(records.payloads_of_office(self.history, self.stamps))

@@ -3,6 +3,7 @@ proved code. Behind those of `SEALED` stands the seal (`sealed`)."""
 from dataclasses import dataclass, fields
 from datetime import date, timedelta
 
+import audit_model
 import desk
 import model
 import records
@@ -14,7 +15,7 @@ KINDS = {
 }
 
 # The sheets behind which the seal of the filings stands.
-SEALED = ("list", "student", "need", "withdrawal", "book")
+SEALED = ("list", "student", "need", "withdrawal", "review", "book")
 
 
 def outcomes(history):
@@ -81,10 +82,15 @@ TABLES = ("business", "age", "bracket")
 
 
 def book_sheet(history, stamps, year):
-    """What `book show` prints of the year's book, up to the comment of its seal."""
+    """What `book show` prints of the year's book, up to the line of its seal, which is a comment."""
+    return book_part(history, stamps, year) + "# "
+
+
+def book_part(history, stamps, year):
+    """The figures of the year's book, and where it stands."""
     found = next(((at, filing) for at, filing in enumerate(history) if isinstance(filing, model.Book) and filing.book.year == year), None)
     if not found:
-        return "none\n# "
+        return "none\n"
     at, filing = found
     figures = [(field.name, getattr(filing.book, field.name)) for field in fields(filing.book)]
     numbers = iter([number for name, value in figures for number in ([len(value)] if name in TABLES else []) + records.flat(value)])
@@ -96,16 +102,21 @@ def book_sheet(history, stamps, year):
             lines += ["", f"[[{section}]]" if section in TABLES else f"[{section}]"]
             lines += [f"{key} = {[next(numbers) for _ in range(LISTS[key])] if key in LISTS else next(numbers)}" for key in keys.split()]
     lines += ["", f"# book at {at + 1}, {stamps[at].day.isoformat()} {clerk(stamps[at])}"]
-    return "".join(f"{line}\n" for line in lines) + "# "
+    return "".join(f"{line}\n" for line in lines)
+
+
+def list_lines(history, stamps):
+    """A line for each filing."""
+    told = zip(history, stamps, outcomes(history))
+    return [
+        f"{position} {stamp.day.isoformat()} {clerk(stamp)} {row(filing)} {desk.outcome_text(outcome)}"
+        for position, (filing, stamp, outcome) in enumerate(told, 1)
+    ]
 
 
 def list_sheet(history, stamps):
     """What `list` prints."""
-    told = zip(history, stamps, outcomes(history))
-    return table([
-        f"{position} {stamp.day.isoformat()} {clerk(stamp)} {row(filing)} {desk.outcome_text(outcome)}"
-        for position, (filing, stamp, outcome) in enumerate(told, 1)
-    ])
+    return table(list_lines(history, stamps))
 
 
 def front_of_line(position, stamp, filing, year, term, word):
@@ -552,3 +563,19 @@ def need_sheet(history, student, year):
         f"application at {history.index(application) + 1}, transaction {application.transaction}; year book at {book_at}\n",
         lines, "award\n", award_lines(book, application, raw),
     ])
+
+
+# What whoever reviews a student reads
+
+def review_sheet(history, stamps, student, year):
+    """What `review STUDENT YEAR` prints: the lines of the list of the student's applications in the year, the year's book, and further parts
+    as their sheets have them, each withdrawal in the order of filing; then the line of an export where the student stands."""
+    about = lambda kind: [at for at, filing in enumerate(history) if isinstance(filing, kind) and (filing.student, filing.year) == (student, year)]
+    lines, withdrawn = list_lines(history, stamps), [history[at] for at in about(model.Withdrawal)]
+    parts = [
+        ("Applications", "".join(f"{lines[at]}\n" for at in about(model.Application))), ("Year book", book_part(history, stamps, year)),
+        ("Need", need_sheet(history, student, year)), ("Ledger", student_sheet(history, stamps, student)),
+        *(("Withdrawal", withdrawal_sheet(history, filing.school, student, year, filing.term)) for filing in withdrawn),
+        ("Standing", audit_model.standing_line(history, student, year)),
+    ]
+    return "".join(f"== {title}\n{text}" for title, text in parts)

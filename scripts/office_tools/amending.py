@@ -9,6 +9,9 @@ from .say import AMENDED, refuse, say_known
 
 WANTS_STAMP = "amend wants the day and the clerk who corrects: office JOURNAL at DAY CLERK amend NEW NUMBER < CORRECTIONS.csv"
 
+# The digits of the stamp of nobody, 1970-01-01 and no name, in front of those of a filing in an export.
+STAMP_DIGITS = 10
+
 # The line in front of a fault of the older journal.
 IN_OLD = b"in the old journal\n"
 
@@ -104,4 +107,4 @@ def book_row(words):
             office.hand_on(text)
             return 1
     digits = copies.text_of(text).split(b"\n", 1)[0].split(b" ")[1]
-    return office.write(b"replace,%s,%s,digits,%s\n" % (reason.encode(), reference.encode(), digits))
+    return office.write(b"replace,%s,%s,digits,%s\n" % (reason.encode(), reference.encode(), digits[STAMP_DIGITS:]))

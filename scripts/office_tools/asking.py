@@ -2,10 +2,11 @@
 import os
 import re
 
-from . import TOP, book_line, copies, explain, running
+from . import TOP, book_line, copies, explain, running, seals
 from .office import Office
-from .program import AUDIT
-from .say import AUDITED, say, say_known
+from .program import AUDIT, CLOCK
+from .say import AUDITED, MOST_OF_ROWS, MOST_OF_WHOLE, MOST_READ, refuse, say, say_known
+from .words import number
 
 EXAMPLES = os.path.join(TOP, "examples")
 
@@ -96,11 +97,59 @@ def check(words):
     return judged(line, (0,), rb"^1 fine$", book_line.where)
 
 
-def audit(word):
-    """The auditor, which has no journal: an export is checked, or rows of clock-hour programs are answered. 1 where an export isn't right."""
-    if word == AUDIT:
-        status = judged([word], (), rb"^yes ")
-    else:
-        status = running.run([word], (), given=running.INPUT)
-    say_known(AUDITED, status)
+COUNT = number("N", 0, 4_294_967_295)
+DIGITS = re.compile("[0-9a-f]{64}", re.ASCII)
+USAGE = "office audit [whole] [N HEX|NOTES] < EXPORT"
+
+
+def hint(line, whole, note):
+    """What is said of a text that is none for its size alone, or by the note that it is held against."""
+    cause = line.split()[-1] if line.startswith(b"no ") else b""
+    if cause == b"9" and note[0] == "0":
+        return "the note has another seal of no filing than an aid office has"
+    if cause == b"9":
+        return f"the first {note[0]} filings aren't those of which the note was taken, or stand in another order or under other stamps"
+    if cause == b"10":
+        return f"the export has fewer filings than the {note[0]} of the note"
+    return "audit takes 20,000 filings: audit whole takes as many as an office has" if cause == b"8" and not whole else ""
+
+
+def note_in(words):
+    """The count and the digits of a note that the words say, or that is the last one of a file; none where they say nothing."""
+    if not words:
+        return []
+    if len(words) > 2:
+        refuse(f"audit: `{words[2]}` is one word too many: {USAGE}", 2)
+    if len(words) == 1 and words[0].isdecimal():
+        refuse(f"audit wants HEX behind N, 64 digits in lower case; write ./{words[0]} for a file of that name: {USAGE}", 2)
+    if len(words) == 1:
+        return last_note(words[0])
+    count, digits = words
+    if COUNT.wrong(count):
+        refuse(f"audit: `{count}` is {COUNT.wrong(count)}; N is {COUNT.says}: {USAGE}", 2)
+    if not DIGITS.fullmatch(digits):
+        refuse(f"audit: `{digits}` is no seal; HEX is 64 digits in lower case: {USAGE}", 2)
+    return words
+
+
+def last_note(path):
+    """The words of the last note of a file, which names the most filings where notes are taken one behind the other."""
+    if path.startswith("-") or not os.path.isfile(path):
+        refuse(f"there is no file {path}: audit takes N HEX, or a file of notes, behind it: {USAGE}", 2)
+    return seals.notes_of(path)[-1].split()[1:]
+
+
+def audit(words):
+    """The auditor, which has no journal: an export is checked, by itself or held against a note. 1 where it isn't right."""
+    whole = words[:1] == ["whole"]
+    note = note_in(words[whole:])
+    status = judged([AUDIT, *["whole"] * whole, *note], (), rb"^yes ", lambda line: hint(line, whole, note))
+    say_known(AUDITED, status, most=MOST_OF_WHOLE if whole else MOST_READ)
+    return status
+
+
+def clock():
+    """Rows of clock-hour programs, which have no journal, are answered."""
+    status = running.run([CLOCK], (), given=running.INPUT)
+    say_known(AUDITED, status, most=MOST_OF_ROWS)
     return status

@@ -71,6 +71,10 @@ ROWS, FILES, BOOK = path("ROWS.csv"), path("ROWS.csv", most=16), path("BOOK.toml
 A_WORD = lambda word: ""        # nothing is wrong with any
 A_COPY, A_NEW, A_COPY_OR_NOTES = Argument("COPY", "a file", A_WORD), Argument("NEW", "a new file", A_WORD), Argument("COPY|NOTES", "a file", A_WORD)
 PLACE, OF_TERM = (SCHOOL, STUDENT, YEAR, TERM), (SOME_SCHOOL, YEAR, TERM)
+EXPORT = (
+    Argument("whole", "of up to 1,000,000 filings and 1 GiB, by the index of the office", A_WORD, True),
+    Argument("N HEX|NOTES", "a note of a seal, N 0 to 4294967295 and HEX 64 digits in lower case, or a file of notes, of which the last one counts", A_WORD, True),
+)
 FUND = SCHOOL, YEAR, TERM, number("AMOUNT", 1, 99_999_999), choice("level", "quarter"), ROUND_NUMBER
 MADE_UP = number("SEED", 0, 999_999_999_999), number("STUDENTS", 1, 20_000)
 SERVER = number("PORT", 1, 65_535), number("WORKERS", 1, 16), number("SESSIONS", 1, 1_000_000)
@@ -137,6 +141,7 @@ ON_JOURNAL = [
     reading("list", (), "what was filed, each filing as a row", "list", sheet),
     reading("student", (STUDENT,), "all about one student", "student 5001", sheet),
     reading("need", (STUDENT, YEAR), "how an index and its award came about", "need 5001 2025", sheet),
+    reading("review", (STUDENT, YEAR), "all of a student's year, for whoever reviews it", "review 5001 2025", sheet),
     reading("quotes", OF_TERM, "what may be paid to each student of a term", "quotes 110 2025 1", sheet),
     reading("payments", OF_TERM, "what moved in a term", "payments 120 2025 2", sheet),
     reading("withdrawal", (SOME_SCHOOL, STUDENT, YEAR, TERM), "the worksheet of a withdrawal", "withdrawal 120 5001 2025 2", sheet),
@@ -158,10 +163,23 @@ ON_JOURNAL = [
     own("salvage", copies.salvage, (A_NEW,), "makes an office of what stands before damage", "salvage saved.journal"),
 ]
 
+
+def seals_of(desk):
+    """The commands that tell the seals of a desk's filings."""
+    told = [Command(f"report {which}", read, (), purpose, f"report {which}", desk=desk, copy=True) for which, purpose in SEALS.items()]
+    first = Argument("REPORT", "report seal or report seals", A_WORD, False, 2)
+    return [
+        *told,
+        Command("upto", read, (THEN[0], first), "either as it was then", "upto 3 report seal", desk=desk, copy=True),
+        Command("since", seals.since_of_desk, (Argument("NOTES", "a file", A_WORD),), "whether all that notes of seals name stands", "since notes.txt", copy=True),
+    ]
+
+
 OF_LOANS = [
     Command("found", copies.found, (), "founds a loan office there", "found", desk=LOANS),
     filing("file", (), "files rows", "file < examples/loans.csv", "ROWS.csv", LOANS),
     filing("desks", (FILES,), "files 1 to 16 files at once", "desks examples/loans.csv", desk=LOANS),
+    *seals_of(LOANS),
 ]
 OF_ROUND = choice("101", "102"), YEAR, ROUND_NUMBER
 OF_WORK = [
@@ -175,6 +193,7 @@ OF_WORK = [
         "dry round", approval.dry_round, OF_ROUND, "tries a round, on a copy", "dry round 101 2025 10 < examples/work-round.csv", "STUDENTS.csv",
         copy=True, flags=TABLE,
     ),
+    *seals_of(WORK),
 ]
 OTHER_DESKS = {LOANS: (OF_LOANS, "loan office", ""), WORK: (OF_WORK, "work-study office", ", a round under further numbers")}
 
@@ -214,16 +233,16 @@ TOOLS = [
         "QUOTES",
     ),
     Command("carry", tables.carry, (NUMBER,), "makes rows of prior use for the next office", "carry 100 < lifetime.txt", "LIFETIME"),
-    Command(AUDIT, lambda words: asking.audit(AUDIT), (), "checks an export (docs/AUDIT.md)", "audit < export.txt", "EXPORT"),
-    Command(CLOCK, lambda words: asking.audit(CLOCK), (), "answers rows of clock-hour programs", "clock < rows.csv", "ROWS.csv"),
-    Command(LOANS, None, (path("JOURNAL"), rest("COMMAND", "found, file or desks")), "the Direct Loan desk (docs/DESKS.md)", "loans loans.journal found"),
+    Command(AUDIT, asking.audit, EXPORT, "checks an export (docs/AUDIT.md)", "audit < export.txt", "EXPORT"),
+    Command(CLOCK, lambda words: asking.clock(), (), "answers rows of clock-hour programs", "clock < rows.csv", "ROWS.csv"),
+    Command(LOANS, None, (path("JOURNAL"), rest("COMMAND", "found, file, desks, report, upto or since")), "the Direct Loan desk (docs/DESKS.md)", "loans loans.journal found"),
     Command(WORK, None, (path("JOURNAL"), rest("COMMAND", "found, file, round or dry round")), "the work-study fund (docs/DESKS.md)", "work work.journal found"),
     Command("completion", guide.completion, (choice("bash", "zsh"),), "prints what completes these words in a shell", "completion bash > office.bash"),
     Command("man", guide.man, (), "prints this as a manual page", "man > office.1"),
     Command("install", installing.install, (path("PREFIX"),), "puts all of this under a folder, as PREFIX/bin/office", "install ~/.local"),
 ]
 # Tools that say themselves what is wrong with their words.
-JUDGE_THEMSELVES = ("lint", "rows", "show", "plot", "reconcile", "pay-rows", "carry")
+JUDGE_THEMSELVES = (AUDIT, "lint", "rows", "show", "plot", "reconcile", "pay-rows", "carry")
 
 
 def table_of(commands):

@@ -132,8 +132,17 @@ def run_on_copy(office, path, words):
     return tries(once), text
 
 
+def refuse_unread(path):
+    """Says why a file can't be read, where it can't."""
+    try:
+        open(path, "rb").close()
+    except OSError as error:
+        refuse(f"{path} can't be read: {error.strerror}: mend its rights, or those of its folder", 5)
+
+
 def refuse_copy(path):
-    """Says that no copy could be made."""
+    """Says that no copy could be made: the file can't be read, or there is no room."""
+    refuse_unread(path)
     refuse(f"{path} can't be copied to {Left.folder}: see to its room, or name another folder by TMPDIR", 5)
 
 
@@ -196,6 +205,7 @@ def backup(office, path):
 
     def once():
         if not copy_to(office.journal, part, flags.pop() if flags else os.O_TRUNC):
+            refuse_unread(office.journal)
             refuse(f"{part} can't be written: see to its folder and its room", 5)
         hurt = None if office.cut else journal.hurt_gate(part, office.journal)
         with open(text, "wb") as file:

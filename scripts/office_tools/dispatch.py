@@ -18,7 +18,7 @@ TRIALS = {
     "intake": before.try_intake, "file": before.try_rows, "desks": before.try_rows, "fund": approval.dry_fund, "need": what_if.dry_need,
     "amend": amending.try_amend,
 }
-SHEETS = ("list", "student", "need", "quotes", "payments", "withdrawal", "due", "returns", "book", "report")
+SHEETS = ("list", "student", "need", "review", "quotes", "payments", "withdrawal", "due", "returns", "book", "report")
 
 
 @dataclass

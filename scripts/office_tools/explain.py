@@ -199,7 +199,7 @@ class Explainer:
 FORMS = [
     (rf"^({NUMBER}) {NUMBER} refused ({NUMBER}) ({NUMBER}) ({NUMBER})$", Explainer.refusal),
     (rf"^({NUMBER}) error ({NUMBER}) ({NUMBER})$", Explainer.error), (r"^1 book ([1-6])(?: (.*)|$)", Explainer.book),
-    (rf"^no ({NUMBER}) ([1-8])$", Explainer.no), (r"^(fault .*)$", Explainer.fault),
+    (rf"^no ({NUMBER}) ([1-9]|10)$", Explainer.no), (r"^(fault .*)$", Explainer.fault),
 ]
 
 

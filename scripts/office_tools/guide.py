@@ -13,13 +13,13 @@ ON_A_COPY = [
     (("quote", "why"), "what may be paid, and why no more"),
     (("report standing", "report awards", "report returns", "report export", "report lifetime", "report stamps", "report seal", "report seals"), ""),
     (("csv standing", "csv awards", "csv returns", "csv lifetime", "csv stamps"), "as CSV"),
-    (("list", "student", "need", "quotes", "payments"), ""), (("withdrawal", "letter", "due", "book show"), ""),
-    (("returns", "upto"), "sheets; each as it was then"), (("next", "ids"), "a school's next number; the file of ids and names"), "backup",
-    (("since", "changes"), "whether all of it still stands; what differs"), "salvage",
+    (("list", "student", "need", "review", "book show"), ""), (("withdrawal", "letter", "quotes", "payments"), ""),
+    (("due", "returns"), "what is to be sent back, and was sent"), "upto", (("next", "ids"), "a school's next number; the file of ids and names"),
+    (("backup", "salvage"), "a copy that opens; one of what stands before damage"), (("since", "changes"), "whether all of it still stands; what differs"),
 ]
 ALONE = [
     "help", "check", "explain", "lint", "rows", (("show", "book-row"), ""), (("plot",), ""), "reconcile", (("pay-rows", "carry"), ""),
-    (("--version", "demo", "audit", "clock", "completion", "man"), ""), (("install", "loans", "work"), ""),
+    (("audit", "loans", "work"), ""), (("--version", "demo", "clock", "completion", "man", "install"), ""),
 ]
 FRONT = "in front of COMMAND: --lenient (0 for 1), --cut (KEEPING.md), --wait SECONDS"
 FOOT = """\
@@ -42,13 +42,13 @@ _office() {{
     local word=${{COMP_WORDS[COMP_CWORD]}} words=
     case $COMP_CWORD in
         1) words='{tools}' ;;
-        2) words='{commands}' ;;
+        2) case ${{COMP_WORDS[1]}} in audit) words=whole ;; *) words='{commands}' ;; esac ;;
         3) case ${{COMP_WORDS[2]}} in
 {cases}
         esac ;;
     esac
     COMPREPLY=($(compgen -W "$words" -- "$word"))
-    [ "$COMP_CWORD" = 2 ] || COMPREPLY+=($(compgen -f -- "$word"))
+    [ "$COMP_CWORD" = 2 ] && [ "${{COMP_WORDS[1]}}" != audit ] || COMPREPLY+=($(compgen -f -- "$word"))
 }}
 complete -o filenames -F _office office ./office""")
 IN_ZSH = Completing("        {}) compadd -- {} ;;", """\
@@ -56,12 +56,12 @@ IN_ZSH = Completing("        {}) compadd -- {} ;;", """\
 _office() {{
     case $CURRENT in
         2) compadd -- {tools} ;;
-        3) compadd -- {commands} ;;
+        3) case $words[2] in audit) compadd -- whole ;; *) compadd -- {commands} ;; esac ;;
         4) case $words[3] in
 {cases}
         esac ;;
     esac
-    [ "$CURRENT" = 3 ] || _files
+    [ "$CURRENT" = 3 ] && [ "$words[2]" != audit ] || _files
 }}
 compdef _office office ./office
 if [ "$funcstack[1]" = _office ]; then _office "$@"; fi""")

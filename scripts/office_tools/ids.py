@@ -17,10 +17,10 @@ COLUMNS = ("number", "id", "name")
 # An id has a sign that no number has, so that a cell can only be one of the two.
 ID = re.compile(r"(?=.*[^0-9])[A-Za-z0-9._-]{1,40}")
 MOST = 20           # sentences that are told
-SHEETS = ("list", "student", "need", "quotes", "payments", "withdrawal", "due", "returns", "upto")
+SHEETS = ("list", "student", "need", "review", "quotes", "payments", "withdrawal", "due", "returns", "upto")
 # The column of a report in which the student stands.
 REPORTS = {"standing": 0, "awards": 1, "returns": 1, "lifetime": 0}
-OF_ONE = ("student", "need", "withdrawal")      # sheets of one student
+OF_ONE = ("student", "need", "review", "withdrawal")      # sheets of one student
 # Kinds of filings that have no student behind the number.
 OTHER_KINDS = ("book", "school", "calendar", "amend")
 
@@ -163,13 +163,13 @@ def text_of(office, words):
 
 def show(office, words):
     """Prints a sheet or a report with ids and names."""
-    if words[:2] == ["report", "export"]:
+    behind = words[2:] if words[0] == "upto" else words
+    if behind[:2] == ["report", "export"]:
         refuse("an export has no names: it goes to an auditor as it is", 2)
     if words[:1] == ["csv"] and not 2 <= len(words) <= 3:
         refuse("usage: office JOURNAL csv REPORT [YEAR] --names", 2)
     known = needed(office.journal)
     lines = text_of(office, words).splitlines()
-    behind = words[2:] if words[0] == "upto" else words
     for line in named(behind[0], behind, lines, known):
         print(line)
     return 0

@@ -167,7 +167,8 @@ def page(sheet, known, school, student, year, term):
 def letter(office, school, student, year, term):
     """Prints the letter on a withdrawal."""
     known = ids.read(office.journal) if os.path.isfile(ids.path_of(office.journal)) else ids.Known()
-    sheet = Worksheet(seals.without(ids.text_of(office, ["withdrawal", school, student, year, term]).splitlines()))
+    lines = ids.text_of(office, ["withdrawal", school, student, year, term]).splitlines()
+    sheet = Worksheet(seals.needed(lines, "the worksheet of the withdrawal"))
     if len(sheet.owes) > 1:
         refuse(
             f"student {student} owes of more than one grant: only box U of the Department's worksheet may be asked then, so write by hand",

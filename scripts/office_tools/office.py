@@ -142,6 +142,8 @@ class Office:
         text = b"\n".join(lines) if lines else copies.text_of(path) if path and os.path.exists(path) else b""
         if text.split(b"\n", 1)[0] == b"none" and self.words[0] != "due":
             refuse(f"there is nothing in {self.journal} to tell of these names, or it has fewer filings", 1)
+        if behind[0] == "review" and text.split(b"\n", 2)[1:2] == [b"== Year book"]:
+            refuse(f"there is no application of student {behind[1]} for {behind[2]} in {self.journal}, or in so many of its filings", 1)
         return 1 if behind[0] == "due" and is_late(text) else 0
 
     def needs(self, words, desk=None):

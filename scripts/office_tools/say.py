@@ -63,9 +63,13 @@ AMENDED = {
 AUDITED = {
     3: "the input couldn't be read: run the same again",
     4: "the text couldn't be written: run it again",
-    8: "the input has more than 16 MiB, which is more than an export of 20,000 filings or any rows need",
+    8: "the input has more than {most}",
     9: "there was not enough memory: run it again with more",
 }
+# How much an audit reads, one of a whole office, and rows of clock-hour programs.
+MOST_READ = "16 MiB, which is more than an export of 20,000 filings needs: audit whole takes 1 GiB"
+MOST_OF_WHOLE = "1 GiB, which is more than an export of an office in which no line is longer than an application needs"
+MOST_OF_ROWS = "16 MiB: give it in parts"
 
 
 def say_known(sentences, status, **names):

@@ -6,8 +6,10 @@ import re
 from . import copies
 from .say import refuse
 
-BEGIN = b"sealed "
 LINE = re.compile(r"sealed (0|[1-9][0-9]{0,9}) [0-9a-f]{64}")
+LONGEST = 100                       # bytes, more than the line of a seal has
+FIRST_BYTES = (b"\0", b"\1")        # of a journal, and of one whose founding didn't end
+MARKS = (b"\xef\xbb\xbf", b"\xff\xfe", b"\xfe\xff")
 
 
 def is_line(line):
@@ -20,28 +22,60 @@ def without(lines):
     return lines[:-1] if lines and is_line(lines[-1].removesuffix("\n")) else lines
 
 
-def is_notes(path):
-    """Whether a file begins as notes of seals do."""
+def needed(lines, what):
+    """The same of a sheet that has its seal: one that hasn't was cut short, and is refused."""
+    if not lines or not is_line(lines[-1]):
+        refuse(f"{what} was cut short, for the line of its seal is missing: run it again")
+    return lines[:-1]
+
+
+def begins_as_journal(path):
+    """Whether a file begins as a journal does. Else it can only be notes."""
     try:
         with open(path, "rb") as file:
-            return file.read(len(BEGIN)) == BEGIN
-    except OSError:
-        return False
+            return file.read(1) in FIRST_BYTES
+    except OSError as error:
+        refuse(f"{path} can't be read: {error.strerror}", 5)
+
+
+def lines_of(path):
+    """The lines of a file of notes, one that is too long in pieces."""
+    try:
+        with open(path, "rb") as file:
+            yield from iter(lambda: file.readline(LONGEST), b"")
+    except OSError as error:
+        refuse(f"{path} can't be read: {error.strerror}", 5)
 
 
 def notes_of(path):
-    """The notes of a file, a line each. A line that is none is refused."""
-    with open(path, encoding="ascii", errors="replace", newline="\n") as file:
-        notes = [line.removesuffix("\n") for line in file]
-    for at, note in enumerate(notes, 1):
+    """The notes of a file, a line each. A line that is none is refused, and so is one that doesn't end, since the next note would join it."""
+    notes = []
+    for at, line in enumerate(lines_of(path), 1):
+        note = line.removesuffix(b"\n").decode("ascii", "replace")
+        if line.startswith(MARKS):
+            refuse(f"{path}, line {at}: this begins with a byte-order mark, and notes are plain text: save it without one", 2)
         if not is_line(note):
             refuse(f"{path}, line {at}: this is no note: a note is `sealed N HEX`, as report seal prints it, HEX of 64 digits in lower case", 2)
+        if not line.endswith(b"\n"):
+            refuse(f"{path}, line {at}: this note has no line end, and the next one would join it: end it by: echo >> {path}", 2)
+        notes.append(note)
+    if not notes:
+        refuse(f"{path} is empty: it is no copy of a journal, and has no note", 2)
     return notes
 
 
 def since(office, path):
     """Whether all that a copy holds, or all that notes name, stands in the journal still."""
-    return since_notes(office, path) if os.path.isfile(path) and is_notes(path) else copies.since(office, path)
+    return copies.since(office, path) if not os.path.isfile(path) or begins_as_journal(path) else since_notes(office, path)
+
+
+def since_of_desk(office, path):
+    """The same of notes alone: the program compares no copies of a desk's journal."""
+    if not os.path.isfile(path):
+        refuse(f"there is no file {path}", 2)
+    if begins_as_journal(path):
+        refuse(f"{path} is no notes: a desk's since takes lines `sealed N HEX`, as report seal prints them", 2)
+    return since_notes(office, path)
 
 
 def since_notes(office, path):

@@ -5,7 +5,7 @@ ghost use Rattle.aid_seals.specs.Seals.{next_seal, seal as seal_of_list};
 use sha2::{Digest, Sha256};
 
 /// The seal of a list: the SHA-256 (FIPS 180-4) of the seal before its newest entry and of that entry.
-#[derive(Clone, Copy)]
+#[derive(Clone, Copy, PartialEq, Eq)]
 pub struct Seal {
     pub bytes: [u8; 32],
 }

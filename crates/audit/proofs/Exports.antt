@@ -1,23 +1,29 @@
 -- The export of a legal history is found to be one.
-use Rattle.std.proofs.Common.{◌≡◌, ℕ, zero, suc, ◌^◌, ◌<◌, ◌≤◌, refl, sym, ap, subst, arith, true, List, [], ◌∷◌, ◌++◌, length, reverse, get_or}
+use Rattle.std.proofs.Common.{◌≡◌, ℕ, zero, suc, ◌^◌, ◌<◌, ◌≤◌, refl, sym, ap, subst, arith, true, List, [], ◌∷◌, ◌++◌, length, get_or}
 use Rattle.std.specs.Prelude.{map}
 use Rattle.std.specs.List.{AllByRecursion, AllPairs}
 use Rattle.std.proofs.lemmas.List.{get_or_default}
 use Rattle.std.proofs.lemmas.List.Elements.{recursion_from_All}
 use Rattle.aid_filings.specs.declared.filing.Filing.{Filing}
+use Rattle.aid_stamps.specs.Stamps.{IsStamp}
+use Rattle.aid_stamps.specs.declared.stamp.Stamp.{Stamp}
 use Rattle.format_bytes.specs.Numbers.{IsFiling}
 use Rattle.office_history.specs.Answer.{IsLegal, standing_of}
+use Rattle.office_history.proofs.Legal.{legal_is_short}
 use Rattle.office_export.specs.Applicants.{applicants}
 use Rattle.office_export.specs.Exports.{export_lines, export_text, lines_of}
 use Rattle.office_export.specs.Lines.{end_line, filing_line, standing_line}
+use Rattle.office_export.specs.Seals.{office_seal}
 use Rattle.office_export.proofs.Exactly.{applicants_rise}
 use Rattle.office_export.proofs.InRange.{applicants_between}
 use Rattle.office_export.proofs.Laws.{is_line-end_line, is_line-filing_line, is_line-standing_line}
 use Rattle.office_export.proofs.Lines.{IsLine, lines_of-concat}
+use Rattle.aid_seals.specs.declared.seal.Seal.{Seal}
+use Rattle.audit.specs.Laws.{AreOnFile}
 use Rattle.audit.specs.Findings.{AreGood, Asked, Finds, IsAsked, right_line, yes}
 use Rattle.audit.specs.declared.finding.Finding.TheVariants.{Yes}
 use Rattle.audit.proofs.Ranges.{standing_writable}
-use Rattle.audit.proofs.Runs.{asked_few}
+use Rattle.audit.proofs.Runs.{asked_few, bytes-office_seal, filed_lines, last_filed}
 
 -- the applicants of a year, each with it
 abbrev asked_of : ℕ → List ℕ → List Asked
@@ -55,13 +61,15 @@ right_lines : (past : List Filing) (year : ℕ) (students : List ℕ) → map (�
 right_lines past year [] = refl
 right_lines past year (student ∷ students) = ap (λ (ls : List (List ℕ)). right_line past (student, year) ∷ ls) (right_lines past year students)
 
-export_good : (past : List Filing) (year : ℕ) → IsLegal past → AllByRecursion IsFiling past → length past ≤ 20000 → 2000 ≤ year → year ≤ 2099 → AreGood (export_lines past year) past (asked_of year (applicants past year)) true
-export_good past year legal are few low high = record {
-  whole = λ i. map filing_line (reverse past) ++ right_lines past year (applicants past year) i ++ end_line (length past) (sym (length-asked_of year (applicants past year)) i) ∷ [];
-  filings = are;
+export_good : (most : ℕ) (past : List Filing) (stamps : List Stamp) (year : ℕ) → IsLegal past → AreOnFile past stamps → length past ≤ most → 2000 ≤ year → year ≤ 2099
+    → AreGood most (export_lines past stamps year) past stamps (asked_of year (applicants past year)) true
+export_good most past stamps year legal are few low high = record {
+  whole = λ i. filed_lines past stamps ++ right_lines past year (applicants past year) i ++ end_line (length past) (sym (length-asked_of year (applicants past year)) i) (office_seal past stamps) ∷ [];
+  filings = are.filings;
+  stamped = are.stamped;
   legal = legal;
   few = few;
-  standings = all_asked year (applicants past year) (applicants_ask past year are low high);
+  standings = all_asked year (applicants past year) (applicants_ask past year are.filings low high);
   rise = asked_rise year (applicants past year) (applicants_rise past year);
 }
 
@@ -70,9 +78,12 @@ lines_joined : (xs ys : List (List ℕ)) → AllByRecursion IsLine xs → AllByR
 lines_joined [] ys all more = more
 lines_joined (x ∷ xs) ys all more = (all.0, lines_joined xs ys all.1 more)
 
-filing_lines : (fs : List Filing) → AllByRecursion IsLine (map filing_line fs)
-filing_lines [] = tt
-filing_lines (f ∷ fs) = (is_line-filing_line f, filing_lines fs)
+filing_lines : (past : List Filing) (stamps : List Stamp) → AllByRecursion IsStamp stamps → AllByRecursion IsLine (filed_lines past stamps)
+filing_lines [] stamps are = tt
+filing_lines (f ∷ past) [] are = tt
+filing_lines (f ∷ past) (z ∷ stamps) are =
+    subst (AllByRecursion IsLine) (sym (last_filed past stamps z f))
+    (lines_joined (filed_lines past stamps) (filing_line z f ∷ []) (filing_lines past stamps are.1) (is_line-filing_line z f are.0, tt))
 
 standing_lines : (past : List Filing) (asked : List Asked) → IsLegal past → AllByRecursion IsAsked asked → AllByRecursion IsLine (map (right_line past) asked)
 standing_lines past [] legal all = tt
@@ -81,20 +92,24 @@ standing_lines past (s ∷ asked) legal all =
     let few_y : s.1 < 10 ^ 64 = omega (arith, all.0.most_year) in
     (is_line-standing_line s.0 s.1 (standing_of past s.0 s.1) few_s few_y (standing_writable past s.0 s.1 legal), standing_lines past asked legal all.1)
 
-good_lines : (lines : List (List ℕ)) (past : List Filing) (asked : List Asked) → AreGood lines past asked true → AllByRecursion IsLine lines
-good_lines lines past asked good =
+good_lines : (most : ℕ) (lines : List (List ℕ)) (past : List Filing) (stamps : List Stamp) (asked : List Asked) → AreGood most lines past stamps asked true → AllByRecursion IsLine lines
+good_lines most lines past stamps asked good =
     let some = asked_few asked good.standings good.rise in
-    let filings : length past < 10 ^ 64 = omega (arith, good.few) in
+    let short = legal_is_short past good.legal in
+    let filings : length past < 10 ^ 64 = omega (arith, short) in
     let standings : length asked < 10 ^ 64 = omega (arith, some) in
+    let seal = office_seal past stamps in
     subst (AllByRecursion IsLine) (sym good.whole)
-    (lines_joined (map filing_line (reverse past) ++ map (right_line past) asked) (end_line (length past) (length asked) ∷ [])
-    (lines_joined (map filing_line (reverse past)) (map (right_line past) asked) (filing_lines (reverse past)) (standing_lines past asked good.legal good.standings))
-    (is_line-end_line (length past) (length asked) filings standings, tt))
+    (lines_joined (filed_lines past stamps ++ map (right_line past) asked) (end_line (length past) (length asked) seal ∷ [])
+    (lines_joined (filed_lines past stamps) (map (right_line past) asked) (filing_lines past stamps good.stamped.are_stamps) (standing_lines past asked good.legal good.standings))
+    (is_line-end_line (length past) (length asked) seal filings standings (bytes-office_seal past stamps), tt))
 
-pub export_is_found : (past : List Filing) (year : ℕ) → IsLegal past → AllByRecursion IsFiling past → length past ≤ 20000 → 2000 ≤ year → year ≤ 2099
-    → Finds (lines_of (export_text past year)) (Yes (length past) (length (applicants past year)))
-export_is_found past year legal are few from to =
-    let good = export_good past year legal are few from to in
-    let lines : export_lines past year ≡ lines_of (export_text past year) = sym (lines_of-concat (export_lines past year) (good_lines (export_lines past year) past (asked_of year (applicants past year)) good)) in
-    subst (λ (ls : List (List ℕ)). Finds ls (Yes (length past) (length (applicants past year)))) lines
-    (subst (λ (n : ℕ). Finds (export_lines past year) (Yes (length past) n)) (length-asked_of year (applicants past year)) (yes past (asked_of year (applicants past year)) good))
+pub export_is_found : (most : ℕ) (past : List Filing) (stamps : List Stamp) (year : ℕ) → IsLegal past → AreOnFile past stamps → length past ≤ most → 2000 ≤ year → year ≤ 2099
+    → Finds most (lines_of (export_text past stamps year)) (Yes (length past) (length (applicants past year)) (record { bytes = office_seal past stamps }))
+export_is_found most past stamps year legal are few from to =
+    let asked = asked_of year (applicants past year) in
+    let good = export_good most past stamps year legal are few from to in
+    let lines : export_lines past stamps year ≡ lines_of (export_text past stamps year) = sym (lines_of-concat (export_lines past stamps year) (good_lines most (export_lines past stamps year) past stamps asked good)) in
+    let seal : Seal = record { bytes = office_seal past stamps } in
+    subst (λ (ls : List (List ℕ)). Finds most ls (Yes (length past) (length (applicants past year)) seal)) lines
+    (subst (λ (n : ℕ). Finds most (export_lines past stamps year) (Yes (length past) n seal)) (length-asked_of year (applicants past year)) (yes past stamps asked good))

@@ -1,11 +1,10 @@
 -- How long an export is: at most what an input may have.
-use Rattle.std.proofs.Common.{◌≡◌, ◌∙◌, ℕ, zero, suc, ◌+◌, ◌-◌, ◌*◌, ◌/◌, ◌^◌, ◌<◌, ◌≤◌, eqb, Bool, true, false, ◌&&◌, ◌||◌, ℤ, pos, negsuc, List, [], ◌∷◌, ◌++◌, length, take, drop, reverse, Option, Some, None, refl, sym, ap, subst, arith, lit≤, zero-le, codes, decimal, length-append, append-nil}
+use Rattle.std.proofs.Common.{◌≡◌, ◌∙◌, ℕ, zero, suc, ◌+◌, ◌-◌, ◌*◌, ◌/◌, ◌^◌, ◌<◌, ◌≤◌, eqb, Bool, true, false, ◌&&◌, ◌||◌, ℤ, pos, negsuc, List, [], ◌∷◌, ◌++◌, length, take, drop, Option, Some, None, refl, sym, ap, subst, arith, lit≤, zero-le, codes, decimal, length-append, append-nil}
 use Rattle.std.specs.Prelude.{◌==◌, IsTrue, int_lt, if◌then◌else◌, map, unsigned_abs}
 use Rattle.std.specs.List.{AllByRecursion, IsDistinct, concat, cons_option, list_any}
 use Rattle.std.proofs.lemmas.Bool.{eqb-false, eqb-true, ne_eqb, true≢false}
 use Rattle.std.proofs.lemmas.Fmt.{length-decimal-le}
 use Rattle.std.proofs.lemmas.Int.{ints}
-use Rattle.std.proofs.lemmas.List.{map-append, reverse-append}
 use Rattle.std.proofs.lemmas.List.Folds.{concat-append}
 use Rattle.std.proofs.lemmas.Map.Steps.{length-le_from_distinct_below}
 use Rattle.aid_types.specs.Cents.{cents_text, fraction_text}
@@ -15,6 +14,10 @@ use Rattle.aid_books.specs.declared.book.Book.{Book as Tables}
 use Rattle.aid_filings.specs.declared.filing.Filing.{Filing}
 use Rattle.aid_filings.specs.declared.filing.What.{What}
 use Rattle.aid_filings.specs.declared.filing.What.TheVariants.{Book as BookFiled, School as SchoolFiled, Calendar as CalendarFiled, Prior as PriorFiled, Apply as ApplyFiled, Enroll as EnrollFiled, Originate as OriginateFiled, Pay as PayFiled, Withdraw as WithdrawFiled, Repay as RepayFiled, Adjust as AdjustFiled, Cost as CostFiled, Sent as SentFiled, Amend as AmendFiled}
+use Rattle.aid_seals.proofs.Clashes.{length-seal}
+use Rattle.aid_stamps.specs.StampLaws.{stamp_short}
+use Rattle.aid_stamps.specs.Stamps.{IsStamp, stamp_bytes}
+use Rattle.aid_stamps.specs.declared.stamp.Stamp.{Stamp}
 use Rattle.aid_types.specs.Ranges.{IsIndex}
 use Rattle.aid_types.specs.Words.{formula_text, way_text}
 use Rattle.aid_types.specs.declared.application.Application.{Application}
@@ -47,13 +50,17 @@ use Rattle.office_history.specs.Net.{in_year, pell_year, used}
 use Rattle.office_history.specs.Past.{application, book_in, earlier, given, the_book}
 use Rattle.office_history.proofs.Awards.{book_new}
 use Rattle.office_history.proofs.IndexFits.{index_fits}
-use Rattle.office_history.proofs.Ranges.{paid_is_small}
+use Rattle.office_history.proofs.Bounds.{paid-most}
+use Rattle.office_history.proofs.Legal.{legal_is_short}
 use Rattle.office_export.specs.Applicants.{applicants}
 use Rattle.office_export.specs.Exports.{export_text}
+use Rattle.office_export.specs.Seals.{office_name, office_seal, payloads}
 use Rattle.office_export.specs.Lines.{end_line, filing_line, line_of, standing_line}
 use Rattle.office_export.proofs.Exactly.{length-applicants}
 use Rattle.audit.specs.Findings.{IsAsked}
+use Rattle.audit.specs.Laws.{AreOnFile}
 use Rattle.audit.proofs.Exports.{applicants_ask}
+use Rattle.audit.proofs.Runs.{filed_lines, last_filed}
 use Rattle.audit.proofs.Ranges.{standing_small}
 
 -- ---- the bytes of a filing
@@ -214,17 +221,19 @@ books_few : (past : List Filing) → IsLegal past → AllByRecursion IsFiling pa
 books_few past legal are = length-le_from_distinct_below (years past) 100 (years_apart past legal are) (years_few past are)
 
 -- ---- the lines of filings: one of a book is 15,714 bytes longer than another may be
-length-filing_line : (f : Filing) → length (filing_line f) ≡ 8 + 2 * length (spelling f)
-length-filing_line f = omega (arith, length-append (encode_lower (spelling f)) (codes "\n"), length-encode_with lower_digits (spelling f))
+length-filing_line : (z : Stamp) (f : Filing) → IsStamp z → length (filing_line z f) ≤ 82 + 2 * length (spelling f)
+length-filing_line z f is_z =
+    let payload : List ℕ = stamp_bytes z ++ spelling f in
+    omega (arith, length-append (encode_lower payload) (codes "\n"), length-encode_with lower_digits payload, length-append (stamp_bytes z) (spelling f), (stamp_short z is_z).few)
 
-filing_line_few : (past : List Filing) (f : Filing) → IsFiling f → length (filing_line f) + 15714 * length (years past) ≤ 604 + 15714 * length (years (f ∷ past))
-filing_line_few past f is = go f.key f.what is (length-filing_line f)
+filing_line_few : (past : List Filing) (z : Stamp) (f : Filing) → IsStamp z → IsFiling f → length (filing_line z f) + 15714 * length (years past) ≤ 678 + 15714 * length (years (f ∷ past))
+filing_line_few past z f is_z is = go f.key f.what is (length-filing_line z f is_z)
   where
     short : (key : Key) (what : What) → IsFiling (record { key = key; what = what }) → (kind_of what ≡ Book → ⊥) → length (spelling (record { key = key; what = what })) ≤ 298
     short key what is other = let few = few_bytes (kind_of what) (numbers_of (record { key = key; what = what })) other is in omega (arith, few)
 
-    go : (key : Key) (what : What) → IsFiling (record { key = key; what = what }) → length (filing_line f) ≡ 8 + 2 * length (spelling (record { key = key; what = what }))
-        → length (filing_line f) + 15714 * length (years past) ≤ 604 + 15714 * length (cons_option (year_in what) (years past))
+    go : (key : Key) (what : What) → IsFiling (record { key = key; what = what }) → length (filing_line z f) ≤ 82 + 2 * length (spelling (record { key = key; what = what }))
+        → length (filing_line z f) + 15714 * length (years past) ≤ 678 + 15714 * length (cons_option (year_in what) (years past))
     go key (BookFiled b) is len = let few = length-row_bytes Book (numbers_of (record { key = key; what = BookFiled b })) is in omega (arith, len, few)
     go key (SchoolFiled x) is len = let few = short key (SchoolFiled x) is (λ e. absurd cc) in omega (arith, len, few)
     go key (CalendarFiled x) is len = let few = short key (CalendarFiled x) is (λ e. absurd cc) in omega (arith, len, few)
@@ -240,18 +249,16 @@ filing_line_few past f is = go f.key f.what is (length-filing_line f)
     go key (SentFiled x) is len = let few = short key (SentFiled x) is (λ e. absurd cc) in omega (arith, len, few)
     go key (AmendFiled x) is len = let few = short key (AmendFiled x) is (λ e. absurd cc) in omega (arith, len, few)
 
-reverse_more : (f : Filing) (past : List Filing) → reverse (f ∷ past) ≡ reverse past ++ f ∷ []
-reverse_more f past = reverse-append (f ∷ []) past
-
-filing_lines_few : (past : List Filing) → AllByRecursion IsFiling past → length (concat (map filing_line (reverse past))) ≤ 604 * length past + 15714 * length (years past)
-filing_lines_few [] are = zero-le
-filing_lines_few (f ∷ past) are =
-    let text = concat (map filing_line (reverse past)) in
-    let last : concat (map filing_line (f ∷ [])) ≡ filing_line f = append-nil (filing_line f) in
-    let whole : concat (map filing_line (reverse (f ∷ past))) ≡ text ++ filing_line f =
-    ap (λ fs. concat (map filing_line fs)) (reverse_more f past) ∙ ap concat (map-append filing_line (reverse past) (f ∷ [])) ∙ concat-append (map filing_line (reverse past)) (map filing_line (f ∷ [])) ∙ ap (λ (behind : List ℕ). text ++ behind) last in
-    let len : length (text ++ filing_line f) ≡ length text + length (filing_line f) = length-append text (filing_line f) in
-    omega (arith, ap length whole, len, filing_lines_few past are.1, filing_line_few past f are.0)
+filing_lines_few : (past : List Filing) (stamps : List Stamp) → AllByRecursion IsFiling past → AllByRecursion IsStamp stamps → length (concat (filed_lines past stamps)) ≤ 678 * length past + 15714 * length (years past)
+filing_lines_few [] stamps are also = zero-le
+filing_lines_few (f ∷ past) [] are also = zero-le
+filing_lines_few (f ∷ past) (z ∷ stamps) are also =
+    let text = concat (filed_lines past stamps) in
+    let last : concat (filing_line z f ∷ []) ≡ filing_line z f = append-nil (filing_line z f) in
+    let whole : concat (filed_lines (f ∷ past) (z ∷ stamps)) ≡ text ++ filing_line z f =
+    ap concat (last_filed past stamps z f) ∙ concat-append (filed_lines past stamps) (filing_line z f ∷ []) ∙ ap (λ (behind : List ℕ). text ++ behind) last in
+    let len : length (text ++ filing_line z f) ≡ length text + length (filing_line z f) = length-append text (filing_line z f) in
+    omega (arith, ap length whole, len, filing_lines_few past stamps are.1 also.1, filing_line_few past z f also.0 are.0)
 
 -- ---- the lines of standings
 abbrev sizes : List (List ℕ) → ℕ
@@ -285,14 +292,14 @@ paid_told None a paid units = refl
 paid_told (Some b) None paid units = refl
 paid_told (Some b) (Some a) paid units = refl
 
-cents_few : (n : ℕ) → n ≤ 2000000000000 → length (cents_text n) ≤ 14
-cents_few n few = omega (arith, length-append (natural_text (n / 100)) (fraction_text n), digits_few 11 (n / 100) (omega arith) (omega (arith, few)) (omega (arith, few)))
+cents_few : (n : ℕ) → n ≤ 100000000000000 → length (cents_text n) ≤ 16
+cents_few n few = omega (arith, length-append (natural_text (n / 100)) (fraction_text n), digits_few 13 (n / 100) (omega arith) (omega (arith, few)) (omega (arith, few)))
 
-standing_line_few : (past : List Filing) (student year : ℕ) → IsLegal past → length past ≤ 20000 → IsAsked (student, year) → length (standing_line student year (standing_of past student year)) ≤ 80
-standing_line_few past student year legal few operations =
+standing_line_few : (past : List Filing) (student year : ℕ) → IsLegal past → IsAsked (student, year) → length (standing_line student year (standing_of past student year)) ≤ 82
+standing_line_few past student year legal operations =
     let r = standing_of past student year in
     let small = standing_small past student year legal in
-    let paid : r.paid ≤ 2000000000000 = omega (arith, few, paid_told (the_book past year) (application past student year) (pell_year past student year) (used past student), paid_is_small past (in_year student year 3)) in
+    let paid : r.paid ≤ 100000000000000 = omega (arith, paid_told (the_book past year) (application past student year) (pell_year past student year) (used past student), paid-most past legal (in_year student year 3)) in
     let len = length-line_of (codes "standing") (decimal student ∷ decimal year ∷ decimal r.transaction ∷ formula_text r.formula ∷ whole_text r.sai ∷ way_text r.way ∷ decimal r.scheduled ∷ cents_text r.paid ∷ decimal r.used ∷ []) in
     let most_student = operations.most_student in
     let most_year = operations.most_year in
@@ -313,27 +320,35 @@ standing_line_few past student year legal few operations =
       length-decimal-le 6 r.used (omega arith) (omega (arith, most_used)) (omega (arith, most_used)),
     )
 
-standing_lines_few : (past : List Filing) (year : ℕ) (students : List ℕ) → IsLegal past → length past ≤ 20000 → AllByRecursion (λ student. IsAsked (student, year)) students
-    → length (concat (map (λ student. standing_line student year (standing_of past student year)) students)) ≤ 80 * length students
-standing_lines_few past year [] legal few operations = zero-le
-standing_lines_few past year (student ∷ students) legal few operations =
+standing_lines_few : (past : List Filing) (year : ℕ) (students : List ℕ) → IsLegal past → AllByRecursion (λ student. IsAsked (student, year)) students
+    → length (concat (map (λ student. standing_line student year (standing_of past student year)) students)) ≤ 82 * length students
+standing_lines_few past year [] legal operations = zero-le
+standing_lines_few past year (student ∷ students) legal operations =
     let line = standing_line student year (standing_of past student year) in
     let rest = concat (map (λ s. standing_line s year (standing_of past s year)) students) in
-    omega (arith, length-append line rest, standing_line_few past student year legal few operations.0, standing_lines_few past year students legal few operations.1)
+    omega (arith, length-append line rest, standing_line_few past student year legal operations.0, standing_lines_few past year students legal operations.1)
 
 -- ---- the whole
-end_line_few : (filings standings : ℕ) → filings ≤ 20000 → standings ≤ 20000 → length (end_line filings standings) ≤ 20
-end_line_few filings standings few some =
-    omega (arith, length-line_of (codes "end") (decimal filings ∷ decimal standings ∷ []), length-decimal-le 5 filings (omega arith) (omega (arith, few)) (omega (arith, few)), length-decimal-le 5 standings (omega arith) (omega (arith, some)) (omega (arith, some)))
+end_line_few : (filings standings : ℕ) (seal : List ℕ) → filings ≤ 1000000 → standings ≤ 1000000 → length seal ≡ 32 → length (end_line filings standings seal) ≤ 85
+end_line_few filings standings seal few some size =
+    omega (
+      arith,
+      length-line_of (codes "end") (decimal filings ∷ decimal standings ∷ encode_lower seal ∷ []),
+      length-decimal-le 7 filings (omega arith) (omega (arith, few)) (omega (arith, few)),
+      length-decimal-le 7 standings (omega arith) (omega (arith, some)) (omega (arith, some)),
+      length-encode_with lower_digits seal,
+      size,
+    )
 
-pub export_fits : (past : List Filing) (year : ℕ) → IsLegal past → AllByRecursion IsFiling past → length past ≤ 20000 → 2000 ≤ year → year ≤ 2099 → length (export_text past year) ≤ 16777216
-export_fits past year legal are few from to =
-    let filings = map filing_line (reverse past) in
+export_few : (past : List Filing) (stamps : List Stamp) (year : ℕ) → IsLegal past → AreOnFile past stamps → 2000 ≤ year → year ≤ 2099 → length (export_text past stamps year) ≤ 760 * length past + 1571485
+export_few past stamps year legal are from to =
+    let filings = filed_lines past stamps in
     let standings = map (λ student. standing_line student year (standing_of past student year)) (applicants past year) in
-    let last = end_line (length past) (length (applicants past year)) in
-    let some : length (applicants past year) ≤ 20000 = omega (arith, few, length-applicants past year) in
+    let last = end_line (length past) (length (applicants past year)) (office_seal past stamps) in
+    let few = legal_is_short past legal in
+    let some = length-applicants past year in
     let front = filings ++ standings in
-    let whole : export_text past year ≡ (concat filings ++ concat standings) ++ concat (last ∷ []) =
+    let whole : export_text past stamps year ≡ (concat filings ++ concat standings) ++ concat (last ∷ []) =
     concat-append front (last ∷ []) ∙ ap (λ (text : List ℕ). text ++ concat (last ∷ [])) (concat-append filings standings) in
     omega (
       arith,
@@ -341,8 +356,15 @@ export_fits past year legal are few from to =
       length-append (concat filings ++ concat standings) (concat (last ∷ [])),
       length-append (concat filings) (concat standings),
       ap length (append-nil last),
-      filing_lines_few past are,
-      books_few past legal are,
-      standing_lines_few past year (applicants past year) legal few (applicants_ask past year are from to),
-      end_line_few (length past) (length (applicants past year)) few some,
+      filing_lines_few past stamps are.filings are.stamped.are_stamps,
+      books_few past legal are.filings,
+      standing_lines_few past year (applicants past year) legal (applicants_ask past year are.filings from to),
+      some,
+      end_line_few (length past) (length (applicants past year)) (office_seal past stamps) (omega (arith, few)) (omega (arith, few, some)) (length-seal office_name (payloads past stamps)),
     )
+
+pub export_fits : (past : List Filing) (stamps : List Stamp) (year : ℕ) → IsLegal past → AreOnFile past stamps → length past ≤ 20000 → 2000 ≤ year → year ≤ 2099 → length (export_text past stamps year) ≤ 16777216
+export_fits past stamps year legal are few from to = omega (arith, few, export_few past stamps year legal are from to)
+
+pub whole_fits : (past : List Filing) (stamps : List Stamp) (year : ℕ) → IsLegal past → AreOnFile past stamps → length past ≤ 1000000 → 2000 ≤ year → year ≤ 2099 → length (export_text past stamps year) ≤ 1073741824
+whole_fits past stamps year legal are few from to = omega (arith, few, export_few past stamps year legal are from to)

@@ -7,6 +7,7 @@ use Rattle.log_runs.specs.Ends.{Ends}
 use Rattle.log_runs.specs.declared.stop.RunStop.{RunStop}
 use Rattle.log_runs.specs.declared.stop.RunStop.TheVariants.{Usage}
 use Rattle.audit.specs.Answers.{AnswersInput, answers_of}
+use Rattle.audit.specs.Words.{limit_of}
 use Rattle.audit.specs.declared.words.AuditCommand.{AuditCommand}
 
 -- the counts of faults of a run that has no disk
@@ -19,7 +20,7 @@ pub data RanAudit {K : Type 0} (sink : Ghosts K) (counts : Counts) (input : Inpu
   no_row : (status : ℕ) → input.after ≡ input.before → HasCause counts (Err Usage) status → Ends sink old new (Err Usage) status
       → RanAudit sink counts input old new None status
   -- they are the row of a command, which has written its text when the run ends
-  did : (command : AuditCommand) (at : K) (ended : Result Unit RunStop) (status : ℕ) → AnswersInput (answers_of command) sink input old at ended
+  did : (command : AuditCommand) (at : K) (ended : Result Unit RunStop) (status : ℕ) → AnswersInput (limit_of command) (answers_of command) sink input old at ended
       → HasCause counts ended status → Ends sink at new ended status → RanAudit sink counts input old new (Some command) status
 
 -- a text of the command's that answers the input was written behind what stood

@@ -1,15 +1,18 @@
 //! What the good lines of an export told so far, and the judgment of the next one.
 ghost use Rattle.std.specs.Prelude.{◌≡◌, [], false, None};
 
-use aid_filings::Filing;
+use crate::lists::AuditedList;
+use aid_stamps::Stamp;
 use aid_types::Student;
 use std::alloc::Global;
 
 /// What good lines told.
 #[derive(Drop)]
-pub(crate) struct GoodLines {
-    /// The filings, the oldest first.
-    pub filings: Vec<Filing>,
+pub(crate) struct GoodLines<L> {
+    /// The filings.
+    pub list: L,
+    /// Their stamps, the oldest first.
+    pub stamps: Vec<Stamp>,
     /// How many standings stand behind them.
     pub standings: u32,
     /// The student of the last of them.
@@ -18,16 +21,18 @@ pub(crate) struct GoodLines {
     pub ended: bool,
 }
 
-impl GoodLines {
+impl<L: AuditedList> GoodLines<L> {
     /// Before the first line.
     pub fn new(alloc: Global) -> Self
-        ensures filings { result.filings.items ≡ [] }
+        ensures filings { L.filings result.list ≡ [] }
+        ensures stamps { result.stamps.items ≡ [] }
         ensures standings { result.standings ≡ 0 }
         ensures last { result.last ≡ None }
         ensures ended { result.ended ≡ false }
     {
         GoodLines {
-            filings: Vec::new(alloc),
+            list: L::new(alloc),
+            stamps: Vec::new(alloc),
             standings: 0,
             last: None,
             ended: false,

@@ -10,6 +10,8 @@ mod findings;
 mod good_lines;
 mod laws;
 mod line;
+mod lists;
+mod note;
 mod run;
 mod standings;
 mod words;
@@ -17,10 +19,12 @@ mod words;
 pub use answering::{Answering, ClockAnswers, answer_input};
 pub use auditor::audit;
 pub use finding::{
-    BROKEN_RULE, Finding, MOST_FILINGS, NO_END, STRAY, TOO_MANY, UNSPELLED, USED_KEY, WRONG_COUNTS,
-    WRONG_STANDING,
+    BROKEN_RULE, FEWER, Finding, NO_END, OTHER_SEAL, STRAY, TOO_MANY, UNSPELLED, USED_KEY,
+    WRONG_COUNTS, WRONG_STANDING,
 };
 pub use findings::AuditAnswers;
-pub use laws::{export_is_yes, one, within};
+pub use laws::{a_noted_front_stands, export_is_yes, one, one_seal_one_list, within};
+pub use lists::{AuditedList, PlainList};
+pub use note::Note;
 pub use run::run_audit;
 pub use words::AuditCommand;

@@ -1,27 +1,37 @@
 -- The filing that digits spell.
-use Rattle.std.proofs.Common.{◌≡◌, ℕ, ◌/◌, ◌<◌, List, length, Option, Some, None, Result, Ok, Err, ap, sym, ◌∙◌, arith}
-use Rattle.std.specs.Prelude.{IfOk, IfSome}
-use Rattle.std.specs.declared.alloc.AllocError.{AllocError}
+use Rattle.std.proofs.Common.{◌≡◌, ◌∙◌, ℕ, ◌/◌, ◌<◌, ◌≤◌, true, List, ◌++◌, length, take, ap, arith, length-append}
+use Rattle.std.proofs.lemmas.List.{take_at}
 use Rattle.aid_filings.specs.declared.filing.Filing.{Filing}
+use Rattle.aid_stamps.specs.StampLaws.{stamp_short}
+use Rattle.aid_stamps.specs.Stamps.{IsStamp, stamp_bytes}
+use Rattle.aid_stamps.specs.declared.stamp.Stamp.{Stamp}
 use Rattle.format_bytes.specs.Spelling.{spelling}
 use Rattle.format_bytes.proofs.FilingLaws.{length-spelling}
 use Rattle.format_bytes.specs.Numbers.{IsFiling}
-use Rattle.hex.specs.Hex.{IsBytes, encode_lower, lower_digits}
+use Rattle.hex.specs.Hex.{encode_lower, lower_digits}
 use Rattle.hex.proofs.HexLemmas.{length-encode_with}
-use Rattle.office_export.proofs.Digits.{same_bytes}
-use Rattle.office_export.proofs.FilingBytes.{bytes-spelling}
+use Rattle.office_export.specs.Forms.{are_digits}
+use Rattle.office_export.proofs.Digits.{are_spelled}
 
--- no filing has as many
-pub long : (f : Filing) (digits : List ℕ) → IsFiling f → 8192 < length digits / 2 → encode_lower (spelling f) ≡ digits → ⊥
-long f digits is_f many e =
-    omega (arith, many, length-spelling f is_f, length-encode_with lower_digits (spelling f), ap (λ (cs : List ℕ). length cs) e)
+-- a filing fits the room, under a stamp too
+pub filing_fits : (f : Filing) → IsFiling f → length (spelling f) ≤ 8192
+filing_fits f is_f = omega (arith, length-spelling f is_f)
 
--- bytes with the digits of a filing are its spelling
-pub same : (f : Filing) (bytes digits : List ℕ) → IsBytes bytes → encode_lower bytes ≡ digits → encode_lower (spelling f) ≡ digits → bytes ≡ spelling f
-same f bytes digits are is e = same_bytes bytes (spelling f) are (bytes-spelling f) (is ∙ sym e)
+pub payload_fits : (s : Stamp) (f : Filing) → IsStamp s → IsFiling f → length (stamp_bytes s ++ spelling f) ≤ 8192
+payload_fits s f is_s is_f = omega (arith, length-append (stamp_bytes s) (spelling f), (stamp_short s is_s).few, length-spelling f is_f)
 
-pub found_by : (r : Result (Option Filing) AllocError) (bytes digits : List ℕ) → encode_lower bytes ≡ digits → IfOk r (λ o. IfSome o (λ f. IsFiling f × (bytes ≡ spelling f)))
-    → IfOk r (λ o. IfSome o (λ f. IsFiling f × (encode_lower (spelling f) ≡ digits)))
-found_by (Ok (Some f)) bytes digits is found = (found.0, ap encode_lower (sym found.1) ∙ is)
-found_by (Ok None) bytes digits is found = tt
-found_by (Err e) bytes digits is found = tt
+-- what was written to the front of a room is what digits spell
+pub front_is : (digits out rest : List ℕ) (h : are_digits digits ≡ true) → out ≡ (are_spelled digits h).bytes → take (length digits / 2) (out ++ rest) ≡ (are_spelled digits h).bytes
+front_is digits out rest h e =
+    let s = are_spelled digits h in
+    let size : length out ≡ length digits / 2 = omega (arith, ap (λ (bs : List ℕ). length bs) e, length-encode_with lower_digits s.bytes, ap (λ (cs : List ℕ). length cs) s.spelled) in
+    take_at out rest (length digits / 2) size ∙ e
+
+pub front_fits : (digits out rest : List ℕ) (h : are_digits digits ≡ true) → out ≡ (are_spelled digits h).bytes → length digits / 2 ≤ length (out ++ rest)
+front_fits digits out rest h e =
+    let s = are_spelled digits h in
+    omega (arith, length-append out rest, ap (λ (bs : List ℕ). length bs) e, length-encode_with lower_digits s.bytes, ap (λ (cs : List ℕ). length cs) s.spelled)
+
+-- longer digits are those of no bytes that fit
+pub longer : (digits bytes : List ℕ) → 8192 < length digits / 2 → length bytes ≤ 8192 → encode_lower bytes ≡ digits → ⊥
+longer digits bytes many few e = omega (arith, many, few, length-encode_with lower_digits bytes, ap (λ (cs : List ℕ). length cs) e)

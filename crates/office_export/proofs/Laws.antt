@@ -1,7 +1,8 @@
 -- The lines of an export: their forms, that each is a line, and that no other filing or standing has a line.
 use Rattle.std.proofs.Common.{◌≡◌, ℕ, ◌-◌, ◌<◌, ◌≤◌, ◌^◌, Bool, true, ℤ, pos, List, [], ◌∷◌, ◌++◌, length, take, drop, Option, Some, None, Result, Ok, refl, sym, ap, ◌∙◌, arith, append-nil, codes, decimal, length-append}
-use Rattle.std.specs.Prelude.{is_some, if◌then◌else◌}
-use Rattle.std.specs.List.{AllByRecursion}
+use Rattle.std.specs.Prelude.{◌==◌, ◌%◌, is_some, if◌then◌else◌}
+use Rattle.std.specs.List.{AllByRecursion, list_all}
+use Rattle.std.proofs.lemmas.Bool.{and_from, and_parts}
 use Rattle.std.proofs.Math.Seq.{take-append_seam}
 use Rattle.std.proofs.lemmas.Int.{ints}
 use Rattle.aid_filings.specs.declared.filing.Filing.{Filing}
@@ -17,14 +18,18 @@ use Rattle.aid_types.specs.declared.text.Malformed.{Malformed}
 use Rattle.aid_types.proofs.CentsLemmas.{cents_of-cents_text}
 use Rattle.aid_types.proofs.SignedLemmas.{int_le-true}
 use Rattle.aid_types.proofs.WholeLemmas.{decimal-natural_text, whole_of-whole_text}
+use Rattle.aid_stamps.specs.StampLaws.{stamp_alone}
+use Rattle.aid_stamps.specs.Stamps.{IsStamp, stamp_bytes}
+use Rattle.aid_stamps.specs.declared.stamp.Stamp.{Stamp}
 use Rattle.format_bytes.specs.Spelling.{spelling}
 use Rattle.format_bytes.proofs.FilingLaws.{is_alone}
 use Rattle.format_bytes.specs.Numbers.{IsFiling}
-use Rattle.hex.specs.Hex.{encode_lower}
-use Rattle.office_export.specs.Forms.{are_digits, end_form, filing_form, form_of, form_of_end, form_of_standing, form_of_student, is_amount, is_formula, is_way, is_whole, standing_form}
+use Rattle.hex.specs.Hex.{IsBytes, encode_lower, lower_digits}
+use Rattle.hex.proofs.HexLemmas.{length-encode_with}
+use Rattle.office_export.specs.Forms.{are_digits, end_form, filing_form, form_of, form_of_end, form_of_standing, form_of_student, is_amount, is_digit, is_formula, is_seal, is_way, is_whole, standing_form}
 use Rattle.office_export.specs.Lines.{end_line, filing_line, line_of, standing_line}
 use Rattle.office_export.proofs.Digits.{are_digits-encode_lower, same_bytes, visible_digits}
-use Rattle.office_export.proofs.FilingBytes.{bytes-spelling}
+use Rattle.office_export.proofs.FilingBytes.{bytes-payload, bytes-spelling}
 use Rattle.office_export.proofs.Lines.{IsLine, is_line-words}
 use Rattle.office_export.proofs.Visible.{AreVisible, visible_cents, visible_decimal, visible_formula, visible_way, visible_whole}
 use Rattle.office_export.proofs.Spaced.{form_of-line, line_of-spaced}
@@ -33,16 +38,22 @@ use Rattle.office_export.proofs.Spaced.{form_of-line, line_of-spaced}
 pub digits_of : (f : Filing) → are_digits (encode_lower (spelling f)) ≡ true
 digits_of f = are_digits-encode_lower (spelling f) (bytes-spelling f)
 
-filing_words : (f : Filing) → AllByRecursion AreVisible (codes "filing" ∷ encode_lower (spelling f) ∷ [])
-filing_words f = (refl, (visible_digits (encode_lower (spelling f)) (digits_of f), tt))
+pub digits_of_payload : (s : Stamp) (f : Filing) → IsStamp s → are_digits (encode_lower (stamp_bytes s ++ spelling f)) ≡ true
+digits_of_payload s f is = are_digits-encode_lower (stamp_bytes s ++ spelling f) (bytes-payload s f is)
 
-pub is_line-filing_line : (f : Filing) → IsLine (filing_line f)
-is_line-filing_line f = is_line-words (codes "filing") (encode_lower (spelling f) ∷ []) (filing_words f)
+filing_words : (digits : List ℕ) → are_digits digits ≡ true → AllByRecursion AreVisible (codes "filing" ∷ digits ∷ [])
+filing_words digits are = (refl, (visible_digits digits are, tt))
 
-pub form_of-filing_line : (f : Filing) → form_of (filing_line f) ≡ Some filing_form
-form_of-filing_line f =
-    form_of-line (codes "filing") (encode_lower (spelling f) ∷ []) (filing_words f)
-    ∙ ap (λ (b : Bool). if b then Some filing_form else None) (digits_of f)
+pub is_line-filing_line : (s : Stamp) (f : Filing) → IsStamp s → IsLine (filing_line s f)
+is_line-filing_line s f is =
+    let digits = encode_lower (stamp_bytes s ++ spelling f) in
+    is_line-words (codes "filing") (digits ∷ []) (filing_words digits (digits_of_payload s f is))
+
+pub form_of-filing_line : (s : Stamp) (f : Filing) → IsStamp s → form_of (filing_line s f) ≡ Some filing_form
+form_of-filing_line s f is =
+    let digits = encode_lower (stamp_bytes s ++ spelling f) in
+    form_of-line (codes "filing") (digits ∷ []) (filing_words digits (digits_of_payload s f is))
+    ∙ ap (λ (b : Bool). if b then Some filing_form else None) (digits_of_payload s f is)
 
 -- the digits stand behind the word and before the line feed
 abbrev behind : List ℕ → List ℕ
@@ -58,11 +69,22 @@ behind-is digits =
 pub same_digits : (xs ys : List ℕ) → line_of (codes "filing" ∷ xs ∷ []) ≡ line_of (codes "filing" ∷ ys ∷ []) → xs ≡ ys
 same_digits xs ys e = sym (behind-is xs) ∙ ap behind e ∙ behind-is ys
 
-pub same_filing_line : (f g : Filing) → IsFiling f → IsFiling g → filing_line f ≡ filing_line g → f ≡ g
-same_filing_line f g is_f is_g e =
-    let digits = same_digits (encode_lower (spelling f)) (encode_lower (spelling g)) e in
-    let bytes : spelling f ≡ spelling g = same_bytes (spelling f) (spelling g) (bytes-spelling f) (bytes-spelling g) digits in
-    (is_alone f g [] is_f is_g (append-nil (spelling f) ∙ bytes)).same
+-- a filing under its stamp has a payload and a line of its own
+pub record AreSamePayload (s t : Stamp) (f g : Filing) : Type 0 where
+  pub stamp : s ≡ t
+  pub filing : f ≡ g
+
+pub same_payload : (s t : Stamp) (f g : Filing) → IsStamp s → IsStamp t → IsFiling f → IsFiling g → stamp_bytes s ++ spelling f ≡ stamp_bytes t ++ spelling g → AreSamePayload s t f g
+same_payload s t f g is_s is_t is_f is_g e =
+    let parts = stamp_alone s t (spelling f) (spelling g) is_s is_t e in
+    record { stamp = parts.stamp; filing = (is_alone f g [] is_f is_g (append-nil (spelling f) ∙ parts.behind)).same }
+
+pub same_filing_line : (s t : Stamp) (f g : Filing) → IsStamp s → IsStamp t → IsFiling f → IsFiling g → filing_line s f ≡ filing_line t g → AreSamePayload s t f g
+same_filing_line s t f g is_s is_t is_f is_g e =
+    let one = stamp_bytes s ++ spelling f in
+    let other = stamp_bytes t ++ spelling g in
+    same_payload s t f g is_s is_t is_f is_g
+    (same_bytes one other (bytes-payload s f is_s) (bytes-payload t g is_t) (same_digits (encode_lower one) (encode_lower other) e))
 
 -- ---- the line of a standing
 -- numbers that 64 digits write
@@ -157,13 +179,25 @@ same_standing_line s y t z r q from_s to_s from_y to_y is_r from_t to_t from_z t
     (cc, cc)
 
 -- ---- the last line
-pub is_line-end_line : (n m : ℕ) → n < 10 ^ 64 → m < 10 ^ 64 → IsLine (end_line n m)
-is_line-end_line n m few_n few_m = is_line-words (codes "end") (decimal n ∷ decimal m ∷ []) (refl, (visible_decimal n few_n, (visible_decimal m few_m, tt)))
+-- the digits of 32 bytes are those of a seal
+pub is_seal-encode_lower : (bytes : List ℕ) → length bytes ≡ 32 → IsBytes bytes → is_seal (encode_lower bytes) ≡ true
+is_seal-encode_lower bytes size are =
+    let many : length (encode_lower bytes) ≡ 64 = omega (arith, size, length-encode_with lower_digits bytes) in
+    let digits = are_digits-encode_lower bytes are in
+    and_from (length (encode_lower bytes) == 64) (list_all is_digit (encode_lower bytes)) (ap (λ n. n == 64) many)
+    (and_parts (length (encode_lower bytes) % 2 == 0) (list_all is_digit (encode_lower bytes)) digits).1
 
-end_tests : (n m : List ℕ) → is_whole n ≡ true → is_whole m ≡ true → form_of_end (n ∷ m ∷ []) ≡ Some end_form
-end_tests n m a b = rw (a, b) refl
+end_words : (n m : ℕ) (seal : List ℕ) → n < 10 ^ 64 → m < 10 ^ 64 → IsBytes seal → AllByRecursion AreVisible (codes "end" ∷ decimal n ∷ decimal m ∷ encode_lower seal ∷ [])
+end_words n m seal few_n few_m are =
+    (refl, (visible_decimal n few_n, (visible_decimal m few_m, (visible_digits (encode_lower seal) (are_digits-encode_lower seal are), tt))))
 
-pub form_of-end_line : (n m : ℕ) → n < 10 ^ 64 → m < 10 ^ 64 → form_of (end_line n m) ≡ Some end_form
-form_of-end_line n m few_n few_m =
-    form_of-line (codes "end") (decimal n ∷ decimal m ∷ []) (refl, (visible_decimal n few_n, (visible_decimal m few_m, tt)))
-    ∙ end_tests (decimal n) (decimal m) (is_whole-decimal n few_n) (is_whole-decimal m few_m)
+pub is_line-end_line : (n m : ℕ) (seal : List ℕ) → n < 10 ^ 64 → m < 10 ^ 64 → IsBytes seal → IsLine (end_line n m seal)
+is_line-end_line n m seal few_n few_m are = is_line-words (codes "end") (decimal n ∷ decimal m ∷ encode_lower seal ∷ []) (end_words n m seal few_n few_m are)
+
+end_tests : (n m seal : List ℕ) → is_whole n ≡ true → is_whole m ≡ true → is_seal seal ≡ true → form_of_end (n ∷ m ∷ seal ∷ []) ≡ Some end_form
+end_tests n m seal a b c = rw (a, b, c) refl
+
+pub form_of-end_line : (n m : ℕ) (seal : List ℕ) → n < 10 ^ 64 → m < 10 ^ 64 → length seal ≡ 32 → IsBytes seal → form_of (end_line n m seal) ≡ Some end_form
+form_of-end_line n m seal few_n few_m size are =
+    form_of-line (codes "end") (decimal n ∷ decimal m ∷ encode_lower seal ∷ []) (end_words n m seal few_n few_m are)
+    ∙ end_tests (decimal n) (decimal m) (encode_lower seal) (is_whole-decimal n few_n) (is_whole-decimal m few_m) (is_seal-encode_lower seal size are)

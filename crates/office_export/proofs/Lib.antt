@@ -8,6 +8,7 @@ pub mod Laws
 pub mod Lines
 pub mod Places
 pub mod Readings
+pub mod SealLemmas
 pub mod Spaced
 pub mod Told
 pub mod Visible

@@ -6,7 +6,7 @@ use Rattle.aid_types.specs.Whole.{whole_between, whole_of}
 use Rattle.aid_types.specs.declared.text.Malformed.{Malformed}
 use Rattle.hex.specs.Hex.{lower_digits}
 
--- a filing; where a student stands in a year; the counts
+-- a filing; where a student stands in a year; the counts and the seal
 pub data LineForm : Type 0 where
   filing_form : LineForm
   standing_form : ℕ → ℕ → LineForm
@@ -18,6 +18,10 @@ is_digit c = list_any (λ d. c == d) lower_digits
 
 abbrev pub are_digits : List ℕ → Bool
 are_digits text = length text % 2 == 0 && list_all is_digit text
+
+-- the 64 digits of a seal
+abbrev pub is_seal : List ℕ → Bool
+is_seal text = length text == 64 && list_all is_digit text
 
 -- a number or an amount of any size
 abbrev pub is_whole : List ℕ → Bool
@@ -49,7 +53,7 @@ form_of_standing (student ∷ year ∷ transaction ∷ formula ∷ sai ∷ way �
 form_of_standing _ = None
 
 abbrev pub form_of_end : List (List ℕ) → Option LineForm
-form_of_end (filings ∷ standings ∷ []) = if is_whole filings && is_whole standings then Some end_form else None
+form_of_end (filings ∷ standings ∷ seal ∷ []) = if is_whole filings && (is_whole standings && is_seal seal) then Some end_form else None
 form_of_end _ = None
 
 abbrev pub form_of_words : List (List ℕ) → Option LineForm

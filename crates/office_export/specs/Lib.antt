@@ -4,4 +4,5 @@ pub mod Forms
 pub mod InOrder
 pub mod Lines
 pub mod Said
+pub mod Seals
 pub mod Told

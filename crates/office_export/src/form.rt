@@ -6,17 +6,17 @@ ghost use Rattle.office_export.specs.Forms.{form_of as form_of_line, form_of_end
 ghost use Rattle.office_export.specs.Lines.{line_of};
 ghost use Rattle.office_export.specs.Said.{HasDigits, said};
 
-use crate::words::{are_counts, are_digits, cut, is_row, student_in, year_in};
+use crate::words::{are_digits, cut, is_end, is_row, student_in, year_in};
 use aid_types::{Student, Year};
 
 /// What a line tells, whether or not that is so.
 #[derive(Clone, Copy)]
 pub enum LineForm<'a> {
-    /// A filing, in digits of lower case.
+    /// A filing under its stamp, in digits of lower case.
     Filing(&'a [u8]),
     /// Where a student stands in a year.
     Standing(Student, Year),
-    /// How many filings and standings there are.
+    /// How many filings and standings there are, and the seal of the filings.
     End,
 }
 
@@ -107,10 +107,11 @@ fn end_form(words: &[u8]) -> Option<LineForm<'_>>
 {
     let (filings, rest) = cut(words);
     let (standings, rest) = cut(rest?);
+    let (seal, rest) = cut(rest?);
     if rest.is_some() {
         return None;
     }
-    if are_counts(filings, standings) {
+    if is_end(filings, standings, seal) {
         Some(LineForm::End)
     } else {
         None

@@ -3,7 +3,7 @@ ghost use Rattle.std.specs.Prelude.{◌≡◌, ◌≤ℤ◌, ◌∷◌, ◌++◌
 ghost use Rattle.std.specs.List.{list_all, slice_split};
 ghost use Rattle.std.specs.Option.{option_map_or};
 ghost use Rattle.aid_types.specs.Whole.{whole_between, whole_of};
-ghost use Rattle.office_export.specs.Forms.{are_digits as are_digits_of, is_amount as is_amount_of, is_digit as is_digit_of, is_formula as is_formula_of, is_way as is_way_of, is_whole as is_whole_of};
+ghost use Rattle.office_export.specs.Forms.{are_digits as are_digits_of, is_amount as is_amount_of, is_digit as is_digit_of, is_formula as is_formula_of, is_seal as is_seal_of, is_way as is_way_of, is_whole as is_whole_of};
 ghost use Rattle.office_export.specs.Said.{is_spelled as is_spelled_by, number_of};
 
 use aid_types::{Malformed, Student, Year, read_cents, read_whole};
@@ -105,11 +105,18 @@ pub(crate) fn is_row(
         && is_whole(used)
 }
 
-/// Whether both texts are whole numbers, of any size.
-pub(crate) fn are_counts(filings: &[u8], standings: &[u8]) -> bool
-    ensures { result ≡ (is_whole_of filings.now && is_whole_of standings.now) }
+/// Whether two texts are whole numbers, of any size, and the third the 64 digits of a seal.
+pub(crate) fn is_end(filings: &[u8], standings: &[u8], seal: &[u8]) -> bool
+    ensures { result ≡ (is_whole_of filings.now && (is_whole_of standings.now && is_seal_of seal.now)) }
 {
-    is_whole(filings) && is_whole(standings)
+    is_whole(filings) && is_whole(standings) && is_seal(seal)
+}
+
+/// Whether a text is the 64 digits of a seal.
+pub fn is_seal(text: &[u8]) -> bool
+    ensures { result ≡ is_seal_of text.now }
+{
+    text.len() == 64 && are_all_digits(text)
 }
 
 /// The student whose number a text is.

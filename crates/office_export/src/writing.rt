@@ -2,27 +2,32 @@
 ghost use Rattle.std.specs.Prelude.{◌≡◌, ◌∷◌, ◌++◌, [], OnOk, decimal};
 ghost use Rattle.aid_types.specs.Cents.{cents_text};
 ghost use Rattle.aid_types.specs.Whole.{whole_text};
+ghost use Rattle.aid_stamps.specs.Stamps.{IsStamp};
 ghost use Rattle.format_bytes.specs.Numbers.{IsFiling};
 ghost use Rattle.hex.specs.Hex.{encode_lower};
 ghost use Rattle.office_export.specs.Lines.{end_line, filing_line, standing_line};
 
 use aid_filings::{Filing, StandingRow};
+use aid_seals::Seal;
+use aid_stamps::Stamp;
 use aid_types::{Student, Year, formula_name, put_cents, way_name};
-use format_bytes::put;
+use format_bytes::put_stamped;
 use io_traits::PayloadBuffer;
 use itoa::Buffer;
 use std::alloc::AllocError;
 
-/// Appends the line of a filing. The room is where it is spelled first. An `Err` is want of memory.
+/// Appends the line of a filing under its stamp. The room is where both are spelled first. An `Err` is want of memory.
 pub fn put_filing_line(
     filing: &Filing,
+    stamp: &Stamp,
     room: &mut PayloadBuffer,
     out: &mut Vec<u8>,
 ) -> Result<(), AllocError>
-    ensures line { OnOk result (out.new.items ≡ out.old.items ++ filing_line filing.now) }
+    ensures line { OnOk result (out.new.items ≡ out.old.items ++ filing_line stamp.now filing.now) }
+    ensures is_stamp { IsStamp stamp.now }
     ensures is_filing { IsFiling filing.now }
 {
-    put(filing, room);
+    put_stamped(filing, stamp, room);
     put_word(b"filing", out)?;
     put_digits(room.bytes(), out)?;
     out.push(b'\n')?;
@@ -50,13 +55,21 @@ pub fn put_standing_line(
     put_number(u64::from(row.used), b'\n', out)
 }
 
-/// Appends the last line: how many filings and standings there are. An `Err` is want of memory.
-pub fn put_end_line(filings: u32, standings: u32, out: &mut Vec<u8>) -> Result<(), AllocError>
-    ensures { OnOk result (out.new.items ≡ out.old.items ++ end_line filings standings) }
+/// Appends the last line: how many filings and standings there are, and the seal of the filings. An `Err` is want of memory.
+pub fn put_end_line(
+    filings: u32,
+    standings: u32,
+    seal: &Seal,
+    out: &mut Vec<u8>,
+) -> Result<(), AllocError>
+    ensures { OnOk result (out.new.items ≡ out.old.items ++ end_line filings standings seal.now.bytes) }
 {
     put_word(b"end", out)?;
     put_number(u64::from(filings), b' ', out)?;
-    put_number(u64::from(standings), b'\n', out)
+    put_number(u64::from(standings), b' ', out)?;
+    put_digits(&seal.bytes, out)?;
+    out.push(b'\n')?;
+    Ok(())
 }
 
 // Appends a text and a byte behind it.

@@ -1,13 +1,15 @@
 -- The export of a history, written line by line.
-use Rattle.std.proofs.Common.{◌≡◌, ℕ, ◌+◌, ◌<◌, List, [], ◌∷◌, ◌++◌, length, map, reverse, take, get_or, refl, sym, ap, ◌∙◌, append-nil, append_assoc}
+use Rattle.std.proofs.Common.{◌≡◌, ℕ, ◌+◌, ◌<◌, List, [], ◌∷◌, ◌++◌, length, map, reverse, take, get_or, sym, ap, ◌∙◌, append-nil, append_assoc}
 use Rattle.std.specs.List.{concat}
-use Rattle.std.proofs.lemmas.List.{map_more, reverse-reverse}
+use Rattle.std.proofs.lemmas.List.{map_more}
 use Rattle.std.proofs.lemmas.List.Folds.{concat-append}
 use Rattle.aid_filings.specs.declared.filing.Filing.{Filing}
 use Rattle.office_history.specs.Answer.{standing_of}
 use Rattle.office_export.specs.Applicants.{applicants}
 use Rattle.office_export.specs.Exports.{export_text}
-use Rattle.office_export.specs.Lines.{end_line, filing_line, standing_line}
+use Rattle.office_export.specs.Lines.{end_line, payload_line, standing_line}
+use Rattle.office_export.specs.Seals.{office_seal, payloads}
+use Rattle.aid_stamps.specs.declared.stamp.Stamp.{Stamp}
 
 -- where a student stands on a history
 abbrev pub line_on : List Filing → ℕ → ℕ → List ℕ
@@ -23,20 +25,21 @@ lines-behind line h i x lt at front out more is e =
     ∙ ap (λ text. front ++ text) (sym (ap concat (map_more line h i x lt) ∙ concat-append (map line (take i h)) (line (get_or h i x) ∷ [])))
 
 -- all lines are the export
-pub exported : (past filings : List Filing) (year : ℕ) (students : List ℕ) (front count : ℕ) (first second text : List ℕ) → reverse filings ≡ past → students ≡ applicants (reverse filings) year
-    → front ≡ length past → count ≡ length students → first ≡ concat (map filing_line filings) → second ≡ first ++ concat (map (line_on past year) students)
-    → text ≡ second ++ end_line front count → text ≡ export_text past year
-exported past filings year students front count first second text of_past who number few lines standings whole =
+pub exported : (past filings : List Filing) (stamps : List Stamp) (year : ℕ) (students : List ℕ) (front count : ℕ) (seal first second text : List ℕ) → reverse filings ≡ past → students ≡ applicants (reverse filings) year
+    → front ≡ length past → count ≡ length students → seal ≡ office_seal (reverse filings) (reverse stamps)
+    → first ≡ concat (map payload_line (reverse (payloads (reverse filings) (reverse stamps)))) → second ≡ first ++ concat (map (line_on past year) students)
+    → text ≡ second ++ end_line front count seal → text ≡ export_text past (reverse stamps) year
+exported past filings stamps year students front count seal first second text of_past who number few sealed lines standings whole =
     let all : students ≡ applicants past year = who ∙ ap (λ (p : List Filing). applicants p year) of_past in
-    let oldest : filings ≡ reverse past = sym (reverse-reverse filings) ∙ ap (λ (p : List Filing). reverse p) of_past in
-    let front_lines = map filing_line (reverse past) in
+    let its_seal : seal ≡ office_seal past (reverse stamps) = sealed ∙ ap (λ (p : List Filing). office_seal p (reverse stamps)) of_past in
+    let its_lines : first ≡ concat (map payload_line (reverse (payloads past (reverse stamps)))) = lines ∙ ap (λ (p : List Filing). concat (map payload_line (reverse (payloads p (reverse stamps))))) of_past in
+    let front_lines = map payload_line (reverse (payloads past (reverse stamps))) in
     let standing_lines = map (line_on past year) (applicants past year) in
-    let last = end_line (length past) (length (applicants past year)) in
-    whole
-    ∙ ap (λ (s : List ℕ). s ++ end_line front count) (standings ∙ ap (λ (f : List ℕ). f ++ concat (map (line_on past year) students)) (lines ∙ ap (λ (fs : List Filing). concat (map filing_line fs)) oldest)
-    ∙ ap (λ (ss : List ℕ). concat front_lines ++ concat (map (line_on past year) ss)) all)
-    ∙ ap (λ n. concat front_lines ++ concat standing_lines ++ end_line n count) number
-    ∙ ap (λ n. concat front_lines ++ concat standing_lines ++ end_line (length past) n) (few ∙ ap (λ (ss : List ℕ). length ss) all)
+    let last = end_line (length past) (length (applicants past year)) (office_seal past (reverse stamps)) in
+    let counted : count ≡ length (applicants past year) = few ∙ ap (λ (ss : List ℕ). length ss) all in
+    let ended : end_line front count seal ≡ last = λ i. end_line (number i) (counted i) (its_seal i) in
+    let told : second ≡ concat front_lines ++ concat standing_lines = standings ∙ (λ i. its_lines i ++ concat (map (line_on past year) (all i))) in
+    whole ∙ (λ i. told i ++ ended i)
     ∙ ap (λ (s : List ℕ). s ++ last) (sym (concat-append front_lines standing_lines))
     ∙ ap (λ (s : List ℕ). concat (front_lines ++ standing_lines) ++ s) (sym (append-nil last))
     ∙ sym (concat-append (front_lines ++ standing_lines) (last ∷ []))

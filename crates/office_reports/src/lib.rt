@@ -22,5 +22,5 @@ pub use exported::export;
 pub use gathered::{push_told, sort_students};
 pub use laws::{places_of_awards, returns_in_order, students_of_reports};
 pub use reports::{awards, lifetimes, returns, stamp_lines, standings};
-pub use sealed::{seal_line, seal_lines, seal_of_filings};
+pub use sealed::{seal_line, seal_lines};
 pub use table::{ReportLine, put_count, table_of};

@@ -21,7 +21,7 @@ pub use front::front_of;
 pub use headed::headed_text;
 pub use laws::{rows_of_student, totals_of_payments};
 pub use ledger::student;
-pub use lists::list;
+pub use lists::{list, put_list_line};
 pub use pieces::{clerk_or_hyphen, none_text, put_bytes, put_day_column, put_dollars, put_number};
 pub use term_payments::payments;
 pub use term_quotes::quotes;

@@ -47,11 +47,12 @@ fn put_line_at(
         unreachable!();
     };
     let place = index as usize;
-    put_line(place + 1, &stamps[place], &filings[place], &outcome, out)
+    put_list_line(place + 1, &stamps[place], &filings[place], &outcome, out)
 }
 
-// Appends the line of a filing.
-fn put_line(
+/// Appends the line of the list of a filing at a position: the position, the stamp's day and clerk, row and outcome, a blank between
+/// each two. An `Err` is want of memory.
+pub fn put_list_line(
     position: usize,
     stamp: &Stamp,
     filing: &Filing,

@@ -9,6 +9,8 @@ mod audits;
 #[cfg(test)]
 mod clock_rows;
 #[cfg(test)]
+mod reviews;
+#[cfg(test)]
 mod sheets;
 #[cfg(test)]
 mod texts;

@@ -8,7 +8,11 @@ use std::test::Fail;
 use whole_runs::{EMPTY, disk, ran, words_of};
 
 // The file of an office in which the specimen book, and then these rows, were filed with these answers.
-fn office(rt: &impl Abort, alloc: Global, inputs: &[(&str, &str)]) -> Result<MemoryDisk, Fail> {
+pub(crate) fn office(
+    rt: &impl Abort,
+    alloc: Global,
+    inputs: &[(&str, &str)],
+) -> Result<MemoryDisk, Fail> {
     office_with(rt, alloc, BOOK_TEXT, "file", inputs)
 }
 
@@ -182,6 +186,7 @@ fn names_that_are_on_no_file(rt: HostRuntime) -> Result<(), Fail> {
         "upto 19 list",
         "upto 19 report seal",
         "upto 19 book show 2025",
+        "upto 19 review 5001 2025",
         "upto 4294967295 list",
     ] {
         assert_sheet(&rt, alloc, year.image(), line, 0, "none\n")?;
@@ -238,6 +243,10 @@ fn words_and_files_that_are_none(rt: HostRuntime) -> Result<(), Fail> {
         "book show",
         "book show 1999",
         "book shown 2025",
+        "review 5001",
+        "review 0 2025",
+        "review 5001 1999",
+        "review 5001 2025 1",
         "report seal 2025",
         "report seals 2025",
         "found",
@@ -248,7 +257,8 @@ fn words_and_files_that_are_none(rt: HostRuntime) -> Result<(), Fail> {
 }
 
 // The seals of the worked year and of its fronts, by Python's hashlib over the records of the journal.
-const SEAL_0: &str = "sealed 0 092a3fdaeae11550f37fdfa66bd29ffd4929e9e0bd89325534e400ffeb7ac1c0\n";
+pub(crate) const SEAL_0: &str =
+    "sealed 0 092a3fdaeae11550f37fdfa66bd29ffd4929e9e0bd89325534e400ffeb7ac1c0\n";
 
 const SEAL_7: &str = "sealed 7 6bbd205ebbd33084e9737cf4df681aeb5c22b8f253be9d47425e855397d14adf\n";
 
@@ -258,7 +268,7 @@ const SEAL_16: &str =
 const SEAL_17: &str =
     "sealed 17 5b2ce25bd673b0a50c89acc913e0e2d6b1a94d2f57d33109008eaa05d560a740\n";
 
-const SEAL_18: &str =
+pub(crate) const SEAL_18: &str =
     "sealed 18 d35f528348bad3e0a53647fb2b439ef3cc00f1ff4cc9a8ec584b01e6313d9ba9\n";
 
 // Those of the year with what was sent back, and with two more applications.
@@ -268,15 +278,15 @@ const SENT_SEAL_19: &str =
 const SENT_SEAL_21: &str =
     "sealed 21 e4ea41d05e952802465c62c704fa922246f510814fb66acb11d6e82b763a3ade\n";
 
-const APPLIED_SEAL: &str =
+pub(crate) const APPLIED_SEAL: &str =
     "sealed 20 85eb2f930b35cfeb2e0fc09cea29a5959320ac8291f3e82ebd42d07bf6aadbc0\n";
 
 // Applications of a student without dependents, and of one with a dependent.
-const APPLIED: &str = "\
+pub(crate) const APPLIED: &str = "\
 apply,110,50,5002,2025,1,2000,0,1,0,0,0,0,0,0,0,0,0,0,1,20000,0,0,0,0,0,0,0,0,600,20000,0,0,1000,0,0,1,1,48,0,0,0,0,0,0,0,0,0,0,0,0,0,0,0,0\n\
 apply,110,51,5003,2025,1,1990,0,2,0,0,0,0,1,0,0,0,0,0,1,60000,0,0,0,0,0,0,0,0,3000,60000,0,0,0,40000,0,1,1,48,0,0,0,0,0,0,0,0,0,0,0,0,0,0,0,0\n";
 
-const ANSWERED: &str = "\
+pub(crate) const ANSWERED: &str = "\
 1 18 accepted 19 index B -20 maximum 7395\n\
 2 19 accepted 20 index C -707 calculated 7395\n";
 
@@ -299,7 +309,7 @@ position,school,number,kind,student,year,term,program,amount,total,day,clerk\n\
 19,110,8,adjust,5001,2025,1,unsub,-250.00,750.00,1970-01-01,-\n";
 
 // The worksheet of a withdrawal, after the student repaid and before.
-const RETURN: &str = "\
+pub(crate) const RETURN: &str = "\
 Return of funds: student 5001, school 120, award year 2025, term 2\n\
 withdrawal at 17, number 8: last day 2026-01-30, determined 2026-02-05, return due 2026-03-22\n\
 \x20                                   unsub        sub       plus       pell      fseog      teach        all\n\
@@ -453,7 +463,7 @@ const LIST: &str = "\
 rows 18\n";
 
 // All about one student.
-const LEDGER: &str = "\
+pub(crate) const LEDGER: &str = "\
 \x20      8 1970-01-01 -           110            3 2025 - apply     index A 5104 calculated 2290\n\
 \x20      9 1970-01-01 -           110            4 2025 1 enrol     12 credits\n\
 \x20     10 1970-01-01 -           110            5 2025 - originate 24000 dollars\n\
@@ -474,7 +484,7 @@ student,credits,scheduled,pell,quote\n\
 5001,12,2290,0.00,1145\n";
 
 // Formula A.
-const DEPENDENT: &str = "\
+pub(crate) const DEPENDENT: &str = "\
 Student Aid Index of student 5001, award year 2025: formula A\n\
 application at 8, transaction 1; year book at 1\n\
 parents\n\
@@ -522,7 +532,7 @@ award\n\
 \x20  final Student Aid Index                             5104\n";
 
 // Formula B, of a student who earned 20,000 dollars.
-const SINGLE: &str = "\
+pub(crate) const SINGLE: &str = "\
 Student Aid Index of student 5002, award year 2025: formula B\n\
 application at 19, transaction 1; year book at 1\n\
 student\n\

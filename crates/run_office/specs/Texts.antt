@@ -19,7 +19,7 @@ report_text reports.Lifetime past = lifetime_report (entries past)
 report_text reports.Stamps past = stamp_report (reverse (stamps_of past))
 report_text reports.Seal past = seal_report (entries past) (stamps_of past)
 report_text reports.Seals past = seals_report (entries past) (stamps_of past)
-report_text (reports.Export of) past = export_text (entries past) of.year
+report_text (reports.Export of) past = export_text (entries past) (stamps_of past) of.year
 
 -- the tally of no verdicts
 abbrev pub no_verdicts : YearTally

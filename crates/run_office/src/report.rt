@@ -28,7 +28,7 @@ impl Report<StampedOfficeMachine> for OfficeReport {
             ReportRequest::Stamps => stamp_lines(alloc, machine.stamps()),
             ReportRequest::Seal => seal_line(alloc, office.filings(), machine.stamps()),
             ReportRequest::Seals => seal_lines(alloc, office.filings(), machine.stamps()),
-            ReportRequest::Export(of) => export(alloc, office, of.year),
+            ReportRequest::Export(of) => export(alloc, office, machine.stamps(), of.year),
         }
     }
 }

@@ -1,12 +1,12 @@
 -- Laws of the words of a plan.
-use Rattle.std.proofs.Common.{◌≡◌, ◌↔◌, ℕ, ◌<◌, ◌≤◌, List, ◌∷◌, [], map, length, refl, sym, ◌∙◌, ap, subst, codes}
+use Rattle.std.proofs.Common.{◌≡◌, ◌↔◌, ℕ, ◌<◌, ◌≤◌, List, ◌∷◌, [], IsTrue, map, length, refl, sym, ◌∙◌, ap, subst, codes}
 use Rattle.aid_stamps.specs.Stamps.{plain_stamp}
 use Rattle.aid_stamps.specs.declared.stamp.Stamp.{Stamp}
 use Rattle.run_words.specs.declared.command.MainRow.{MainRow}
 use Rattle.run_words.specs.Stamped.{AreStampedServe, IsAmend}
 use Rattle.run_words.specs.Words.{IsChanges, IsUpgrade}
 use Rattle.run_words.specs.declared.command.MainRow.TheVariants.{Amend, Changes, Desks, Serve, Upgrade}
-use Rattle.run_plan.specs.Plans.{AreDesksOf, IsFounding, IsUnheld, Suits}
+use Rattle.run_plan.specs.Plans.{AreDesksOf, IsFounding, IsUnheld, Suits, is_reading}
 use Rattle.run_plan.specs.declared.plan.Opening.{Opening}
 use Rattle.run_plan.specs.declared.plan.Opening.TheVariants as opening
 use Rattle.run_plan.specs.declared.plan.Program.{Program}
@@ -46,7 +46,7 @@ pub suits_of : {S : Type 0} (text : S → List ℕ) (program : Program) (one oth
     → (call ≡ Upgrade) ↔ ((program ≡ Office) × ((file : List ℕ) × IsUpgrade (map text one) file))
     → (call ≡ Amend) ↔ ((program ≡ Office) × (stamp : Stamp) × (file : List ℕ) × (number : ℕ) × IsAmend (map text one) stamp file number)
     → (call ≡ Changes) ↔ ((program ≡ Sheet) × ((file : List ℕ) × IsChanges (map text one) file))
-    → (how ≡ opening.Read) ↔ (program ≡ Sheet) → (how ≡ opening.Open → (program ≡ Office) × IsUnheld call (map text other)) → (how ≡ opening.Found) ↔ IsFounding program (map text other)
+    → (how ≡ opening.Read) ↔ IsTrue (is_reading program (map text other)) → (how ≡ opening.Open → (program ≡ Office) × IsUnheld call (map text other)) → (how ≡ opening.Found) ↔ IsFounding program (map text other)
     → Suits program (map text words) call how
 suits_of {S} text program one other words call how is also desks serve upgrade amend changes read unheld founds = record {
   desks = subst (λ (ws : List S). (files : ℕ) (stamp : Stamp) → (call ≡ Desks files stamp) ↔ AreDesksOf program (map text ws) files stamp) is desks;
@@ -54,7 +54,7 @@ suits_of {S} text program one other words call how is also desks serve upgrade a
   upgrade = subst (λ (ws : List S). (call ≡ Upgrade) ↔ ((program ≡ Office) × ((file : List ℕ) × IsUpgrade (map text ws) file))) is upgrade;
   amend = subst (λ (ws : List S). (call ≡ Amend) ↔ ((program ≡ Office) × (stamp : Stamp) × (file : List ℕ) × (number : ℕ) × IsAmend (map text ws) stamp file number)) is amend;
   changes = subst (λ (ws : List S). (call ≡ Changes) ↔ ((program ≡ Sheet) × ((file : List ℕ) × IsChanges (map text ws) file))) is changes;
-  read = read;
+  read = subst (λ (ws : List S). (how ≡ opening.Read) ↔ IsTrue (is_reading program (map text ws))) also read;
   unheld = subst (λ (ws : List S). how ≡ opening.Open → (program ≡ Office) × IsUnheld call (map text ws)) also unheld;
   founds = subst (λ (ws : List S). (how ≡ opening.Found) ↔ IsFounding program (map text ws)) also founds;
 }

@@ -1,6 +1,6 @@
 -- What the words of the program say of its opening: whose they are, which file is the journal and how it is opened, and which call is
 -- made. Own format.
-use Rattle.std.specs.Prelude.{◌≡◌, ◌⊎◌, ◌↔◌, ◌||◌, ℕ, Bool, false, IsTrue, List, [], ◌∷◌, bytes_eq, codes, if◌then◌else◌, length, map, string_bytes}
+use Rattle.std.specs.Prelude.{◌≡◌, ◌⊎◌, ◌↔◌, ◌||◌, ℕ, Bool, false, true, IsTrue, List, [], ◌∷◌, bytes_eq, codes, if◌then◌else◌, length, map, string_bytes}
 use Rattle.aid_types.specs.Ranges.{IsBetween}
 use Rattle.aid_stamps.specs.Stamps.{plain_stamp}
 use Rattle.aid_stamps.specs.declared.stamp.Stamp.{Stamp}
@@ -55,6 +55,18 @@ AreDesksOf Loans words files stamp = (stamp ≡ plain_stamp) × (paths : List (L
 AreDesksOf Work words files stamp = ⊥
 AreDesksOf Sheet words files stamp = ⊥
 
+-- the words behind a desk's journal ask for a text of its list: they begin with `report` or with `upto`
+abbrev pub asks_report : List (List ℕ) → Bool
+asks_report [] = false
+asks_report (word ∷ behind) = bytes_eq word (codes "report") || bytes_eq word (codes "upto")
+
+-- the words need no more than to read the journal: those of a sheet, and of a text of a desk's list
+abbrev pub is_reading : Program → List (List ℕ) → Bool
+is_reading Office words = false
+is_reading Loans words = asks_report words
+is_reading Work words = asks_report words
+is_reading Sheet words = true
+
 -- the words found a list in the journal's file, or build one there of another journal
 abbrev pub IsFounding : Program → List (List ℕ) → Type 0
 IsFounding Office words = ((stamp : Stamp) × IsStamped words stamp (codes "found" ∷ []))
@@ -75,8 +87,8 @@ pub record Suits (program : Program) (words : List (List ℕ)) (call : MainRow) 
   pub upgrade : (call ≡ row.Upgrade) ↔ ((program ≡ Office) × ((file : List ℕ) × IsUpgrade words file))
   pub amend : (call ≡ row.Amend) ↔ ((program ≡ Office) × (stamp : Stamp) × (file : List ℕ) × (number : ℕ) × IsAmend words stamp file number)
   pub changes : (call ≡ row.Changes) ↔ ((program ≡ Sheet) × ((file : List ℕ) × IsChanges words file))
-  -- only a sheet's journal is opened for reading alone
-  pub read : (how ≡ opening.Read) ↔ (program ≡ Sheet)
+  -- only a journal that is read alone is opened so
+  pub read : (how ≡ opening.Read) ↔ IsTrue (is_reading program words)
   -- only a journal that nothing is done with isn't held
   pub unheld : how ≡ opening.Open → (program ≡ Office) × IsUnheld call words
   pub founds : (how ≡ opening.Found) ↔ IsFounding program words

@@ -3,7 +3,7 @@ ghost use Rattle.std.specs.Prelude.{◌≡◌, ◌≢◌, ◌↔◌, ◌⊎◌, 
 ghost use Rattle.aid_stamps.specs.declared.stamp.Stamp.{Stamp as StampData};
 ghost use Rattle.run_words.specs.Stamped.{AreStampedServe, IsAmend};
 ghost use Rattle.run_words.specs.Words.{IsChanges, IsUpgrade};
-ghost use Rattle.run_plan.specs.Plans.{AreDesksOf, IsFounding, IsPlan, IsPlanFromPath, IsUnheld, Suits, from_path, is_audit as is_audit_in, program_in as program_of_words, program_of as program_of_word};
+ghost use Rattle.run_plan.specs.Plans.{AreDesksOf, IsFounding, IsPlan, IsPlanFromPath, IsUnheld, Suits, asks_report as asks_report_in, from_path, is_audit as is_audit_in, is_reading, program_in as program_of_words, program_of as program_of_word};
 
 use aid_stamps::Stamp;
 use run_words::{MOST_DESKS, MainRow, changes_file, is_found, needs_journal, row_of};
@@ -231,13 +231,26 @@ fn run_opening(words: &[String]) -> Opening
     }
 }
 
+// Whether the words ask for a text of a desk's list.
+fn asks_report(words: &[String]) -> bool
+    ensures { result ≡ asks_report_in (map string_bytes words.now) }
+{
+    match words.split_first() {
+        Some((word, _)) => is_word(word.as_str(), "report") || is_word(word.as_str(), "upto"),
+        None => false,
+    }
+}
+
 // How the file of a desk's list is opened.
 fn list_opening(words: &[String]) -> Opening
     ensures founds { (result ≡ Opening.Found) ↔ (map string_bytes words.now ≡ codes "found" ∷ []) }
-    ensures held { (result ≡ Opening.Found) ⊎ (result ≡ Opening.Hold) }
+    ensures read { (result ≡ Opening.Read) ↔ IsTrue (asks_report_in (map string_bytes words.now)) }
+    ensures kept { result ≢ Opening.Open }
 {
     if is_found_alone(words) {
         Opening::Found
+    } else if asks_report(words) {
+        Opening::Read
     } else {
         Opening::Hold
     }
@@ -249,7 +262,7 @@ fn opening_for(program: Program, row: &MainRow, words: &[String]) -> Opening
     requires amend { (row.now ≡ MainRow.Amend) ↔ ((program ≡ Program.Office) × (stamp : StampData) × (file : List ℕ) × (number : ℕ)
         × IsAmend (map string_bytes words.now) stamp file number) }
     ensures founds { (result ≡ Opening.Found) ↔ IsFounding program (map string_bytes words.now) }
-    ensures read { (result ≡ Opening.Read) ↔ (program ≡ Program.Sheet) }
+    ensures read { (result ≡ Opening.Read) ↔ IsTrue (is_reading program (map string_bytes words.now)) }
     ensures unheld { result ≡ Opening.Open → (program ≡ Program.Office) × IsUnheld row.now (map string_bytes words.now) }
 {
     match program {
@@ -294,7 +307,7 @@ fn plan_from_path(program: Program, words: Vec<String>) -> Plan
 
 /// What the words say: `audit` or `clock` in front is the auditor's; `loans`, `work` or `sheet` in front is that desk's word, and the
 /// next one is its journal's path; with any other word in front it is itself the path of an aid office's journal. The journal's file is
-/// held for this run wherever the run may write it, and only read for a sheet. It takes no memory.
+/// held for this run wherever the run may write it, and only read for a sheet or a text of a desk's list. It takes no memory.
 pub fn plan_of(words: Vec<String>) -> Plan
     ensures { IsPlan (map string_bytes words.items) result }
 {

@@ -28,8 +28,13 @@ use Rattle.run_rules.specs.Runs.{RanRuled, table_rows}
 use Rattle.run_rules.specs.Words.{command_in as rule_command}
 use Rattle.run_rules.specs.declared.desks.RuleDeskInput.{RuleDeskInput}
 use Rattle.run_server.specs.RanWeb.{RanWeb}
+use Rattle.desk_sheets.specs.Runs.{asked_by}
+use Rattle.desk_sheets.specs.Words.{row_in}
+use Rattle.log_rules.specs.Ruled.{scheme_of}
+use Rattle.run_reports.specs.Runs.{RanReport}
+use Rattle.run_reports.specs.Runs as reports
+use Rattle.work_study.specs.Ruling.{work_ruling}
 use Rattle.run_sheets.specs.Runs.{RanSheets}
-use Rattle.run_sheets.specs.Runs as sheets
 use Rattle.run_builds.specs.Amendments.{Amending}
 use Rattle.run_builds.specs.Comparisons.{Comparing}
 use Rattle.run_builds.specs.Upgrades.{Upgrades}
@@ -82,8 +87,14 @@ pub data Performed {D B F P K Policy : Type 0} (names : List (List ℕ)) (gives 
       → RanWork grants of.disk of.sink (counts_of of source out out' old new) old new input out out' (work_command schools words) status
       → Performed names gives schools grants of source input words out out' (task.Work old) (task.Work new) status
   sheet : (old new : B) (status : ℕ)
-      → RanSheets of.to_read of.sink (sheets.edges (of.sink.faults out, of.sink.faults out') (of.to_read.faults old, of.to_read.faults new)) words old new out out' status
+      → RanSheets of.to_read of.sink (reports.edges (of.sink.faults out, of.sink.faults out') (of.to_read.faults old, of.to_read.faults new)) words old new out out' status
       → Performed names gives schools grants of source input words out out' (task.Sheet old) (task.Sheet new) status
+  loan_sheet : (old new : B) (status : ℕ)
+      → RanReport of.to_read of.sink (scheme_of loan_ruling) (reports.edges (of.sink.faults out, of.sink.faults out') (of.to_read.faults old, of.to_read.faults new)) (asked_by (scheme_of loan_ruling) (row_in words)) old new out out' status
+      → Performed names gives schools grants of source input words out out' (task.LoanSheet old) (task.LoanSheet new) status
+  work_sheet : (old new : B) (status : ℕ)
+      → RanReport of.to_read of.sink (scheme_of work_ruling) (reports.edges (of.sink.faults out, of.sink.faults out') (of.to_read.faults old, of.to_read.faults new)) (asked_by (scheme_of work_ruling) (row_in words)) old new out out' status
+      → Performed names gives schools grants of source input words out out' (task.WorkSheet old) (task.WorkSheet new) status
   changes : (one one' other other' : B) (status : ℕ)
       → Comparing of.to_read of.to_read of.sink
       (record { old = (of.to_read.faults one, of.to_read.faults one'); new = (of.to_read.faults other, of.to_read.faults other'); sink = (of.sink.faults out, of.sink.faults out') }) one other out out' status

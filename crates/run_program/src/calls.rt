@@ -6,6 +6,7 @@ ghost use Rattle.run_program.specs.Performed.{Performed};
 
 use crate::task::{KnownPolicies, Task};
 use audit::run_audit;
+use desk_sheets::run_desk_sheets;
 use io_traits::{Disk, NoSyncPoint, Sink, Source};
 use law_funds::Rule;
 use loans::Loans;
@@ -19,11 +20,12 @@ use std::sync::Wait;
 use std::thread::Threads;
 use web_session::Acceptor;
 use work_rounds::run_work;
+use work_study::WorkStudy;
 
 /// Performs a task, and answers the status, and what was opened as it is then. `words` are those that the task's run reads, and
 /// `input` is the one input of a run that has no desks. Which status it is, what is written and what becomes of the journal is that
 /// which the task's own call says: `run`, `run_desks`, `run_web`, `upgrade`, `amend`, `run_ruled`, `run_ruled_desks`, `run_work`,
-/// `run_sheets`, `changes` or `run_audit`.
+/// `run_sheets`, `run_desk_sheets`, `changes` or `run_audit`.
 pub fn perform<
     D: Disk + Send,
     B: Disk,
@@ -103,6 +105,14 @@ where
         Task::Sheet(disk) => {
             let (status, disk) = run_sheets(alloc, words, disk, out);
             (status, Task::Sheet(disk))
+        }
+        Task::LoanSheet(disk) => {
+            let (status, disk) = run_desk_sheets::<B, K, Loans>(alloc, words, disk, out);
+            (status, Task::LoanSheet(disk))
+        }
+        Task::WorkSheet(disk) => {
+            let (status, disk) = run_desk_sheets::<B, K, WorkStudy>(alloc, words, disk, out);
+            (status, Task::WorkSheet(disk))
         }
         Task::Changes { old, new } => {
             let (status, old, new) = changes(alloc, old, new, out);

@@ -1,6 +1,6 @@
 //! What a plan names is opened, its task is performed, and the program ends. Of the real outside nothing is promised here.
 ghost use Rattle.std.specs.Prelude.{◌≡◌, IfOk, length, map, string_bytes};
-ghost use Rattle.run_program.specs.Requests.{IsOfSheet, TakesRequest};
+ghost use Rattle.run_program.specs.Requests.{IsOfSheet, IsReading, TakesRequest};
 
 use crate::calls::perform;
 use crate::task::{KnownPolicies, Task};
@@ -232,6 +232,22 @@ fn sheet_task<'a, H>(
     }
 }
 
+// The task of a text of a journal that is read alone: a sheet, or a text of a desk's list.
+fn reading_task<'a, H>(
+    rt: &HostRuntime,
+    program: Program,
+    path: &str,
+    words: &[String],
+) -> Result<HostTask<'a, H>, NotOpened>
+    ensures { IfOk result (IsReading program (map string_bytes words.now)) }
+{
+    match program {
+        Program::Loans => Ok(Task::LoanSheet(open_to_read(rt, "the journal", path)?)),
+        Program::Work => Ok(Task::WorkSheet(open_to_read(rt, "the journal", path)?)),
+        Program::Office | Program::Sheet => sheet_task(rt, path, words),
+    }
+}
+
 // The task of a run of the loan desk, or of several.
 fn loan_task<'a, H>(
     rt: &HostRuntime,
@@ -262,7 +278,7 @@ fn run_plan<
         opening,
     } = plan;
     if let Opening::Read = opening {
-        let task = sheet_task(rt, path.as_str(), &words)?;
+        let task = reading_task(rt, program, path.as_str(), &words)?;
         return Ok(perform_host(rt, host, task, &words, out));
     }
     let disk = open_disk(rt, path, opening)?;

@@ -55,6 +55,10 @@ pub enum Task<D, B, F, P> {
     Work(D),
     /// A sheet of the aid office.
     Sheet(B),
+    /// A text of the loan desk's list.
+    LoanSheet(B),
+    /// A text of the work-study desk's list.
+    WorkSheet(B),
     /// Two journals are compared.
     Changes {
         old: B,

@@ -27,26 +27,33 @@ usage: aid_office JOURNAL found
        aid_office loans JOURNAL .. (the Direct Loan desk)
        aid_office work JOURNAL .. (work-study)
        aid_office sheet JOURNAL .. (sheets, which file nothing)
-       aid_office audit < EXPORT
+       aid_office audit .. < EXPORT (the auditor)
        aid_office clock < ROWS.csv";
 
 /// How the loan desk's words go.
 const LOANS: &str = "\
 usage: aid_office loans JOURNAL found
        aid_office loans JOURNAL file < ROWS.csv
-       aid_office loans JOURNAL desks ROWS.csv..";
+       aid_office loans JOURNAL desks ROWS.csv..
+       aid_office loans JOURNAL report seal
+       aid_office loans JOURNAL report seals
+       aid_office loans JOURNAL upto POSITION report .. (of the first so many filings)";
 
 /// How the work-study desk's words go.
 const WORK: &str = "\
 usage: aid_office work JOURNAL found
        aid_office work JOURNAL file < ROWS.csv
-       aid_office work JOURNAL round SCHOOL YEAR NUMBER < STUDENTS.csv";
+       aid_office work JOURNAL round SCHOOL YEAR NUMBER < STUDENTS.csv
+       aid_office work JOURNAL report seal
+       aid_office work JOURNAL report seals
+       aid_office work JOURNAL upto POSITION report .. (of the first so many filings)";
 
 /// How the words of sheets go.
 const SHEET: &str = "\
 usage: aid_office sheet JOURNAL list
        aid_office sheet JOURNAL student STUDENT
        aid_office sheet JOURNAL need STUDENT YEAR
+       aid_office sheet JOURNAL review STUDENT YEAR
        aid_office sheet JOURNAL quotes SCHOOL YEAR TERM
        aid_office sheet JOURNAL payments SCHOOL YEAR TERM
        aid_office sheet JOURNAL withdrawal SCHOOL STUDENT YEAR TERM
@@ -60,6 +67,9 @@ usage: aid_office sheet JOURNAL list
 /// How the auditor's words go.
 pub(crate) const AUDIT: &str = "\
 usage: aid_office audit < EXPORT
+       aid_office audit FILINGS SEAL < EXPORT
+       aid_office audit whole < EXPORT
+       aid_office audit whole FILINGS SEAL < EXPORT
        aid_office clock < ROWS.csv";
 
 /// How the words go of whom they are.

@@ -7,13 +7,13 @@ use Rattle.aid_seals.proofs.Lines.{line_or_clash}
 use Rattle.aid_stamps.specs.Stamps.{stamp_bytes}
 use Rattle.format_bytes.specs.Spelling.{spelling}
 use Rattle.log_machine.specs.Recovers.{AreEntries}
-use Rattle.log_stamps.specs.Entries.{entries, stamps_of}
+use Rattle.log_stamps.specs.Entries.{entries}
 use Rattle.log_stamps.specs.StampedLaws.{length-entries}
 use Rattle.log_stamps.specs.declared.entry.StampedEntry.{StampedEntry}
 use Rattle.office_log.specs.OfficeLaws.{office_alone}
 use Rattle.office_log.specs.Recovers.{Recovers}
 use Rattle.office_log.specs.Scheme.{office_header, office_scheme}
-use Rattle.office_reports.specs.Seals.{office_name, payloads, seal_report}
+use Rattle.office_export.specs.Seals.{office_name}
 use Rattle.run_sheets.specs.SealLaws.{IsOneOrCollision, records_of}
 use Rattle.run_sheets.specs.Texts.{first_of, sheet_of, sheet_upto}
 use Rattle.run_sheets.specs.declared.request.Position.{Position}

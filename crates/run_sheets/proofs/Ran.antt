@@ -1,108 +1,37 @@
--- What follows from how a sheet is written.
-use Rattle.std.proofs.Common.{◌≡◌, inl, inr, ℕ, ◌≤◌, arith, false, List, ◌++◌, Result, Ok, IsTrue, ap, refl, subst, sym, ◌∙◌}
-use Rattle.std.specs.Prelude.{IfErr}
-use Rattle.io_traits.specs.Faults.{Rose}
+-- What a run does that writes a sheet, by what a run does that writes a text.
+use Rattle.std.proofs.Common.{◌≡◌, ◌∙◌, ℕ, List, Option, Some, None, subst, sym}
 use Rattle.io_traits.specs.declared.sink.Sink.{Ghosts as SinkGhosts}
-use Rattle.aid_filings.specs.declared.filing.Filing.{Filing}
-use Rattle.io_traits.specs.DiskState.{EachImage, EachMoment, IsHonest}
 use Rattle.io_traits.specs.declared.disk.Disk.{Ghosts}
-use Rattle.log_machine.proofs.Histories.{recovers_once}
-use Rattle.office_log.specs.OfficeLaws.{office_alone}
-use Rattle.office_log.specs.Openable.{IsOffice}
-use Rattle.office_log.specs.Recovers.{Recovers}
-use Rattle.office_log.specs.Scheme.{office_scheme}
-use Rattle.log_runs.specs.Counts.{Counts, HasCause, written}
-use Rattle.log_runs.specs.Ends.{Ends, Moved, stopped, well}
-use Rattle.log_runs.specs.Statuses.{ended_file, is_disk_fault, is_read_fault, is_write_fault, status_of}
-use Rattle.log_runs.specs.declared.stop.RunStop.{RunStop}
-use Rattle.log_runs.proofs.EndLaws.{done_at, sink_moved}
-use Rattle.log_runs.proofs.Excused.{IsExcused, unopened_by}
-use Rattle.log_session.specs.Edges.{Output}
-use Rattle.log_session.specs.Links.{IsOpened}
-use Rattle.log_session.specs.Reports.{Reports, starved, told, unopened, unwritten}
-use Rattle.log_session.specs.declared.stop.SessionStop.{SessionStop}
+use Rattle.aid_filings.specs.declared.filing.Filing.{Filing}
+use Rattle.log_runs.specs.Counts.{Counts, written}
+use Rattle.log_session.specs.Reports.{Reports}
 use Rattle.log_stamps.specs.declared.entry.StampedEntry.{StampedEntry}
-use Rattle.run_sheets.specs.Runs.{RanSheets, did, edges}
+use Rattle.office_log.specs.Scheme.{office_scheme}
+use Rattle.run_reports.specs.Runs.{RanReport, did as told, unasked}
+use Rattle.run_sheets.specs.Runs.{RanSheets, did, no_row}
 use Rattle.run_sheets.specs.Texts.{sheet_text}
 use Rattle.run_sheets.specs.Words.{sheet_words}
 use Rattle.run_sheets.specs.declared.request.SheetRow.{SheetRow}
 
--- a file recovers one list at most
-pub once : (file : List ℕ) (one other : List (StampedEntry Filing)) → Recovers file one → Recovers file other → one ≡ other
-once file one other = recovers_once office_scheme office_alone file one other
+-- one text is asked for at most
+one_text : {A : Type 0} (asked : Option A) (text other : A) → asked ≡ Some text → asked ≡ Some other → text ≡ other
+one_text asked text other is also = let same : Some text ≡ Some other = sym is ∙ also in cc
 
--- what is written is the text of the list that each image recovers, and no image ever recovers another
-module _ {D : Type 0} (disk : Ghosts D) (here : (d : D) → IsHonest (disk.tells d) → (disk.tells d).image (disk.tells d).reads)
-    (text : List (StampedEntry Filing) → List ℕ) (old new : D) (past : List (StampedEntry Filing)) (honest : IsHonest (disk.tells old)) (each : EachImage (disk.tells old) (λ file. Recovers file past)) where
-  -- the list that was opened is the one before
-  same_list : (list : List (StampedEntry Filing)) → IsOpened disk office_scheme list old new → list ≡ past
-  same_list list is = once (disk.tells old).reads list past (is.recovers honest) (each (disk.tells old).reads (here old honest))
+no_text : {A : Type 0} (asked : Option A) (text : A) → asked ≡ None → asked ≡ Some text → ⊥
+no_text asked text none is = let bad : None ≡ Some text = sym none ∙ is in cc
 
-  moments_of_opened : (list : List (StampedEntry Filing)) → IsOpened disk office_scheme list old new → EachMoment (disk.tells old) (disk.tells new) (λ file. Recovers file past)
-  moments_of_opened list is =
-      let same = same_list list is in
-      subst (λ (h : List (StampedEntry Filing)). EachMoment (disk.tells old) (disk.tells new) (λ file. Recovers file h)) same
-      (is.moments honest (subst (λ (h : List (StampedEntry Filing)). EachImage (disk.tells old) (λ file. Recovers file h)) (sym same) each))
+module _ {D K : Type 0} (disk : Ghosts D) (sink : SinkGhosts K) (counts : Counts) (words : List (List ℕ)) (old new : D) (out out' : K) where
+  -- words that are a row
+  pub did_by : (asked : Option (List (StampedEntry Filing) → List ℕ)) (row : SheetRow) (status : ℕ) → words ≡ sheet_words row → asked ≡ Some (sheet_text row)
+      → RanReport disk sink office_scheme counts asked old new out out' status → RanSheets disk sink counts words old new out out' status
+  did_by asked row status are is (unasked _ none same cause ends) = absurd (no_text asked (sheet_text row) none is)
+  did_by asked row status are is (told text at ended _ also reports honest cause ends) =
+      did row at ended status are
+      (subst (λ (t : List (StampedEntry Filing) → List ℕ). Reports disk office_scheme t old new (written sink out at) ended) (one_text asked text (sheet_text row) also is) reports)
+      honest cause ends
 
-  pub moments_by : (output : Output) (ended : Result Unit SessionStop) → Reports disk office_scheme text old new output ended → EachMoment (disk.tells old) (disk.tells new) (λ file. Recovers file past)
-  moments_by output ended (unopened error not same) = not.moments honest past each
-  moments_by output ended (told list is wrote) = moments_of_opened list is
-  moments_by output ended (unwritten list is cut) = moments_of_opened list is
-  moments_by output ended (starved list is same) = moments_of_opened list is
-
-  written_by : (output : Output) (ended : Result Unit SessionStop) → Reports disk office_scheme text old new output ended → ended_file ended ≡ Ok tt → IsTrue output.honest → output.after ≡ output.before ++ text past
-  written_by output ended (unopened error not same) done tells = absurd (let bad : ⊥ = cc in bad)
-  written_by output ended (told list is wrote) done tells = wrote tells ∙ ap (λ (h : List (StampedEntry Filing)). output.before ++ text h) (same_list list is)
-  written_by output ended (unwritten list is cut) done tells = absurd (let bad : ⊥ = cc in bad)
-  written_by output ended (starved list is same) done tells = absurd (let bad : ⊥ = cc in bad)
-
-  -- behind the end of a run that was done stands the text
-  pub shown_by : {K : Type 0} (sink : SinkGhosts K) (out at out' : K) (ended : Result Unit SessionStop) (closed : Result Unit RunStop) (status : ℕ) → closed ≡ ended_file ended
-      → Reports disk office_scheme text old new (written sink out at) ended → Ends sink at out' closed status → status ≡ 0 → IsTrue (sink.honest out) → sink.text out' ≡ sink.text out ++ text past
-  shown_by sink out at out' ended closed status is reports ends zero tells =
-      let done = done_at sink at out' closed status ends zero in
-      ap sink.text (unwritten_end closed status ends done) ∙ written_by (written sink out at) ended reports (sym is ∙ done) tells
-    where
-      unwritten_end : (closed : Result Unit RunStop) (status : ℕ) → Ends sink at out' closed status → closed ≡ Ok tt → out' ≡ at
-      unwritten_end closed status (well same) done = same
-      unwritten_end closed status (stopped stop _ with) done = absurd (let bad : ⊥ = cc in bad)
-
--- over an office a run stays without its text only where an edge failed, or there was no memory
-pub excused_by : {D : Type 0} (disk : Ghosts D) (text : List (StampedEntry Filing) → List ℕ) (old new : D) (output : Output) (ended : Result Unit SessionStop) (closed : Result Unit RunStop) → closed ≡ ended_file ended
-    → Reports disk office_scheme text old new output ended → IsOffice (disk.tells old) → IfErr closed (λ stop. IsExcused (status_of stop))
-excused_by disk text old new output ended closed is reports can = subst (λ (e : Result Unit RunStop). IfErr e (λ stop. IsExcused (status_of stop))) (sym is) (go ended reports)
-  where
-    go : (ended : Result Unit SessionStop) → Reports disk office_scheme text old new output ended → IfErr (ended_file ended) (λ stop. IsExcused (status_of stop))
-    go ended (unopened error not same) = unopened_by disk office_scheme old new can.0 can.1 can.2 error not
-    go ended (told list is wrote) = tt
-    go ended (unwritten list is cut) = inr (inl refl)
-    go ended (starved list is same) = inr (inr (inr refl))
-
--- nothing is read but the disk
-pub unread_by : {D : Type 0} (disk : Ghosts D) (text : List (StampedEntry Filing) → List ℕ) (old new : D) (output : Output) (ended : Result Unit SessionStop) → Reports disk office_scheme text old new output ended
-    → is_read_fault (ended_file ended) ≡ false
-unread_by disk text old new output ended (unopened error not same) = refl
-unread_by disk text old new output ended (told list is wrote) = refl
-unread_by disk text old new output ended (unwritten list is cut) = refl
-unread_by disk text old new output ended (starved list is same) = refl
-
--- why a run ended
-pub caused_by : {K : Type 0} (sink : SinkGhosts K) (counted : ℕ × ℕ) (out at out' : K) (ended : Result Unit RunStop) (status : ℕ) → Moved (is_read_fault ended) (0, 0) → Moved (is_disk_fault ended) counted
-    → sink.faults out ≤ sink.faults at → Moved (is_write_fault ended) (sink.faults out, sink.faults at) → Ends sink at out' ended status → HasCause (edges (sink.faults out, sink.faults out') counted) ended status
-caused_by sink counted out at out' ended status read moved later wrote ends = record {
-  source = read;
-  disk = moved;
-  sink = sink_moved sink at out' ended status (sink.faults out) later wrote ends;
-}
-
--- all that a run does whose words are a row
-pub did_by : {D K : Type 0} (disk : Ghosts D) (sink : SinkGhosts K) (counts : Counts) (words : List (List ℕ)) (old new : D) (out at out' : K) (row : SheetRow) (ended : Result Unit SessionStop) (closed : Result Unit RunStop) (status : ℕ)
-    → words ≡ sheet_words row → closed ≡ ended_file ended → Reports disk office_scheme (sheet_text row) old new (written sink out at) ended → sink.honest at ≡ sink.honest out
-    → HasCause counts closed status → Ends sink at out' closed status → RanSheets disk sink counts words old new out out' status
-did_by disk sink counts words old new out at out' row ended closed status are is reports honest cause ends =
-    did row at ended status are reports honest (subst (λ (e : Result Unit RunStop). HasCause counts e status) is cause) (subst (λ (e : Result Unit RunStop). Ends sink at out' e status) is ends)
-
--- a count that is 0 from begin to end didn't rise
-pub still : Rose 0 0 → ⊥
-still (inl more) = absurd (omega (arith, more))
-still (inr last) = absurd (omega (arith, last))
+  -- words that are none
+  pub undone_by : (asked : Option (List (StampedEntry Filing) → List ℕ)) (status : ℕ) → ((row : SheetRow) → words ≡ sheet_words row → ⊥) → asked ≡ None
+      → RanReport disk sink office_scheme counts asked old new out out' status → RanSheets disk sink counts words old new out out' status
+  undone_by asked status not none (unasked _ is same cause ends) = no_row status not same cause ends
+  undone_by asked status not none (told text at ended _ also reports honest cause ends) = absurd (no_text asked text none also)

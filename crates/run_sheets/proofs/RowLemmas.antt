@@ -15,13 +15,13 @@ use Rattle.run_words.proofs.WordsLemmas.{same_report}
 use Rattle.run_sheets.specs.Words.{ReadsDay, ReadsPosition, ReadsRequest, ReadsRow, ReadsTerm, request_words, sheet_words, term_words, upto_words}
 use Rattle.run_sheets.specs.declared.request.BookRequest.{BookRequest}
 use Rattle.run_sheets.specs.declared.request.DueRequest.{DueRequest}
-use Rattle.run_sheets.specs.declared.request.NeedRequest.{NeedRequest}
 use Rattle.run_sheets.specs.declared.request.Position.{Position}
 use Rattle.run_sheets.specs.declared.request.ReturnsRequest.{ReturnsRequest}
 use Rattle.run_sheets.specs.declared.request.SheetRequest.{SheetRequest}
 use Rattle.run_sheets.specs.declared.request.SheetRequest.TheVariants as sheets
 use Rattle.run_sheets.specs.declared.request.SheetRow.{SheetRow}
 use Rattle.run_sheets.specs.declared.request.StudentRequest.{StudentRequest}
+use Rattle.run_sheets.specs.declared.request.StudentYearRequest.{StudentYearRequest}
 use Rattle.run_sheets.specs.declared.request.TermRequest.{TermRequest}
 use Rattle.run_sheets.specs.declared.request.WithdrawalRequest.{WithdrawalRequest}
 
@@ -35,10 +35,10 @@ same_student x y e =
     let make : (n : ℕ) → P n → StudentRequest = λ n p. record { student = n; in_range = p } in
     same_with_fact P make (λ n. hlevel (le_prop)) x.student y.student x.in_range y.in_range (same_number x.student y.student (omega (arith, x.in_range)) (omega (arith, y.in_range)) e)
 
-same_need : (x y : NeedRequest) → decimal x.student ≡ decimal y.student → decimal x.year ≡ decimal y.year → x ≡ y
-same_need x y student year =
+same_student_year : (x y : StudentYearRequest) → decimal x.student ≡ decimal y.student → decimal x.year ≡ decimal y.year → x ≡ y
+same_student_year x y student year =
     let P : ℕ × ℕ → Type 0 = λ b. IsBetween 1 999999999999 b.0 × IsBetween 2000 2099 b.1 in
-    let make : (b : ℕ × ℕ) → P b → NeedRequest = λ b p. record { student = b.0; year = b.1; in_range = p } in
+    let make : (b : ℕ × ℕ) → P b → StudentYearRequest = λ b p. record { student = b.0; year = b.1; in_range = p } in
     let students = same_number x.student y.student (omega (arith, x.in_range)) (omega (arith, y.in_range)) student in
     let years = same_number x.year y.year (omega (arith, x.in_range)) (omega (arith, y.in_range)) year in
     same_with_fact P make (λ b. hlevel (le_prop)) (x.student, x.year) (y.student, y.year) x.in_range y.in_range (λ i. (students i, years i))
@@ -118,7 +118,11 @@ same_request (sheets.Student x) (sheets.Student y) e = let student : decimal x.s
 same_request (sheets.Need x) (sheets.Need y) e =
     let student : decimal x.student ≡ decimal y.student = cc in
     let year : decimal x.year ≡ decimal y.year = cc in
-    ap sheets.Need (same_need x y student year)
+    ap sheets.Need (same_student_year x y student year)
+same_request (sheets.Review x) (sheets.Review y) e =
+    let student : decimal x.student ≡ decimal y.student = cc in
+    let year : decimal x.year ≡ decimal y.year = cc in
+    ap sheets.Review (same_student_year x y student year)
 same_request (sheets.Quotes x) (sheets.Quotes y) e = ap sheets.Quotes (same_terms x y cc)
 same_request (sheets.Payments x) (sheets.Payments y) e = ap sheets.Payments (same_terms x y cc)
 same_request (sheets.Withdrawal x) (sheets.Withdrawal y) e =
@@ -227,6 +231,26 @@ same_request (sheets.Book x) (sheets.Withdrawal y) e = apart (request_words (she
 same_request (sheets.Book x) (sheets.Due y) e = apart (request_words (sheets.Book x)) (request_words (sheets.Due y)) e (λ is. omega (arith, is))
 same_request (sheets.Book x) (sheets.Returns y) e = apart (request_words (sheets.Book x)) (request_words (sheets.Returns y)) e (λ is. omega (arith, is))
 same_request (sheets.Book x) (sheets.Report y) e = apart (request_words (sheets.Book x)) (request_words (sheets.Report y)) e (λ is. omega (arith, is))
+same_request sheets.List (sheets.Review y) e = apart (request_words sheets.List) (request_words (sheets.Review y)) e (λ is. omega (arith, is))
+same_request (sheets.Student x) (sheets.Review y) e = apart (request_words (sheets.Student x)) (request_words (sheets.Review y)) e (λ is. omega (arith, is))
+same_request (sheets.Need x) (sheets.Review y) e = apart (request_words (sheets.Need x)) (request_words (sheets.Review y)) e (λ is. omega (arith, is))
+same_request (sheets.Quotes x) (sheets.Review y) e = apart (request_words (sheets.Quotes x)) (request_words (sheets.Review y)) e (λ is. omega (arith, is))
+same_request (sheets.Payments x) (sheets.Review y) e = apart (request_words (sheets.Payments x)) (request_words (sheets.Review y)) e (λ is. omega (arith, is))
+same_request (sheets.Withdrawal x) (sheets.Review y) e = apart (request_words (sheets.Withdrawal x)) (request_words (sheets.Review y)) e (λ is. omega (arith, is))
+same_request (sheets.Due x) (sheets.Review y) e = apart (request_words (sheets.Due x)) (request_words (sheets.Review y)) e (λ is. omega (arith, is))
+same_request (sheets.Returns x) (sheets.Review y) e = apart_third (request_words (sheets.Returns x)) (request_words (sheets.Review y)) e (λ is. omega (arith, is))
+same_request (sheets.Report x) (sheets.Review y) e = apart_third (request_words (sheets.Report x)) (request_words (sheets.Review y)) e (λ is. omega (arith, is))
+same_request (sheets.Book x) (sheets.Review y) e = apart (request_words (sheets.Book x)) (request_words (sheets.Review y)) e (λ is. omega (arith, is))
+same_request (sheets.Review x) sheets.List e = apart (request_words (sheets.Review x)) (request_words sheets.List) e (λ is. omega (arith, is))
+same_request (sheets.Review x) (sheets.Student y) e = apart (request_words (sheets.Review x)) (request_words (sheets.Student y)) e (λ is. omega (arith, is))
+same_request (sheets.Review x) (sheets.Need y) e = apart (request_words (sheets.Review x)) (request_words (sheets.Need y)) e (λ is. omega (arith, is))
+same_request (sheets.Review x) (sheets.Quotes y) e = apart (request_words (sheets.Review x)) (request_words (sheets.Quotes y)) e (λ is. omega (arith, is))
+same_request (sheets.Review x) (sheets.Payments y) e = apart (request_words (sheets.Review x)) (request_words (sheets.Payments y)) e (λ is. omega (arith, is))
+same_request (sheets.Review x) (sheets.Withdrawal y) e = apart (request_words (sheets.Review x)) (request_words (sheets.Withdrawal y)) e (λ is. omega (arith, is))
+same_request (sheets.Review x) (sheets.Due y) e = apart (request_words (sheets.Review x)) (request_words (sheets.Due y)) e (λ is. omega (arith, is))
+same_request (sheets.Review x) (sheets.Returns y) e = apart_third (request_words (sheets.Review x)) (request_words (sheets.Returns y)) e (λ is. omega (arith, is))
+same_request (sheets.Review x) (sheets.Report y) e = apart_third (request_words (sheets.Review x)) (request_words (sheets.Report y)) e (λ is. omega (arith, is))
+same_request (sheets.Review x) (sheets.Book y) e = apart (request_words (sheets.Review x)) (request_words (sheets.Book y)) e (λ is. omega (arith, is))
 
 -- the words of a request are read as it
 pub reads_request : (words : List (List ℕ)) (r : SheetRequest) → words ≡ request_words r → ReadsRequest words (Some r)
@@ -253,6 +277,7 @@ reads_no_quotes words reads r = (λ same. absurd cc, λ told. absurd (none r tol
     none (sheets.Due of) told = apart (codes "quotes" ∷ words) (request_words (sheets.Due of)) told (λ is. omega (arith, is))
     none (sheets.Returns of) told = apart (codes "quotes" ∷ words) (request_words (sheets.Returns of)) told (λ is. omega (arith, is))
     none (sheets.Book of) told = apart (codes "quotes" ∷ words) (request_words (sheets.Book of)) told (λ is. omega (arith, is))
+    none (sheets.Review of) told = apart (codes "quotes" ∷ words) (request_words (sheets.Review of)) told (λ is. omega (arith, is))
     none (sheets.Report of) told = apart (codes "quotes" ∷ words) (request_words (sheets.Report of)) told (λ is. omega (arith, is))
 
 -- payments behind theirs
@@ -272,6 +297,7 @@ reads_no_payments words reads r = (λ same. absurd cc, λ told. absurd (none r t
     none (sheets.Due of) told = apart (codes "payments" ∷ words) (request_words (sheets.Due of)) told (λ is. omega (arith, is))
     none (sheets.Returns of) told = apart (codes "payments" ∷ words) (request_words (sheets.Returns of)) told (λ is. omega (arith, is))
     none (sheets.Book of) told = apart (codes "payments" ∷ words) (request_words (sheets.Book of)) told (λ is. omega (arith, is))
+    none (sheets.Review of) told = apart (codes "payments" ∷ words) (request_words (sheets.Review of)) told (λ is. omega (arith, is))
     none (sheets.Report of) told = apart (codes "payments" ∷ words) (request_words (sheets.Report of)) told (λ is. omega (arith, is))
 
 -- a report behind its name
@@ -291,6 +317,7 @@ reads_no_report words reads r = (λ same. absurd cc, λ told. absurd (none r tol
     none (sheets.Due of) told = apart (codes "report" ∷ words) (request_words (sheets.Due of)) told (λ is. omega (arith, is))
     none (sheets.Returns of) told = apart_third (codes "report" ∷ words) (request_words (sheets.Returns of)) told (λ is. omega (arith, is))
     none (sheets.Book of) told = apart (codes "report" ∷ words) (request_words (sheets.Book of)) told (λ is. omega (arith, is))
+    none (sheets.Review of) told = apart_third (codes "report" ∷ words) (request_words (sheets.Review of)) told (λ is. omega (arith, is))
     none (sheets.Report of) told = let bad : None ≡ Some of = (reads of).1 cc in cc
 
 -- a text that is read as a day, and one that is read as none
@@ -322,6 +349,7 @@ not_upto r rest e = letters r (ap (λ (words : List (List ℕ)). get_or (get_or 
     letters (sheets.Due of) is = omega (arith, is)
     letters (sheets.Returns of) is = omega (arith, is)
     letters (sheets.Book of) is = omega (arith, is)
+    letters (sheets.Review of) is = omega (arith, is)
     letters (sheets.Report report) is = omega (arith, is)
 
 -- words are those of one position at most
@@ -374,6 +402,7 @@ no_words = no_row [] none
     none None (sheets.Due of) told = cc
     none None (sheets.Returns of) told = cc
     none None (sheets.Book of) told = cc
+    none None (sheets.Review of) told = cc
     none None (sheets.Report report) told = cc
     none (Some n) r told = cc
 

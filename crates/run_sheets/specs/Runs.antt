@@ -13,10 +13,6 @@ use Rattle.run_sheets.specs.Texts.{sheet_text}
 use Rattle.run_sheets.specs.Words.{sheet_words}
 use Rattle.run_sheets.specs.declared.request.SheetRow.{SheetRow}
 
--- the counts of faults of a run that has no source
-abbrev pub edges : ℕ × ℕ → ℕ × ℕ → Counts
-edges sink disk = record { source = (0, 0); sink = sink; disk = disk }
-
 -- A run with these words over a disk and a sink, by its status.
 pub data RanSheets {D K : Type 0} (disk : Ghosts D) (sink : SinkGhosts K) (counts : Counts) (words : List (List ℕ)) (old new : D) (out out' : K) : ℕ → Type 0 where
   -- the words are no row: no call is made on the disk

@@ -4,7 +4,7 @@ use Rattle.aid_filings.specs.declared.filing.Filing.{Filing}
 use Rattle.aid_seals.specs.Seals.{IsCollision, clash}
 use Rattle.log_stamps.specs.Entries.{entries, stamps_of}
 use Rattle.log_stamps.specs.declared.entry.StampedEntry.{StampedEntry}
-use Rattle.office_reports.specs.Seals.{office_name, payloads}
+use Rattle.office_export.specs.Seals.{office_name, payloads}
 
 -- the bytes of each filing of a list behind those of its stamp
 abbrev pub records_of : List (StampedEntry Filing) → List (List ℕ)

@@ -13,6 +13,7 @@ use Rattle.sheet_r2t4.specs.ReturnSheet.{return_sheet}
 use Rattle.sheet_returns.specs.Due.{due_sheet}
 use Rattle.sheet_returns.specs.Returns.{returns_sheet}
 use Rattle.sheet_review.specs.BookSheet.{book_sheet}
+use Rattle.sheet_review.specs.ReviewSheet.{review_sheet}
 use Rattle.run_words.specs.declared.command.ReportRequest.{ReportRequest}
 use Rattle.run_words.specs.declared.command.ReportRequest.TheVariants as reports
 use Rattle.log_stamps.specs.Entries.{entries, stamps_of}
@@ -32,7 +33,7 @@ report_on reports.Lifetime past stamps = lifetime_report past
 report_on reports.Stamps past stamps = stamp_report (reverse stamps)
 report_on reports.Seal past stamps = seal_report past stamps
 report_on reports.Seals past stamps = seals_report past stamps
-report_on (reports.Export of) past stamps = export_text past of.year
+report_on (reports.Export of) past stamps = export_text past stamps of.year
 
 -- the text of a request on them; the line of the seal stands behind what is shown to people, of a book as a comment, and not behind
 -- CSV and reports, which scripts read
@@ -40,6 +41,7 @@ abbrev pub sheet_on : SheetRequest → List Filing → List Stamp → List ℕ
 sheet_on sheets.List past stamps = list_sheet past stamps ++ seal_report past stamps
 sheet_on (sheets.Student of) past stamps = student_sheet of.student past stamps ++ seal_report past stamps
 sheet_on (sheets.Need of) past stamps = need_sheet past of.student of.year ++ seal_report past stamps
+sheet_on (sheets.Review of) past stamps = review_sheet past stamps of.student of.year ++ seal_report past stamps
 sheet_on (sheets.Quotes of) past stamps = quotes_sheet past of.school of.year of.term
 sheet_on (sheets.Payments of) past stamps = payments_sheet of.school of.year of.term past stamps
 sheet_on (sheets.Withdrawal of) past stamps = return_sheet past of.school of.student of.year of.term ++ seal_report past stamps

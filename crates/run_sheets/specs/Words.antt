@@ -12,12 +12,14 @@ use Rattle.run_sheets.specs.declared.request.TermRequest.{TermRequest}
 abbrev pub term_words : TermRequest → List (List ℕ)
 term_words of = decimal of.school ∷ decimal of.year ∷ decimal of.term ∷ []
 
--- the words of a request: `list`, `student STUDENT`, `need STUDENT YEAR`, `quotes SCHOOL YEAR TERM`, `payments SCHOOL YEAR TERM`,
--- `withdrawal SCHOOL STUDENT YEAR TERM`, `due DAY SCHOOL`, `returns SCHOOL YEAR`, `book show YEAR`, or a report as the aid office has it
+-- the words of a request: `list`, `student STUDENT`, `need STUDENT YEAR`, `review STUDENT YEAR`, `quotes SCHOOL YEAR TERM`,
+-- `payments SCHOOL YEAR TERM`, `withdrawal SCHOOL STUDENT YEAR TERM`, `due DAY SCHOOL`, `returns SCHOOL YEAR`, `book show YEAR`,
+-- or a report as the aid office has it
 abbrev pub request_words : SheetRequest → List (List ℕ)
 request_words sheets.List = codes "list" ∷ []
 request_words (sheets.Student of) = codes "student" ∷ decimal of.student ∷ []
 request_words (sheets.Need of) = codes "need" ∷ decimal of.student ∷ decimal of.year ∷ []
+request_words (sheets.Review of) = codes "review" ∷ decimal of.student ∷ decimal of.year ∷ []
 request_words (sheets.Quotes of) = codes "quotes" ∷ term_words of
 request_words (sheets.Payments of) = codes "payments" ∷ term_words of
 request_words (sheets.Withdrawal of) = codes "withdrawal" ∷ decimal of.school ∷ decimal of.student ∷ decimal of.year ∷ decimal of.term ∷ []

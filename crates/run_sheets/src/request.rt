@@ -12,9 +12,9 @@ pub struct StudentRequest {
     pub ghost in_range: { IsBetween 1 999999999999 student },
 }
 
-/// The student and the award year whose worksheet is asked for: the year is 2000 to 2099.
+/// The student and the award year whose worksheet or review is asked for: the year is 2000 to 2099.
 #[derive(Clone, Copy)]
-pub struct NeedRequest {
+pub struct StudentYearRequest {
     pub student: Student,
     pub year: Year,
     pub ghost in_range: { IsBetween 1 999999999999 student × IsBetween 2000 2099 year },
@@ -70,7 +70,9 @@ pub enum SheetRequest {
     /// `student STUDENT`: the ledger of a student.
     Student(StudentRequest),
     /// `need STUDENT YEAR`: how the index and the award of a student in a year came about.
-    Need(NeedRequest),
+    Need(StudentYearRequest),
+    /// `review STUDENT YEAR`: what is on file of a student's year, as one text.
+    Review(StudentYearRequest),
     /// `quotes SCHOOL YEAR TERM`: what the students of a term could be paid of Pell.
     Quotes(TermRequest),
     /// `payments SCHOOL YEAR TERM`: what moved of each program in a term, with running totals.

@@ -1,64 +1,34 @@
 //! A run that writes a sheet.
-ghost use Rattle.std.specs.Prelude.{◌≡◌, ◌⊎◌, ◌≤◌, ◌++◌, ℕ, IsTrue, List, Result, map, string_bytes};
+ghost use Rattle.std.specs.Prelude.{◌≡◌, ◌⊎◌, ◌≤◌, ◌++◌, ℕ, IsTrue, List, map, string_bytes};
 ghost use Rattle.io_traits.specs.Faults.{Rose};
 ghost use Rattle.aid_filings.specs.declared.filing.Filing.{Filing};
 ghost use Rattle.io_traits.specs.DiskState.{EachImage, EachMoment, IsHonest};
 ghost use Rattle.office_log.specs.Openable.{IsOffice};
 ghost use Rattle.office_log.specs.Recovers.{Recovers};
-ghost use Rattle.office_log.specs.Scheme.{office_scheme};
 ghost use Rattle.log_runs.specs.Counts.{Shows};
-ghost use Rattle.log_runs.specs.Ends.{Moved};
-ghost use Rattle.log_runs.specs.Statuses.{ended_file, is_disk_fault, is_read_fault, is_write_fault};
-ghost use Rattle.log_session.specs.Reports.{Reports};
-ghost use Rattle.log_session.specs.declared.stop.SessionStop.{SessionStop as Stopping};
 ghost use Rattle.office_history.specs.Within.{IsWithinEveryLimit};
 ghost use Rattle.log_stamps.specs.Entries.{entries};
 ghost use Rattle.log_stamps.specs.declared.entry.StampedEntry.{StampedEntry};
-ghost use Rattle.run_sheets.specs.Runs.{RanSheets, edges};
+ghost use Rattle.run_reports.specs.Runs.{edges};
+ghost use Rattle.run_sheets.specs.Runs.{RanSheets};
 ghost use Rattle.run_sheets.specs.Texts.{sheet_text};
 ghost use Rattle.run_sheets.specs.Words.{sheet_words};
 ghost use Rattle.run_sheets.specs.declared.request.SheetRow.{SheetRow as RowData};
 
-use crate::request::SheetRow;
 use crate::sheet::SheetReport;
 use crate::words::row_of;
 use io_traits::{Disk, Sink};
-use log_runs::{RunStop, end, ended_filing};
-use log_session::write_report;
 use office_log::StampedOfficeMachine;
+use run_reports::run_report;
 use std::alloc::Global;
-
-// Opens the office of the disk's file, and writes the sheet of a row, up to how it ends.
-fn write_sheet<D: Disk, K: Sink>(
-    alloc: Global,
-    row: SheetRow,
-    disk: D,
-    out: &mut K,
-) -> (Result<(), RunStop>, D)
-    ensures reports { (ended : Result Unit Stopping) × (result.0 ≡ ended_file ended) × Reports D.Disk office_scheme (sheet_text row) disk result.1
-        (record { honest = K.honest out.old; before = K.text out.old; after = K.text out.new }) ended }
-    ensures source { Moved (is_read_fault result.0) (0, 0) }
-    ensures sink { Moved (is_write_fault result.0) (K.faults out.old, K.faults out.new) }
-    ensures disk { Moved (is_disk_fault result.0) (D.faults disk, D.faults result.1) }
-    ensures sink_later { K.faults out.old ≤ K.faults out.new }
-    ensures disk_later { D.faults disk ≤ D.faults result.1 }
-    ensures sink_honest { K.honest out.new ≡ K.honest out.old }
-    ensures disk_honest { (D.tells result.1).honest ≡ (D.tells disk).honest }
-{
-    let report = SheetReport { row };
-    let (ended, disk) = write_report::<D, K, StampedOfficeMachine, SheetReport>(
-        alloc, disk, &report, out,
-    );
-    (ended_filing(ended), disk)
-}
 
 /// Writes the sheet that the words ask for, and answers the status and the disk as it is then. A row of words is a
 /// request, in front of which `upto POSITION` may stand: `list` writes all filings, each as its row behind its stamp;
-/// `student` the ledger of a student, `need` how the index and the award of a student in a year came about, `quotes`
-/// what the students of a term could be paid, `payments` what moved in it, `withdrawal` the worksheet of a return of
-/// funds, `due` what a school still has to send back, `returns` what came of a year's returns, and `report` a report of
-/// the aid office. Behind `upto POSITION` the sheet is that of the list as it stood when so many filings were on it, and
-/// `none` where there are fewer. Nothing is filed.
+/// `student` the ledger of a student, `need` how the index and the award of a student in a year came about, `review`
+/// what is on file of that year in one text, `quotes` what the students of a term could be paid, `payments` what moved
+/// in it, `withdrawal` the worksheet of a return of funds, `due` what a school still has to send back, `returns` what
+/// came of a year's returns, and `report` a report of the aid office. Behind `upto POSITION` the sheet is that of the
+/// list as it stood when so many filings were on it, and `none` where there are fewer. Nothing is filed.
 /// The office is opened, and the whole text is made, before any of it is written.
 ///
 /// The status is 0 where the text was written; 2 where the words are no row, and then no call is made on the disk; 4
@@ -97,9 +67,9 @@ pub fn run_sheets<D: Disk, K: Sink>(
 {
     match row_of(words.as_slice()) {
         Some(row) => {
-            let (ended, disk) = write_sheet(alloc, row, disk, out);
-            (end(ended, out), disk)
+            let report = SheetReport { row };
+            run_report::<D, K, StampedOfficeMachine, SheetReport>(alloc, Some(&report), disk, out)
         }
-        None => (end(Err(RunStop::Usage), out), disk),
+        None => run_report::<D, K, StampedOfficeMachine, SheetReport>(alloc, None, disk, out),
     }
 }

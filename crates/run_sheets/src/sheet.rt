@@ -16,7 +16,7 @@ use run_words::ReportRequest;
 use sheet_need::need;
 use sheet_r2t4::withdrawal;
 use sheet_returns::due;
-use sheet_review::book;
+use sheet_review::{book, review};
 use std::alloc::{AllocError, Global};
 
 /// The sheet of a row, as a text of the office.
@@ -83,6 +83,10 @@ fn sheet(
             let text = need(alloc, office, of.student, of.year)?;
             sealed(text, alloc, office, stamps)
         }
+        SheetRequest::Review(of) => {
+            let text = review(alloc, office, stamps, of.student, of.year)?;
+            sealed(text, alloc, office, stamps)
+        }
         SheetRequest::Quotes(of) => quotes(alloc, office, of.school, of.year, of.term),
         SheetRequest::Payments(of) => payments(alloc, office, stamps, of.school, of.year, of.term),
         SheetRequest::Withdrawal(of) => {
@@ -133,6 +137,6 @@ fn report(
         ReportRequest::Stamps => stamp_lines(alloc, stamps),
         ReportRequest::Seal => seal_line(alloc, office.filings(), stamps),
         ReportRequest::Seals => seal_lines(alloc, office.filings(), stamps),
-        ReportRequest::Export(of) => export(alloc, office, of.year),
+        ReportRequest::Export(of) => export(alloc, office, stamps, of.year),
     }
 }

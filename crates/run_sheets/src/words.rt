@@ -4,8 +4,8 @@ ghost use Rattle.run_words.specs.Words.{ReadsReport};
 ghost use Rattle.run_sheets.specs.Words.{ReadsDay, ReadsPosition, ReadsRequest, ReadsRow, ReadsTerm};
 
 use crate::request::{
-    BookRequest, DueRequest, NeedRequest, Position, ReturnsRequest, SheetRequest, SheetRow,
-    StudentRequest, TermRequest, WithdrawalRequest,
+    BookRequest, DueRequest, Position, ReturnsRequest, SheetRequest, SheetRow, StudentRequest,
+    StudentYearRequest, TermRequest, WithdrawalRequest,
 };
 use aid_types::{Day, School, Student, Year};
 use law_terms::read_day;
@@ -167,7 +167,7 @@ fn request_of_returns(name: &str, behind: &[String]) -> Option<SheetRequest>
     }
 }
 
-// And of that of the book, which is left at last.
+// And of that of the book.
 fn request_of_book(name: &str, behind: &[String]) -> Option<SheetRequest>
     requires not_list { name.now ≢ codes "list" }
     requires not_student { name.now ≢ codes "student" }
@@ -182,6 +182,27 @@ fn request_of_book(name: &str, behind: &[String]) -> Option<SheetRequest>
 {
     if is_same_word(name, "book") {
         read_book(behind)
+    } else {
+        request_of_review(name, behind)
+    }
+}
+
+// And of that of the review, which is left at last.
+fn request_of_review(name: &str, behind: &[String]) -> Option<SheetRequest>
+    requires not_list { name.now ≢ codes "list" }
+    requires not_student { name.now ≢ codes "student" }
+    requires not_need { name.now ≢ codes "need" }
+    requires not_quotes { name.now ≢ codes "quotes" }
+    requires not_payments { name.now ≢ codes "payments" }
+    requires not_withdrawal { name.now ≢ codes "withdrawal" }
+    requires not_report { name.now ≢ codes "report" }
+    requires not_due { name.now ≢ codes "due" }
+    requires not_returns { name.now ≢ codes "returns" }
+    requires not_book { name.now ≢ codes "book" }
+    ensures { ReadsRequest (name.now ∷ map string_bytes behind.now) result }
+{
+    if is_same_word(name, "review") {
+        read_review(behind)
     } else {
         None
     }
@@ -273,7 +294,24 @@ fn read_need(behind: &[String]) -> Option<SheetRequest>
 fn need_request(student: &str, year: &str) -> Option<SheetRequest>
     ensures { ReadsRequest (codes "need" ∷ student.now ∷ year.now ∷ []) result }
 {
-    Some(SheetRequest::Need(NeedRequest {
+    Some(SheetRequest::Need(StudentYearRequest {
+        student: Student(number_in(student, 1, 999_999_999_999)?),
+        year: Year(number_in(year, 2000, 2099)? as u16),
+    }))
+}
+
+// The review of a student's year.
+fn read_review(behind: &[String]) -> Option<SheetRequest>
+    ensures { ReadsRequest (codes "review" ∷ map string_bytes behind.now) result }
+{
+    let (student, year) = two_words(behind)?;
+    review_request(student, year)
+}
+
+fn review_request(student: &str, year: &str) -> Option<SheetRequest>
+    ensures { ReadsRequest (codes "review" ∷ student.now ∷ year.now ∷ []) result }
+{
+    Some(SheetRequest::Review(StudentYearRequest {
         student: Student(number_in(student, 1, 999_999_999_999)?),
         year: Year(number_in(year, 2000, 2099)? as u16),
     }))

@@ -1,2 +1,3 @@
 pub mod BookText
+pub mod ReviewSheet
 pub mod BookSheet

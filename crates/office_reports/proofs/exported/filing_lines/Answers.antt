@@ -1,7 +1,10 @@
-use Rattle.office_export.specs.Lines.{filing_line}
-use Rattle.office_reports.proofs.Passes.{lines-more}
+use Rattle.office_export.proofs.SealLemmas.{filed-more, filed-whole}
 use Rattle.office_reports.proofs.exported.filing_lines.Goals as goal
 
-pub loop-filing-preserved : goal.loop-filing-preserved
-loop-filing-preserved c =
-    lines-more filing_line c.args.filings.now c.loop-filing.filing-index c.filing-item.result c.loop-filing-test.true c.filing-item.is _ _ c.loop-filing.invariant c.in_ok-put_filing_line.ensures.line
+pub loop-index-preserved : goal.loop-index-preserved
+loop-index-preserved c =
+    filed-more c.args.filings.now c.args.stamps.now c.loop-index.index c.index-filings-index.result c.index-stamps-index.result c.loop-index-test.true c.requires.stamped
+    c.index-filings-index.is c.index-stamps-index.is _ _ c.loop-index.invariant c.in_ok-put_filing_line.ensures.line
+
+pub returns : goal.returns
+returns c = filed-whole c.args.filings.now c.args.stamps.now c.loop-index.index c.loop-index-test.false c.requires.stamped _ c.loop-index.invariant

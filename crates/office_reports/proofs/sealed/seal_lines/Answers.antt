@@ -1,5 +1,6 @@
 use Rattle.std.proofs.Common.{take}
-use Rattle.office_reports.proofs.SealLemmas.{lines-more, lines-none, lines-whole, seal-more}
+use Rattle.office_export.proofs.SealLemmas.{seal-more}
+use Rattle.office_reports.proofs.SealLemmas.{lines-more, lines-none, lines-whole}
 use Rattle.office_reports.proofs.sealed.seal_lines.Goals as goal
 
 pub loop-index-init : goal.loop-index-init

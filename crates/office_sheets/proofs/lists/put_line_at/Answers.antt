@@ -18,7 +18,7 @@ returns c =
     let f = c.index-filings-place.result in
     let s = c.index-stamps-place.result in
     let brought = c.in-Some.ensures.value ∙ ap (λ (past : List Filing). outcome_at past (i + 1)) (sym c.requires.all) ∙ outcome-there h i f c.requires.inside c.index-filings-place.is in
-    on_ok_weaker c.put_line.result
+    on_ok_weaker c.put_list_line.result
     (λ e. list-more h c.args.stamps.now i f s c.requires.inside c.requires.stamped c.index-filings-place.is c.index-stamps-place.is _ _ c.requires.before
     (e ∙ ap (λ (o : Outcome). c.args.out.now.items ++ list_line (i + 1) s f o) brought))
-    c.put_line.ensures
+    c.put_list_line.ensures

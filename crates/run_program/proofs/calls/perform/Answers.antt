@@ -1,4 +1,4 @@
-use Rattle.run_program.specs.Performed.{amend, audit, changes, loan_desks, loans, office, office_desks, serve, sheet, upgrade, work}
+use Rattle.run_program.specs.Performed.{amend, audit, changes, loan_desks, loan_sheet, loans, office, office_desks, serve, sheet, upgrade, work, work_sheet}
 use Rattle.run_program.proofs.calls.perform.Goals as goal
 
 pub returns-in-Office : goal.returns-in-Office
@@ -37,6 +37,14 @@ returns-in-Work g c = rw c.in-Work.is (work c.in-Work.disk c.run_work-status.res
 
 pub returns-in-Sheet : goal.returns-in-Sheet
 returns-in-Sheet g c = rw c.in-Sheet.is (sheet c.in-Sheet.disk c.run_sheets-status.result.1 c.run_sheets-status.result.0 c.run_sheets-status.ensures.ran)
+
+pub returns-in-LoanSheet : goal.returns-in-LoanSheet
+returns-in-LoanSheet g c = rw c.in-LoanSheet.is (loan_sheet c.in-LoanSheet.disk c.run_desk_sheets-status.result.1 c.run_desk_sheets-status.result.0 c.run_desk_sheets-status.ensures.ran)
+
+pub returns-in-WorkSheet : goal.returns-in-WorkSheet
+returns-in-WorkSheet g c =
+    rw c.in-WorkSheet.is
+    (work_sheet c.in-WorkSheet.disk c.run_desk_sheets-status-in-WorkSheet.result.1 c.run_desk_sheets-status-in-WorkSheet.result.0 c.run_desk_sheets-status-in-WorkSheet.ensures.ran)
 
 pub returns-in-Audit : goal.returns-in-Audit
 returns-in-Audit g c = rw c.in-Audit.is (audit c.run_audit.result c.run_audit.ensures.ran)
